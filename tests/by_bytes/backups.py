@@ -30,7 +30,7 @@ NAMES = b"name: 1 to 64 letters, digits, - and _\n"
 EXISTS = b"exists: a backup of that name is there\n"
 BUSY = b"busy: another backup is being made\n"
 UNWRITTEN = b"not made: the folder of backups cannot be written\n"
-NO_FOLDER = b"dss: copy: fault 3 Write\n"
+NO_FOLDER = b"dss: backup: fault 3 Write\n"
 
 
 def backs_up(name):

@@ -11,7 +11,7 @@ from databases import NOT_A_DSS, STORE, Room, filled
 from devices import library
 from program import BUILT, run
 
-EXISTS, READ, WRITE = (f"dss: copy: fault {it}\n".encode() for it in ("1 Exists", "2 Read", "3 Write"))
+EXISTS, READ, WRITE = (f"dss: backup: fault {it}\n".encode() for it in ("1 Exists", "2 Read", "3 Write"))
 MEMORY, NOT_CLOSED = b"dss: memory\n", b"dss: db: fault\n"
 DONE = (0, b"", b"")
 # SQLite's lock, and bytes that are less than a copy has and more than is written as a database is opened

@@ -17,8 +17,8 @@ from sockets import ASKED, difference
 from verbose import Verbose, limits
 from without_memory import FAULT
 
-FAILS = b"dss: store: changes are not kept, and are answered as faults\n"
-WORKS = "dss: store: changes are kept again, after {} faults\n"
+FAILS = b"dss: store: commit failed; changes are answered with 500 until a commit succeeds\n"
+WORKS = "dss: store: commits succeed again after {} failures\n"
 STILL = "dss: store: changes are still not kept, {} faults more\n"
 # the bounds of a duration, as they are written
 BOUNDS = ("0.0005", "0.001", "0.0025", "0.005", "0.01", "0.025", "0.05", "0.1", "0.25", "0.5", "1", "2.5", "+Inf")

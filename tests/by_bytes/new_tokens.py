@@ -14,7 +14,7 @@ SEEN, LOOKS = 2.0, 1.1
 NEW = {"tok-new": ("uss-new", {wire.ARBITRATION})}
 MORE = wire.TOKENS | NEW
 FEWER = {text: it for text, it in MORE.items() if text != "tok-v"}
-UNREAD, OTHER_SALT, MEMORY = b"dss: tokens: cannot read\n", b"dss: tokens: another salt\n", b"dss: memory\n"
+UNREAD, OTHER_SALT, MEMORY = b"dss: tokens: cannot read\n", b"dss: tokens: not reloaded: the salt changed; restart to apply it\n", b"dss: memory\n"
 # growths of memory of which one is refused as a file is read that changed, and more than such a reading has
 REFUSED, ALL = (1, 2, 5, 12, 30), 1_000_000
 

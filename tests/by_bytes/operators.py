@@ -61,7 +61,7 @@ class Operated(Service):
     def start(self):
         self.admin = free_port()
         super().start()
-        self.listening += f"dss: admin on 127.0.0.1:{self.admin}\n".encode()
+        self.listening += f"dss: admin port on 127.0.0.1:{self.admin}\n".encode()
         until = time.monotonic() + self.patience
         while (self.folder / "errors").read_bytes() != self.listening:
             if time.monotonic() > until:

@@ -112,7 +112,7 @@ def causes():
             (tokens, f"{room}/folder.db", [], limits(), cause(f"{room}/folder.db", "it is no file"), of_store),
             (tokens, f"{room}/held.db", [], limits(), cause(f"{room}/held.db", "another process has it open"), of_store),
             (tokens, f"{room}/b.db", ["--access-log", lacking], limits(), cause(lacking, nowhere), "dss: output\n"),
-            (tokens, f"{room}/c.db", ["--admin-port", "1", "--backup-dir", lacking], limits(), cause(lacking, nowhere), "dss: copy: fault 3 Write\n"),
+            (tokens, f"{room}/c.db", ["--admin-port", "1", "--backup-dir", lacking], limits(), cause(lacking, nowhere), "dss: backup: fault 3 Write\n"),
         )
         for file, database, options, before, told, last in ways:
             words = [BUILT, "serve", "--tokens", file, "--db", database, "--port", "1", *options]
@@ -150,7 +150,7 @@ def connection_given_up():
             # the service has them by then, as it rests
             time.sleep(1)
             client.setsockopt(socket.SOL_SOCKET, socket.SO_LINGER, struct.pack("ii", 1, 0))
-        wanted = f"dss: stream: fault 1 Read\ndss: stream: connection 1 of {address}, within a request\n"
+        wanted = f"dss: stream: fault 1 Read\ndss: stream: connection 1 of {address}, reading a request\n"
         return difference("the service", service.ended(), (0, b"", service.listening + wanted.encode()))
 
 

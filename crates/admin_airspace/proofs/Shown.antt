@@ -1,4 +1,4 @@
--- An entity is shown by its extents and its reference.
+-- The admin port shows an entity by its extents and its reference.
 use Rattle.std.proofs.Common.{◌≡◌, ℕ, ◌+◌, ◌<◌, List, [], ◌∷◌, ◌++◌, codes, Result, Ok, Err, ap, ap₂, ◌∙◌, sym, refl, subst, length, get_or, map, take}
 use Rattle.std.specs.Prelude.{IfOk}
 use Rattle.std.proofs.lemmas.List.{map_push, map_more}
@@ -29,9 +29,9 @@ pub sub_shown : {E : Type 0} (r : Result Value E) (s : Sub) (a : Availability) (
 sub_shown (Ok v) s a extents same = (extents, same)
 sub_shown (Err x) s a extents same = tt
 
--- ---- lists of what is shown
+-- ---- lists of values
 
--- one more
+-- One more value.
 pub shown_more : {X : Type 0} (Shows : X → Data → Type 0) (xs : List X) (ds : List Data) (x : X) (d : Data)
     → AreShown Shows xs ds → Shows x d → AreShown Shows (xs ++ x ∷ []) (ds ++ d ∷ [])
 shown_more Shows [] [] x d all one = (one, tt)
@@ -39,7 +39,7 @@ shown_more Shows [] (e ∷ ds) x d all one = absurd all
 shown_more Shows (y ∷ xs) [] x d all one = absurd all
 shown_more Shows (y ∷ xs) (e ∷ ds) x d all one = (all.0, shown_more Shows xs ds x d all.1 one)
 
--- the next of a list, and a value for it
+-- The next item of a list, and a value for it.
 pub shown_next : {R X : Type 0} (Shows : X → Data → Type 0) (now : R → X) (rs : List R) (i : ℕ) (r : R) (vs : List Value) (v : Value)
     → i < length rs → r ≡ get_or rs i r → AreShown Shows (map now (take i rs)) (map view vs) → Shows (now r) (view v)
     → AreShown Shows (map now (take (i + 1) rs)) (map view (vs ++ v ∷ []))
@@ -49,7 +49,7 @@ shown_next Shows now rs i r vs v below is all one =
     (subst (λ ds. AreShown Shows (map now (take i rs) ++ now r ∷ []) ds) (sym (map_push view vs v))
     (shown_more Shows (map now (take i rs)) (map view vs) (now r) (view v) all one))
 
--- with the availability that is found
+-- An entity with the availability that was found.
 pub entity_shown_by : (settings : List AvailabilityEntry) (e : Entity) (a : Availability) (d : Data)
     → a ≡ present_of settings e.manager → IsShownAs e a d → IsEntityShown settings e d
 entity_shown_by settings e a d is shown = subst (λ b. IsShownAs e b d) is shown

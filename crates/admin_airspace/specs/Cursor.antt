@@ -1,4 +1,4 @@
--- Where something stands among all that is shown.
+-- The order of all items of the airspace.
 use Rattle.std.specs.Prelude.{ℕ, ◌&&◌, ◌||◌, nat_eq, nat_lt, Bool, true, List, Option, Some, None, filter}
 use Rattle.entity_core.specs.Entity.{kind_of}
 use Rattle.entity_core.specs.declared.entity.Entity.{Entity}
@@ -9,7 +9,7 @@ use Rattle.admin_airspace.specs.declared.key.Cursor.{Cursor}
 use Rattle.admin_airspace.specs.declared.key.ItemKind.{ItemKind}
 use Rattle.admin_airspace.specs.declared.key.ItemKind.TheVariants as sorts
 
--- the intents, then the constraints, then the subscriptions
+-- The intents come first, then the constraints, then the subscriptions.
 abbrev pub sort_index : ItemKind → ℕ
 sort_index sorts.Intent = 0
 sort_index sorts.Constraint = 1
@@ -25,21 +25,21 @@ key_of_entity e = record { sort = sort_of (kind_of e.nature); number = e.id }
 abbrev pub key_of_sub : Sub → Cursor
 key_of_sub s = record { sort = sorts.Subscription; number = s.id }
 
--- those of a sort by rising numbers
+-- True if a cursor comes after another. Items of a kind are in ascending order of their numbers.
 abbrev pub comes_after : Cursor → Cursor → Bool
 comes_after k other =
     nat_lt (sort_index other.sort) (sort_index k.sort)
     || (nat_eq (sort_index k.sort) (sort_index other.sort) && nat_lt other.number k.number)
 
--- whether a key comes after one, if it is given
+-- True if a cursor comes after the given one, if any.
 abbrev pub is_past : Option Cursor → Cursor → Bool
 is_past None k = true
 is_past (Some after) k = comes_after k after
 
--- the entities after a key, in their order
+-- The entities after a cursor, in their order.
 abbrev pub entities_past : Option Cursor → List Entity → List Entity
 entities_past after es = filter (λ e. is_past after (key_of_entity e)) es
 
--- the subscriptions after a key, in their order
+-- The subscriptions after a cursor, in their order.
 abbrev pub subs_past : Option Cursor → List Sub → List Sub
 subs_past after ss = filter (λ s. is_past after (key_of_sub s)) ss

@@ -1,4 +1,4 @@
--- Which entities and subscriptions a page has.
+-- The entities and subscriptions of a page.
 use Rattle.std.specs.Prelude.{◌≡◌, ℕ, Bool, true, false, List, [], ◌∷◌, ◌++◌, Option, Some, None, codes, fold, unwrap_or}
 use Rattle.std.specs.FinMap.{get}
 use Rattle.entity_core.specs.EntityId.{printed}
@@ -17,29 +17,29 @@ use Rattle.admin_airspace.specs.Cursor.{entities_past, subs_past}
 use Rattle.admin_airspace.specs.declared.key.Cursor.{Cursor}
 use Rattle.admin_airspace.specs.Reference.{IsShownAs}
 
--- Of all in a list these are the first, and whether they are all of them.
+-- States that these are the first of a list, and whether they are all of it.
 pub record AreFirst {X : Type 0} (all found : List X) (are_all : Bool) : Type 0 where
   pub rest : List X
   pub first : all ≡ found ++ rest
   pub no_rest : are_all ≡ true → rest ≡ []
   pub some_rest : are_all ≡ false → ¬ (rest ≡ [])
 
--- Each of these is shown by the value in its place, and there is no other value.
+-- Holds if each item is represented by the value at its index, and there is no other value.
 abbrev pub AreShown : {X : Type 0} → (X → Data → Type 0) → List X → List Data → Type 0
 AreShown Shows [] [] = Unit {0}
 AreShown Shows [] (d ∷ ds) = ⊥
 AreShown Shows (x ∷ xs) [] = ⊥
 AreShown Shows (x ∷ xs) (d ∷ ds) = Shows x d × AreShown Shows xs ds
 
--- what a supplier has set of its availability; of one that has set none, `Unknown`
+-- The availability that a USS has set, or `Unknown`.
 abbrev pub present_of : List AvailabilityEntry → List ℕ → Availability
 present_of settings uss = (unwrap_or (get (availability_map settings) uss) (Unknown, [])).0
 
--- an entity is shown with the availability that its manager has set
+-- Holds if the value represents an entity, with the availability of its manager.
 abbrev pub IsEntityShown : List AvailabilityEntry → Entity → Data → Type 0
 IsEntityShown settings e d = IsShownAs e (present_of settings e.manager) d
 
--- what is shown of a subscription, by the names of its members
+-- The members that represent a subscription, by name.
 abbrev pub sub_members : Sub → Availability → Data → Members
 sub_members s availability extents =
     let who = put (codes "manager") (string s.manager)
@@ -52,8 +52,8 @@ sub_members s availability extents =
     put (codes "uss_base_url") (string s.url)
     (put (codes "uss_availability") (string (name_of availability)) times)
 
--- So is a subscription: its extent, its manager, and what its manager is shown of it, but for its
--- version and the intents that name it.
+-- Holds if the value represents a subscription: its extent, its manager, and what its manager sees
+-- of it, except its version and the intents that reference it.
 abbrev pub IsSubShown : List AvailabilityEntry → Sub → Data → Type 0
 IsSubShown settings s d = (extents : Data) × (d ≡ object (sub_members s (present_of settings s.manager) extents))
 
@@ -65,11 +65,11 @@ abbrev pub settings_members : List AvailabilityEntry → Members
 settings_members settings =
     fold (λ ms s. put s.uss (string (name_of s.availability)) ms) no_members settings
 
--- what each supplier has set that has set its availability, by its id
+-- The availability of each USS that has set one, by its id.
 abbrev pub suppliers_data : List AvailabilityEntry → Data
 suppliers_data settings = object (settings_members settings)
 
--- the first page has it
+-- The availabilities, which only the first page has.
 abbrev pub suppliers_of : Option Cursor → List AvailabilityEntry → Option Data
 suppliers_of None settings = Some (suppliers_data settings)
 suppliers_of (Some after) settings = None
@@ -78,15 +78,15 @@ abbrev pub with_suppliers : Option Data → Members → Members
 with_suppliers None ms = ms
 with_suppliers (Some suppliers) ms = put (codes "suppliers") suppliers ms
 
--- the members of a page
+-- The members of a page.
 abbrev pub page_members : Option (List ℕ) → Data → ℕ → Data → Option Data → Members
 page_members next entities serial subs suppliers = with_suppliers suppliers
     (put (codes "subscriptions") subs (put (codes "serial") (number (unsigned serial))
     (with_next next (put (codes "entities") entities no_members))))
 
--- A page of what is shown: of the entities, and of the subscriptions, the first of those that come
--- after a key, each in its place, and the serial. It has no next one where these are all. The first
--- page has what suppliers have set.
+-- States that the value is a page: the first entities and subscriptions after a cursor, in order,
+-- and the serial. It has no cursor for a next page if these are all. The first page has the
+-- availabilities of the USSs.
 pub record IsPage (entities : List Entity) (subs : List Sub) (settings : List AvailabilityEntry) (serial : ℕ)
     (after : Option Cursor) (d : Data) : Type 0 where
   pub found : List Entity

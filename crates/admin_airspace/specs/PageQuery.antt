@@ -1,8 +1,8 @@
--- Which page is asked for.
+-- The requested page.
 use Rattle.std.specs.Prelude.{Option}
 use Rattle.admin_airspace.specs.declared.key.Cursor.{Cursor}
 use Rattle.admin_airspace.specs.declared.query.PageQuery.{PageQuery}
 
--- where it begins: after this key, or at the first of all
+-- The cursor after which the page begins, or `None` for the first page.
 abbrev pub after_of : PageQuery → Option Cursor
 after_of query = query.after

@@ -1,4 +1,4 @@
--- What operators are shown of an entity.
+-- What the admin port shows of an entity.
 use Rattle.std.specs.Prelude.{◌≡◌, None, codes}
 use Rattle.grid_core.specs.Volumes.{span_of}
 use Rattle.entity_core.specs.Entity.{kind_of}
@@ -9,7 +9,7 @@ use Rattle.serde_json.specs.Data.{Data, no_members, object, put}
 use Rattle.wire_reply.specs.Built.{reference_data}
 use Rattle.wire_reply.specs.Reference.{reference_name}
 
--- the reference of an entity as suppliers see it that do not manage it: without its OVN
+-- The reference of an entity as other USSs see it: without its OVN.
 abbrev pub shown_of : Entity → Availability → Reference
 shown_of e availability = record {
   nature = e.nature;
@@ -23,7 +23,7 @@ shown_of e availability = record {
   url = e.url;
 }
 
--- its reference under the name of its kind, beside its extents
+-- Holds if the value has the entity's reference under the name of its kind, and its extents.
 abbrev pub IsShownAs : Entity → Availability → Data → Type 0
 IsShownAs e availability d = (extents : Data)
     × (d ≡ object (put (reference_name (kind_of e.nature)) (reference_data (shown_of e availability))

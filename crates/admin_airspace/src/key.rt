@@ -1,4 +1,4 @@
-//! Where something stands among all that is shown.
+//! The order of all items of the airspace.
 ghost use Rattle.std.specs.Prelude.{◌≡◌};
 ghost use Rattle.admin_airspace.specs.Cursor.{comes_after, key_of_entity, key_of_sub, sort_index};
 
@@ -7,7 +7,7 @@ use entity_core::entity_id::EntityId;
 use entity_core::nature::Kind;
 use entity_core::subscription::Sub;
 
-/// What is shown: the intents come first, then the constraints, then the subscriptions.
+/// The kind of an item. The intents come first, then the constraints, then the subscriptions.
 #[derive(Clone, Copy, Debug, PartialEq, Eq)]
 pub(crate) enum ItemKind {
     Intent,
@@ -16,7 +16,7 @@ pub(crate) enum ItemKind {
 }
 
 impl ItemKind {
-    // Its place in the order of sorts.
+    // Returns its index in the order of kinds.
     fn index(self) -> u8
         ensures { result ≡ sort_index self }
     {
@@ -27,7 +27,7 @@ impl ItemKind {
         }
     }
 
-    /// Its name.
+    /// Returns its name.
     pub(crate) fn name(self) -> &'static str {
         match self {
             ItemKind::Intent => "intent",
@@ -36,7 +36,7 @@ impl ItemKind {
         }
     }
 
-    // The one of a name.
+    // Returns the kind of that name.
     fn named(name: &str) -> Option<ItemKind> {
         match name {
             "intent" => Some(ItemKind::Intent),
@@ -47,7 +47,8 @@ impl ItemKind {
     }
 }
 
-/// The place of an entity or a subscription: those of a sort stand by rising numbers of their ids.
+/// The position of an entity or a subscription. Items of a kind are in ascending order of their
+/// ids.
 #[derive(Clone, Copy, Debug)]
 pub(crate) struct Cursor {
     sort: ItemKind,
@@ -55,7 +56,7 @@ pub(crate) struct Cursor {
 }
 
 impl Cursor {
-    /// The key of a text: the name of a sort, a colon and an id.
+    /// Parses a cursor: the name of a kind, a colon and an id.
     pub(crate) fn read(text: &str) -> Option<Cursor> {
         let (name, id) = text.split_once(':')?;
         let sort = ItemKind::named(name)?;
@@ -68,7 +69,7 @@ impl Cursor {
         }
     }
 
-    /// That of an entity.
+    /// Returns the cursor of an entity.
     pub(crate) fn of_entity(entity: &Entity) -> Cursor
         ensures { result ≡ key_of_entity entity.now }
     {
@@ -82,7 +83,7 @@ impl Cursor {
         }
     }
 
-    /// That of a subscription.
+    /// Returns the cursor of a subscription.
     pub(crate) fn of_sub(sub: &Sub) -> Cursor
         ensures { result ≡ key_of_sub sub.now }
     {
@@ -92,7 +93,7 @@ impl Cursor {
         }
     }
 
-    /// Whether it stands after another.
+    /// Returns true if it comes after another cursor.
     pub(crate) fn comes_after(self, other: Cursor) -> bool
         ensures { result ≡ comes_after self other }
     {

@@ -1,4 +1,4 @@
-//! The airspace as operators are shown it: a page of it at a time, as JSON.
+//! The airspace as the admin port shows it: page by page, as JSON.
 #![tactic(auto)]
 
 mod key;

@@ -8,7 +8,7 @@ use entity_core::entity_id::EntityId;
 use serde_json::{Map, Value, put};
 use std::alloc::{AllocError, Global};
 
-/// A text, as a member of a name.
+/// Adds a text member.
 pub(crate) fn put_text(
     members: &mut Map<String, Value>,
     alloc: Global,
@@ -22,7 +22,7 @@ pub(crate) fn put_text(
     put(members, alloc, name, text)
 }
 
-/// A number, as a member of a name.
+/// Adds a number member.
 pub(crate) fn put_number(
     members: &mut Map<String, Value>,
     alloc: Global,
@@ -35,7 +35,7 @@ pub(crate) fn put_number(
     put(members, alloc, name, Value::from(value))
 }
 
-/// A truth value, as a member of a name.
+/// Adds a Boolean member.
 pub(crate) fn put_flag(
     members: &mut Map<String, Value>,
     alloc: Global,
@@ -48,7 +48,7 @@ pub(crate) fn put_flag(
     put(members, alloc, name, Value::from(flag))
 }
 
-/// An id, as a member of a name.
+/// Adds an id member.
 pub(crate) fn put_id(
     members: &mut Map<String, Value>,
     alloc: Global,

@@ -1,4 +1,4 @@
-//! Which entities and subscriptions a page has.
+//! The entities and subscriptions of a page.
 ghost use Rattle.std.specs.Prelude.{◌≡◌, IfOk, map};
 ghost use Rattle.admin_airspace.specs.Cursor.{entities_past, is_past, subs_past};
 ghost use Rattle.admin_airspace.specs.Page.{AreFirst};
@@ -12,10 +12,10 @@ use entity_maps::entities::Entities;
 use entity_maps::subscriptions::Subscriptions;
 use std::alloc::{AllocError, Global};
 
-// About how many cells all that a page shows has at most: it ends after the one that comes to them.
+// The approximate maximum number of cells on a page. A page ends after the item that reaches it.
 const MOST_CELLS: usize = 8_192;
 
-/// What is left of a page.
+/// The remaining size of a page.
 #[derive(Clone, Copy)]
 pub(crate) struct PageBudget {
     things: usize,
@@ -23,7 +23,7 @@ pub(crate) struct PageBudget {
 }
 
 impl PageBudget {
-    /// That of a page of at most so many entities and subscriptions.
+    /// Returns the budget of a page with the query's limit.
     pub(crate) fn of(query: &PageQuery) -> PageBudget {
         PageBudget {
             things: query.limit,
@@ -41,14 +41,14 @@ impl PageBudget {
     }
 }
 
-/// The first of all that come after a key, in their order, and whether these are all of them.
+/// The first items after a cursor, in their order, and whether these are all of them.
 #[derive(Drop)]
 pub(crate) struct First<'a, T> {
     pub(crate) found: Vec<&'a T>,
     pub(crate) are_all: bool,
 }
 
-// Whether a key comes after one, if it is given.
+// Returns true if a cursor comes after the given one, if any.
 fn is_past(after: Option<Cursor>, key: Cursor) -> bool
     ensures { result ≡ is_past after key }
 {
@@ -58,7 +58,7 @@ fn is_past(after: Option<Cursor>, key: Cursor) -> bool
     }
 }
 
-/// The first entities after a key, as far as there is room; one at least where there is any.
+/// Returns the first entities after a cursor within the budget, but at least one if there is any.
 pub(crate) fn first_entities<'a>(
     alloc: Global,
     entities: &'a Entities,
@@ -87,7 +87,7 @@ pub(crate) fn first_entities<'a>(
     })
 }
 
-/// The first subscriptions after a key, as far as there is room.
+/// Returns the first subscriptions after a cursor within the budget.
 pub(crate) fn first_subs<'a>(
     alloc: Global,
     subscriptions: &'a Subscriptions,

@@ -1,20 +1,20 @@
-//! Which page of the airspace is asked for.
+//! The query for a page of the airspace.
 ghost use Rattle.std.specs.Prelude.{◌≤◌, IfSome};
 
 use crate::key::Cursor;
 
-/// The most entities and subscriptions of a page.
+/// The maximum number of entities and subscriptions on a page.
 pub const MAX_PAGE_SIZE: usize = 500;
 
-/// Which page is asked for.
+/// A query for a page.
 #[derive(Clone, Copy, Debug)]
 pub struct PageQuery {
-    // all that is shown comes after it, where it is given
+    // The cursor after which the page begins, if given.
     pub(crate) after: Option<Cursor>,
     pub(crate) limit: usize,
 }
 
-// A number from 1 to the most of a page.
+// Parses a number from 1 to the maximum size of a page.
 fn limit_in(text: &str) -> Option<usize>
     ensures { IfSome result (λ limit. limit ≤ MAX_PAGE_SIZE) }
 {
@@ -31,9 +31,11 @@ fn limit_in(text: &str) -> Option<usize>
 }
 
 impl PageQuery {
-    /// The query of a text of members, joined by `&`: `after=KIND:ID`, where the kind is `intent`,
-    /// `constraint` or `subscription`, and `limit=N`, from 1 to [`MAX_PAGE_SIZE`]. Both may be absent: then
-    /// it is the first page, and as long as one may be. No text with another member is one.
+    /// Parses a query of members joined by `&`: `after=KIND:ID` with a kind `intent`, `constraint`
+    /// or `subscription`, and `limit=N` from 1 to [`MAX_PAGE_SIZE`].
+    ///
+    /// Both may be absent: the default is the first page, and the maximum size. Returns `None` if
+    /// there is another member.
     pub fn read(text: &str) -> Option<PageQuery> {
         let mut query = PageQuery {
             after: None,

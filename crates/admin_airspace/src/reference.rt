@@ -1,4 +1,4 @@
-//! An entity with its extents, as operators are shown it.
+//! An entity with its extents, as the admin port shows it.
 ghost use Rattle.std.specs.Prelude.{◌≡◌, IfOk, OnOk, codes};
 ghost use Rattle.serde_json.specs.View.{members_view, view};
 ghost use Rattle.wire_reply.specs.Built.{reference_data, with_nature};
@@ -20,7 +20,7 @@ use wire_body::availability::name_of;
 /// The id that stands for no subscription.
 const NO_SUBSCRIPTION: &str = "00000000-0000-4000-8000-000000000000";
 
-// The name under which the reference of an entity of the kind stands.
+// Returns the member name of a reference of that kind.
 fn reference_name(kind: Kind) -> &'static str
     ensures { result.now ≡ reference_name kind }
 {
@@ -30,7 +30,7 @@ fn reference_name(kind: Kind) -> &'static str
     }
 }
 
-// Which subscription an intent names.
+// Adds the subscription that an intent references.
 fn put_naming(
     members: &mut Map<String, Value>,
     alloc: Global,
@@ -46,7 +46,7 @@ fn put_naming(
     }
 }
 
-// What references of one kind alone have.
+// Adds the members that only references of one kind have.
 fn put_nature(
     members: &mut Map<String, Value>,
     alloc: Global,
@@ -64,7 +64,7 @@ fn put_nature(
     }
 }
 
-// The reference, spelled as the service's answers spell it to suppliers that do not manage it.
+// Returns the reference, as responses to other USSs represent it.
 fn reference_json(
     alloc: Global,
     entity: &Entity,
@@ -91,7 +91,7 @@ fn reference_json(
     Ok(Value::from(members))
 }
 
-// Extents, and a reference under its name.
+// Returns an object of extents and a reference under its name.
 fn both_json(
     alloc: Global,
     extents: Value,
@@ -107,7 +107,8 @@ fn both_json(
     Ok(Value::from(members))
 }
 
-/// An entity: its extents, and its reference under the name of its kind. Its OVN is in neither.
+/// Returns an entity: its extents, and its reference under the name of its kind. Neither has its
+/// OVN.
 pub(crate) fn entity_json(
     alloc: Global,
     entity: &Entity,

@@ -22,7 +22,7 @@ use space_snapshot::snapshot::Snapshot;
 use std::alloc::{AllocError, Global};
 use wire_body::availability::name_of;
 
-// Entities, in their order.
+// Returns entities, in their order.
 fn entities_json(
     alloc: Global,
     entities: &[&Entity],
@@ -39,7 +39,7 @@ fn entities_json(
     Ok(Value::from(values))
 }
 
-// Subscriptions, in their order.
+// Returns subscriptions, in their order.
 fn subs_json(
     alloc: Global,
     subs: &[&Sub],
@@ -56,14 +56,14 @@ fn subs_json(
     Ok(Value::from(values))
 }
 
-// The text of the key of an id.
+// Returns the text of the cursor of an id.
 fn key_text(alloc: Global, sort: ItemKind, id: &EntityId) -> Result<String, AllocError> {
     let name = sort.name();
     let id = id.text(alloc)?;
     format!(in alloc; "{name}:{id}")
 }
 
-// Where the next page begins: after the last of these.
+// Returns the cursor of the next page, after the last of these items.
 fn next_text(
     alloc: Global,
     entities: &[&Entity],
@@ -82,7 +82,7 @@ fn next_text(
     Ok(Some(key_text(alloc, sort, &entity.id)?))
 }
 
-// Where the next page begins, if there is one.
+// Returns the cursor of the next page, if there is one.
 fn next_of(
     alloc: Global,
     entities: &First<'_, Entity>,
@@ -97,7 +97,7 @@ fn next_of(
     next_text(alloc, &entities.found, &subs.found)
 }
 
-// What each supplier has set that has set its availability.
+// Returns the availability of each USS that has set one.
 fn suppliers_json(alloc: Global, availabilities: &Availabilities) -> Result<Value, AllocError>
     ensures { IfOk result (λ v. view v ≡ suppliers_data availabilities.now) }
 {
@@ -109,7 +109,7 @@ fn suppliers_json(alloc: Global, availabilities: &Availabilities) -> Result<Valu
     Ok(Value::from(members))
 }
 
-// The same, for the first page.
+// Returns the availabilities for the first page, and `None` for others.
 fn suppliers_of(
     alloc: Global,
     after: Option<Cursor>,
@@ -124,7 +124,7 @@ fn suppliers_of(
     }
 }
 
-// The members of a page.
+// Returns the members of a page.
 fn page_members_json(
     alloc: Global,
     next: Option<String>,
@@ -149,7 +149,7 @@ fn page_members_json(
     Ok(Value::from(members))
 }
 
-// The page of a query.
+// Returns the page of a query.
 fn page_json(alloc: Global, shown: Snapshot<'_>, query: PageQuery) -> Result<Value, AllocError>
     ensures { IfOk result (λ v. IsPage shown.entry.entities.now shown.entry.subscriptions.now
         shown.entry.availabilities.now shown.entry.serial (after_of query) (view v)) }
@@ -171,9 +171,8 @@ fn page_json(alloc: Global, shown: Snapshot<'_>, query: PageQuery) -> Result<Val
     )
 }
 
-/// The page of a query, of what a space shows: compact JSON, the members of each object in the
-/// order of their names. The first page also has the availability of each supplier that has set
-/// one.
+/// Returns the page of a query over a snapshot, as compact JSON with the members of each object in
+/// the order of their names. The first page also has the availability of each USS that has set one.
 pub fn page_text(alloc: Global, shown: Snapshot<'_>, query: PageQuery) -> Result<String, AllocError>
     ensures { IfOk result (λ text. (d : Data) × IsInOrder (string_bytes text) d
         × IsPage shown.entry.entities.now shown.entry.subscriptions.now

@@ -1,4 +1,4 @@
-//! A subscription with its extent, as operators are shown it.
+//! A subscription with its extent, as the admin port shows it.
 ghost use Rattle.std.specs.Prelude.{◌≡◌, IfOk};
 ghost use Rattle.serde_json.specs.Data.{Data, object};
 ghost use Rattle.serde_json.specs.View.{view};
@@ -13,7 +13,7 @@ use serde_json::{Map, Value, put};
 use std::alloc::{AllocError, Global};
 use wire_body::availability::name_of;
 
-// The members of a subscription, with that extent.
+// Returns the members of a subscription, with that extent.
 fn sub_members_json(
     alloc: Global,
     sub: &Sub,
@@ -55,8 +55,8 @@ fn sub_members_json(
     Ok(Value::from(members))
 }
 
-/// A subscription: its extent, its manager, and what its manager is shown of it, but for its
-/// version and the intents that name it.
+/// Returns a subscription: its extent, its manager, and what its manager sees of it, except its
+/// version and the intents that reference it.
 pub(crate) fn sub_json(
     alloc: Global,
     sub: &Sub,

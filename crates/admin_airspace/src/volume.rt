@@ -1,11 +1,11 @@
-//! Volumes, as requests spell them.
+//! Volumes, as requests represent them.
 use grid_core::cell::CellId;
 use grid_core::token::token;
 use grid_core::volume::Volume;
 use serde_json::{Map, Value, json};
 use std::alloc::{AllocError, Global};
 
-// The cells by their tokens.
+// Returns the cells by their tokens.
 fn cells_json(alloc: Global, cells: &[CellId]) -> Result<Value, AllocError> {
     let mut values = Vec::with_capacity(alloc, cells.len())?;
     for cell in cells {
@@ -14,7 +14,7 @@ fn cells_json(alloc: Global, cells: &[CellId]) -> Result<Value, AllocError> {
     Ok(Value::from(values))
 }
 
-/// A volume as JSON.
+/// Returns a volume as JSON.
 pub(crate) fn volume_json(alloc: Global, volume: &Volume) -> Result<Value, AllocError> {
     let cells = cells_json(alloc, volume.cells())?;
     let (lower, upper) = volume.altitude();
@@ -28,7 +28,7 @@ pub(crate) fn volume_json(alloc: Global, volume: &Volume) -> Result<Value, Alloc
     })
 }
 
-/// Volumes as JSON, in their order.
+/// Returns volumes as JSON, in their order.
 pub(crate) fn volumes_json(alloc: Global, volumes: &[Volume]) -> Result<Value, AllocError> {
     let mut values = Vec::with_capacity(alloc, volumes.len())?;
     for volume in volumes {
@@ -37,7 +37,7 @@ pub(crate) fn volumes_json(alloc: Global, volumes: &[Volume]) -> Result<Value, A
     Ok(Value::from(values))
 }
 
-/// How many cells all of them have.
+/// Returns the number of cells of all volumes.
 pub(crate) fn cells_of(volumes: &[Volume]) -> usize {
     let mut count = 0_usize;
     for volume in volumes {

@@ -1,4 +1,4 @@
-//! One backup, as it is made beside the service: a copy of the database's file, then of its log.
+//! One backup, made while the service runs: a copy of the database file, and then of its log.
 use crate::log_frames::LogHeader;
 use crate::page_set::PageSet;
 use admin_http::backup::BackupResult;
@@ -13,19 +13,19 @@ const FILE_NAME: &str = "dss.db";
 
 const LOG_NAME: &str = "dss.db-wal";
 
-// The bytes of pages changed meanwhile that are copied at once with the log, at most.
+// The maximum number of bytes of changed pages that are copied at once with the log.
 const LAST_PAGES: u64 = 2_097_152;
 
-// A new log has overwritten of the one before it at most so many bytes more than its frames have:
-// it writes zeros ahead.
+// The maximum number of bytes that a new log overwrites of the previous one beyond its own frames,
+// because it writes zeros ahead.
 const WRITTEN_AHEAD: u64 = 1_048_576;
 
-// How often a backup is begun anew, and how many pieces of changed pages are copied, at most.
+// The maximum numbers of restarts of a backup, and of chunks of changed pages.
 const MOST_STARTS: u32 = 8;
 
 const MOST_CHANGED: u32 = 10_000;
 
-// What a reading of the database's files that failed comes to.
+// Returns the result of a failed read of the database files.
 fn unread(cause: io::Error) -> BackupResult {
     match cause.kind() {
         ErrorKind::OutOfMemory => BackupResult::Memory,
@@ -33,7 +33,7 @@ fn unread(cause: io::Error) -> BackupResult {
     }
 }
 
-/// What a writing into the folder of backups that failed comes to.
+/// Returns the result of a failed write to the backup directory.
 pub(crate) fn unwritten(cause: io::Error) -> BackupResult {
     match cause.kind() {
         ErrorKind::OutOfMemory => BackupResult::Memory,
@@ -41,7 +41,7 @@ pub(crate) fn unwritten(cause: io::Error) -> BackupResult {
     }
 }
 
-// A new file that only its owner reads.
+// Creates a file that only its owner can read.
 fn new_file(rt: &HostRuntime, name: &str) -> io::Result<File> {
     OpenOptions::new()
         .write(true)
@@ -50,7 +50,7 @@ fn new_file(rt: &HostRuntime, name: &str) -> io::Result<File> {
         .open(rt, name)
 }
 
-// Makes the folder of a backup that is begun, and its files.
+// Creates the temporary directory of a backup, and its files.
 fn begun_files(rt: &HostRuntime, begun: &str) -> io::Result<(File, File)> {
     DirBuilder::new().mode(0o700).create(rt, begun)?;
     let alloc = rt.alloc();
@@ -59,32 +59,32 @@ fn begun_files(rt: &HostRuntime, begun: &str) -> io::Result<(File, File)> {
     Ok((copied, copied_log))
 }
 
-// Writes to the disk what a folder holds.
+// Syncs a directory.
 fn sync_folder(rt: &HostRuntime, name: &str) -> io::Result<()> {
     File::open(rt, name)?.sync_all()
 }
 
-// What is to be done next.
+// The next stage of a backup.
 #[derive(Drop)]
 enum Stage {
-    // the file is copied, up to this many bytes
+    // the file is to be copied from this byte on
     File(u64),
-    // this is the log, of which so many bytes are written
+    // the log is to be written, from this byte on
     Log(Vec<u8>, usize),
-    // all is written
+    // everything is written
     Written,
-    // all is on the disk
+    // everything is synced
     Synced,
 }
 
-/// The database whose backups are made, by the names of its files.
+/// The paths of the database files to back up.
 #[derive(Drop)]
 pub(crate) struct SourcePaths {
     pub(crate) file: String,
     pub(crate) log: String,
 }
 
-/// Where a backup is made, and where it stands once it is.
+/// The temporary and the final path of a backup.
 #[derive(Drop)]
 pub(crate) struct BackupPaths {
     pub(crate) begun: String,
@@ -92,7 +92,7 @@ pub(crate) struct BackupPaths {
     pub(crate) folder: String,
 }
 
-/// One backup that goes on.
+/// A backup in progress.
 #[derive(Drop)]
 pub(crate) struct BackupCopy {
     places: BackupPaths,
@@ -101,11 +101,11 @@ pub(crate) struct BackupCopy {
     copied: File,
     copied_log: File,
     stage: Stage,
-    // the log when it was looked at last: its header, its frames, and their pages
+    // The log when it was last read: its header, its frames, and their pages.
     header: LogHeader,
     frames: u64,
     logged: PageSet,
-    // the pages that checkpoints wrote into the file since it was begun to be copied
+    // The pages that checkpoints wrote into the file since its copy began.
     changed: PageSet,
     page: Vec<u8>,
     starts: u32,
@@ -114,7 +114,7 @@ pub(crate) struct BackupCopy {
 }
 
 impl BackupCopy {
-    /// Begins one. Its folder is made here.
+    /// Begins a backup, and creates its directory.
     pub(crate) fn begin(
         rt: &HostRuntime,
         sources: &SourcePaths,
@@ -147,13 +147,13 @@ impl BackupCopy {
         })
     }
 
-    /// Removes what there is of it.
+    /// Removes the partial backup.
     pub(crate) fn give_up(self, rt: &HostRuntime) {
         let _ = fs::remove_dir_all(rt, self.places.begun.as_str());
     }
 
-    // Looks at the log, and notes what checkpoints may have changed in the file since it was looked
-    // at last. `false`: that is not known.
+    // Reads the log, and records what checkpoints may have changed in the file since the last read.
+    // Returns false if that is unknown.
     fn look(&mut self, alloc: Global) -> io::Result<bool> {
         let Some(header) = LogHeader::read(&self.log)? else {
             return Err(io::Error::from(ErrorKind::InvalidData));
@@ -178,7 +178,7 @@ impl BackupCopy {
         Ok(is_known)
     }
 
-    // Begins anew with the file.
+    // Restarts the copy of the file.
     fn start_anew(&mut self) -> Result<(), BackupResult> {
         if self.starts >= MOST_STARTS {
             return Err(BackupResult::TooManyChanges);
@@ -189,7 +189,7 @@ impl BackupCopy {
         Ok(())
     }
 
-    // Copies a piece of the file.
+    // Copies a chunk of the file.
     fn copy_chunk(&mut self, from: u64, chunk: &mut [u8]) -> Result<(), BackupResult> {
         let count = self.file.read_at(chunk, from).map_err(unread)?;
         self.copied
@@ -211,7 +211,7 @@ impl BackupCopy {
             .map_err(unwritten)
     }
 
-    // Copies pages that were changed, of so many bytes together.
+    // Copies changed pages of so many bytes in total.
     fn copy_changed(&mut self, bytes: u64) -> Result<(), BackupResult> {
         let most = bytes / self.header.page_size().max(1);
         for _ in 0..most.max(1) {
@@ -223,7 +223,7 @@ impl BackupCopy {
         Ok(())
     }
 
-    // Copies a piece of what was changed, where that is much.
+    // Copies a chunk of the changed pages, if there are many.
     fn catch_up(&mut self, bytes: u64) -> Result<(), BackupResult> {
         if self.changed_chunks >= MOST_CHANGED {
             return Err(BackupResult::TooManyChanges);
@@ -233,7 +233,7 @@ impl BackupCopy {
         self.copied.sync_data().map_err(unwritten)
     }
 
-    // Takes the rest of what was changed, and the log, between the same two rounds.
+    // Copies the remaining changed pages, and reads the log, between the same two batches.
     fn take_log(&mut self, alloc: Global, length: u64) -> Result<(), BackupResult> {
         self.copy_changed(u64::MAX)?;
         self.copied.set_len(length).map_err(unwritten)?;
@@ -247,7 +247,7 @@ impl BackupCopy {
         Ok(())
     }
 
-    // Does the next piece of copying the file, which is so far copied.
+    // Makes the next step of the file's copy, which has this length so far.
     fn go_on_with_file(
         &mut self,
         alloc: Global,
@@ -272,7 +272,7 @@ impl BackupCopy {
         self.take_log(alloc, length)
     }
 
-    // Writes the next piece of the log.
+    // Writes the next chunk of the log.
     fn write_log(&mut self, log: Vec<u8>, written: usize, most: usize) -> Result<(), BackupResult> {
         let from = written.min(log.len());
         let until = from.saturating_add(most).min(log.len());
@@ -288,7 +288,7 @@ impl BackupCopy {
         Ok(())
     }
 
-    // Has the disk hold all of it.
+    // Syncs the whole backup.
     fn sync(&mut self, rt: &HostRuntime) -> io::Result<()> {
         self.copied.sync_all()?;
         self.copied_log.sync_all()?;
@@ -296,13 +296,13 @@ impl BackupCopy {
         sync_folder(rt, self.places.begun.as_str())
     }
 
-    // Gives it its name.
+    // Renames the backup to its final name.
     fn name_it(&self, rt: &HostRuntime) -> io::Result<()> {
         fs::rename(rt, self.places.begun.as_str(), self.places.whole.as_str())?;
         sync_folder(rt, self.places.folder.as_str())
     }
 
-    /// Makes the next piece. The size of the backup, once it is there.
+    /// Makes the next step. Returns the size of the backup once it is complete.
     pub(crate) fn go_on(
         &mut self,
         rt: &HostRuntime,

@@ -1,15 +1,16 @@
-//! The folder of backups of a database that is served.
+//! The backup directory of a database that is being served.
 use crate::backup_copy::{BackupCopy, BackupPaths, SourcePaths, unwritten};
 use admin_http::backup::BackupResult;
 use std::io::ErrorKind;
 use std::time::{Duration, Instant};
 use std::{fs, io};
 
-// What the name of a backup that is begun ends with. It begins with a dot, as no backup's does.
+// The suffix of the name of a partial backup. Such a name begins with a dot, unlike that of a
+// backup.
 const BEGUN: &str = ".begun";
 
-// The bytes of a piece, and how long one should take at most and at least, in milliseconds: clients
-// wait meanwhile.
+// The bytes of a chunk (minimum, first and maximum), and the maximum and minimum target time of a
+// chunk in milliseconds. Clients wait meanwhile.
 const LEAST_CHUNK: usize = 32_768;
 
 const FIRST_CHUNK: usize = 262_144;
@@ -20,7 +21,7 @@ const LONG: u64 = 6;
 
 const SHORT: u64 = 3;
 
-/// The folder of backups of a database.
+/// The backup directory of a database.
 #[derive(Drop)]
 pub struct BackupDir<'a> {
     rt: &'a HostRuntime,
@@ -28,11 +29,11 @@ pub struct BackupDir<'a> {
     folder: String,
     copy: Option<BackupCopy>,
     chunk: Vec<u8>,
-    // the bytes of the next piece
+    // The bytes of the next chunk.
     length: usize,
 }
 
-// Removes what is left of backups that were begun.
+// Removes partial backups.
 fn remove_begun(rt: &HostRuntime, folder: &str) -> io::Result<()> {
     for entry in fs::read_dir(rt, folder)? {
         let entry = entry?;
@@ -44,7 +45,7 @@ fn remove_begun(rt: &HostRuntime, folder: &str) -> io::Result<()> {
     Ok(())
 }
 
-// Sees whether the folder can be written.
+// Tests if the directory can be written.
 fn try_folder(rt: &HostRuntime, folder: &str) -> io::Result<()> {
     let name = format!(in rt.alloc(); "{folder}/.{BEGUN}")?;
     fs::create_dir(rt, name.as_str())?;
@@ -52,8 +53,8 @@ fn try_folder(rt: &HostRuntime, folder: &str) -> io::Result<()> {
 }
 
 impl<'a> BackupDir<'a> {
-    /// The folder of that name, for the database of that name, which is open. It can be written,
-    /// and holds nothing that was begun.
+    /// Opens the directory of that name, for the open database of that name. Tests that the
+    /// directory can be written, and removes partial backups.
     pub fn new(rt: &'a HostRuntime, database: &str, folder: &str) -> io::Result<BackupDir<'a>> {
         let alloc = rt.alloc();
         let path = fs::canonicalize(rt, database)?;
@@ -71,7 +72,7 @@ impl<'a> BackupDir<'a> {
         })
     }
 
-    // Where a backup of that name is made.
+    // Returns the paths of a backup of that name.
     fn places(&self, name: &str) -> io::Result<BackupPaths> {
         let (alloc, folder) = (self.rt.alloc(), self.folder.as_str());
         Ok(BackupPaths {
@@ -81,7 +82,7 @@ impl<'a> BackupDir<'a> {
         })
     }
 
-    // Begins a backup where none of its name is there.
+    // Begins a backup if none of its name exists.
     fn begun(&mut self, name: &str) -> Result<BackupCopy, BackupResult> {
         let places = self.places(name).map_err(unwritten)?;
         match fs::symlink_metadata(self.rt, places.whole.as_str()) {
@@ -100,7 +101,7 @@ impl<'a> BackupDir<'a> {
         copy
     }
 
-    // Makes the next piece of a backup.
+    // Makes the next step of a backup.
     fn make_chunk(&mut self, copy: &mut BackupCopy) -> Result<Option<u64>, BackupResult> {
         let length = self.length.min(self.chunk.len());
         let before = Instant::now(self.rt).map_err(unwritten)?;
@@ -116,7 +117,7 @@ impl<'a> BackupDir<'a> {
         Ok(made)
     }
 
-    /// Begins a backup of that name. What is told at once, where it does not go on.
+    /// Begins a backup of that name. Returns the result at once if the backup does not go on.
     pub fn begin(&mut self, name: &str) -> Option<BackupResult> {
         match self.begun(name) {
             Ok(copy) => {
@@ -127,8 +128,7 @@ impl<'a> BackupDir<'a> {
         }
     }
 
-    /// Makes the next piece of the one that goes on. What became of it, once nothing more is done
-    /// for it.
+    /// Makes the next step of the backup in progress. Returns its result once it has ended.
     pub fn step(&mut self) -> Option<BackupResult> {
         let Some(mut copy) = self.copy.take() else {
             return Some(BackupResult::ReadFailed);
@@ -146,7 +146,7 @@ impl<'a> BackupDir<'a> {
         }
     }
 
-    /// Gives up the one that goes on: nothing of it stays.
+    /// Aborts the backup in progress and removes its partial files.
     pub fn abort(&mut self) {
         if let Some(copy) = self.copy.take() {
             copy.give_up(self.rt);

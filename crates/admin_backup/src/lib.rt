@@ -1,4 +1,4 @@
-//! Backups of the files of a database that is served, into a folder.
+//! Backups of the files of a database that is being served, into a directory.
 #![tactic(auto)]
 
 mod backup_copy;

@@ -1,4 +1,5 @@
-//! The log of a database, as far as a backup reads it: its header, and whose pages its frames are.
+//! The parts of a database's write-ahead log that a backup reads: its header, and the pages of its
+//! frames.
 use crate::page_set::PageSet;
 use std::fs::File;
 use std::io;
@@ -8,13 +9,14 @@ const HEADER: usize = 32;
 
 const FRAME_HEADER: usize = 24;
 
-// The number in the header's salt that each checkpoint counts up begins with a byte of 1 or more.
+// The first byte of the header's first salt, which each checkpoint increments, is at least 1.
 const LEAST_COUNT: u32 = 0x100_0000;
 
-// The number of no page: a frame with it tells of those beside it.
+// The lowest number that is not a page number. A frame with such a number describes frames next to
+// it.
 const NO_PAGE: u32 = 0xff00_0000;
 
-// The number of four bytes, the highest first.
+// Returns the big-endian number of four bytes.
 fn number(bytes: &[u8], at: usize) -> u32 {
     let mut found = 0_u32;
     for place in at..at.saturating_add(4) {
@@ -25,22 +27,22 @@ fn number(bytes: &[u8], at: usize) -> u32 {
     found
 }
 
-// Reads as many bytes as there are, up to the length of the piece.
+// Reads up to the length of the chunk, as far as the file has bytes.
 fn read_up_to(file: &File, chunk: &mut [u8], at: u64) -> io::Result<usize> {
     file.read_at(chunk, at)
 }
 
-/// The header of a log. A checkpoint writes a new one.
+/// The header of a log. A checkpoint leads to a new one.
 #[derive(Clone, Copy, Debug, PartialEq, Eq)]
 pub(crate) struct LogHeader {
     page_size: u32,
-    // counted up by each checkpoint
+    // The salt that each checkpoint increments.
     count: u32,
     random: u32,
 }
 
 impl LogHeader {
-    /// The header of the log in that file, where there is one.
+    /// Reads the header of the log in that file, if there is one.
     pub(crate) fn read(log: &File) -> io::Result<Option<LogHeader>> {
         let mut bytes = [0; HEADER];
         let found = read_up_to(log, &mut bytes, 0)?;
@@ -54,24 +56,25 @@ impl LogHeader {
         }))
     }
 
-    /// The bytes of a page.
+    /// Returns the bytes of a page.
     pub(crate) fn page_size(self) -> u64 {
         u64::from(self.page_size)
     }
 
-    /// Whether there was one checkpoint since the log had that header.
+    /// Returns true if there was exactly one checkpoint since the log had that header.
     pub(crate) fn is_next_of(self, earlier: LogHeader) -> bool {
         self.page_size == earlier.page_size
             && self.count == earlier.count.wrapping_add(1).max(LEAST_COUNT)
     }
 
-    /// The length of a log of so many frames.
+    /// Returns the length of a log with so many frames.
     pub(crate) fn length(self, frames: u64) -> u64 {
         let frame = self.page_size().saturating_add(FRAME_HEADER as u64);
         frame.saturating_mul(frames).saturating_add(HEADER as u64)
     }
 
-    // The page of a frame, and whether a change ends with it. None: no frame of this log is there.
+    // Returns the page of a frame, and whether the frame ends a commit. Returns `None` if this log
+    // has no such frame.
     fn frame(self, log: &File, index: u64) -> io::Result<Option<(u32, bool)>> {
         let mut bytes = [0; FRAME_HEADER];
         let found = read_up_to(log, &mut bytes, self.length(index))?;
@@ -82,8 +85,8 @@ impl LogHeader {
         Ok(Some((number(&bytes, 0), number(&bytes, 4) != 0)))
     }
 
-    /// Goes over the frames of this log from that one on, and puts their pages into the set. How
-    /// many frames there are up to the last change.
+    /// Adds the pages of the frames of this log from that index on to the set. Returns the number
+    /// of frames up to the last commit.
     pub(crate) fn mark_from(self, log: &File, from: u64, pages: &mut PageSet) -> io::Result<u64> {
         let mut frames = from;
         for index in from..u64::MAX {

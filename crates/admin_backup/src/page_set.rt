@@ -1,18 +1,18 @@
 //! A set of pages of a database.
 use std::alloc::{AllocError, Global};
 
-/// A set of pages, by their numbers.
+/// A set of pages, by number.
 #[derive(Drop)]
 pub(crate) struct PageSet {
-    // whether each page is in it
+    // True for each page in the set, by index.
     marks: Vec<bool>,
     count: usize,
-    // no page before this one is in it
+    // No page before this index is in the set.
     next: usize,
 }
 
 impl PageSet {
-    /// No page.
+    /// Creates an empty set.
     pub(crate) fn new(alloc: Global) -> PageSet {
         PageSet {
             marks: Vec::new(alloc),
@@ -21,19 +21,19 @@ impl PageSet {
         }
     }
 
-    /// How many pages.
+    /// Returns the number of pages.
     pub(crate) fn len(&self) -> usize {
         self.count
     }
 
-    /// Takes out all of them.
+    /// Removes all pages.
     pub(crate) fn clear(&mut self) {
         self.marks.clear();
         self.count = 0;
         self.next = 0;
     }
 
-    /// Puts in a page.
+    /// Adds a page.
     pub(crate) fn insert(&mut self, page: u32) -> Result<(), AllocError> {
         let place = page as usize;
         if place >= self.marks.len() {
@@ -49,7 +49,7 @@ impl PageSet {
         Ok(())
     }
 
-    /// Takes out the first page.
+    /// Removes and returns the first page.
     pub(crate) fn pop(&mut self) -> Option<u32> {
         for place in self.next..self.marks.len() {
             if let Some(mark) = self.marks.get_mut(place)
@@ -64,7 +64,7 @@ impl PageSet {
         None
     }
 
-    /// Moves all pages of another set into it.
+    /// Moves all pages of another set into this one.
     pub(crate) fn absorb(&mut self, other: &mut PageSet) -> Result<(), AllocError> {
         for _ in 0..other.len() {
             let Some(page) = other.pop() else {

@@ -1,4 +1,4 @@
--- A query that is none is refused.
+-- An invalid query is rejected.
 use Rattle.std.proofs.Common.{◌≡◌, ℕ, List, codes, None, Result, Ok, Err, subst, sym, inr}
 use Rattle.std.specs.Prelude.{IfOk}
 use Rattle.space_snapshot.specs.declared.snapshot.NoMirror.{NoMirror}

@@ -1,4 +1,4 @@
--- What the operator's port has, by path and method.
+-- The endpoints of the admin port, by path and method.
 use Rattle.std.specs.Prelude.{◌≡◌, ◌≢◌, ℕ, List, codes}
 use Rattle.admin_http.specs.declared.admin_route.AdminRequest.{AdminRequest}
 use Rattle.admin_http.specs.declared.admin_route.AdminRequest.TheVariants.{Does, Refuses, Unknown}
@@ -21,18 +21,19 @@ method_of page.Stop = codes "POST"
 method_of page.Backup = codes "POST"
 method_of page.Airspace = codes "GET"
 
--- no page has this path
+-- Holds if no endpoint has this path.
 abbrev pub IsNoPath : List ℕ → Type 0
 IsNoPath path = (p : AdminRoute) → path ≢ path_of p
 
--- a page is asked for by its path and its method
+-- Holds if this is the result of routing a method and a path.
 abbrev pub IsAsked : (method path : List ℕ) → AdminRequest → Type 0
 IsAsked method path (Does p) = (path ≡ path_of p) × (method ≡ method_of p)
 IsAsked method path (Refuses p) = (path ≡ path_of p) × (method ≢ method_of p)
 IsAsked method path Unknown = IsNoPath path
 
--- the status of a page's answer: its health alone tells how the service is; of backups this is the
--- answer where there is no folder for them, and of the airspace that where nothing is shown
+-- The status of an endpoint's response. Only that of `/health` depends on the health of the
+-- service. That of `/backup` applies without a backup directory, and that of `/airspace` without a
+-- snapshot.
 abbrev pub status_at : AdminRoute → Health → ℕ
 status_at page.Health state.Serving = 200
 status_at page.Health state.Failing = 503

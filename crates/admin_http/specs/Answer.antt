@@ -1,4 +1,4 @@
--- The text of an answer of the operator's port.
+-- The text of a response of the admin port.
 use Rattle.std.specs.Prelude.{◌≡◌, ◌==◌, ℕ, List, [], ◌++◌, if◌then◌else◌, Option, Some, None, codes, decimal, length}
 use Rattle.admin_http.specs.declared.admin_route.AdminRoute.{AdminRoute}
 use Rattle.admin_http.specs.declared.admin_route.AdminRoute.TheVariants as page
@@ -10,7 +10,7 @@ use Rattle.admin_http.specs.declared.backup.BackupResult.{BackupResult}
 use Rattle.admin_http.specs.AdminRequest.{method_of, status_of}
 use Rattle.admin_http.specs.BackupResult as backups
 
--- the reason phrase of a status
+-- The reason phrase of a status.
 unfoldable pub reason_of : ℕ → List ℕ
 reason_of status =
     if status == 200 then codes "OK"
@@ -22,7 +22,7 @@ reason_of status =
     else (if status == 501 then codes "Not Implemented"
     else (if status == 503 then codes "Service Unavailable" else codes "Bad Request")))))))
 
--- the media type of a body: that of metrics is Prometheus's own, and the airspace is JSON
+-- The media type of a body: the one that Prometheus defines for metrics, and JSON for the airspace.
 abbrev pub type_of : Option AdminRoute → List ℕ
 type_of (Some page.Metrics) = codes "text/plain; version=0.0.4; charset=utf-8"
 type_of (Some page.Health) = codes "text/plain; charset=utf-8"
@@ -31,7 +31,7 @@ type_of (Some page.Backup) = codes "text/plain; charset=utf-8"
 type_of (Some page.Airspace) = codes "application/json"
 type_of None = codes "text/plain; charset=utf-8"
 
--- a line with its end
+-- A line with its line end.
 abbrev pub line : List ℕ → List ℕ
 line text = text ++ codes "\r\n"
 
@@ -44,12 +44,12 @@ length_line size = line (codes "Content-Length: " ++ decimal size)
 unfoldable pub type_line : List ℕ → List ℕ
 type_line media = line (codes "Content-Type: " ++ media)
 
--- the line that tells which method a page takes, where one was refused
+-- The header `Allow` with the method of an endpoint, if another method was rejected.
 abbrev pub allow_line : Option AdminRoute → List ℕ
 allow_line None = []
 allow_line (Some p) = line (codes "Allow: " ++ method_of p)
 
--- what stands before the body: the connection is closed after each answer
+-- The head of the response. The connection is closed after each response.
 unfoldable pub front_of : (status : ℕ) → List ℕ → Option AdminRoute → (size : ℕ) → List ℕ
 front_of status media refused size =
     status_line status
@@ -59,18 +59,18 @@ front_of status media refused size =
     ++ line (codes "Connection: close")
     ++ line []
 
--- the whole answer: its length is that of the body
+-- The complete response, with the length of its body.
 abbrev pub text_of : (status : ℕ) → List ℕ → Option AdminRoute → (body : List ℕ) → List ℕ
 text_of status media refused body = front_of status media refused (length body) ++ body
 
--- the body that tells how the service is
+-- The body that gives the health of the service.
 abbrev pub words_of : Health → List ℕ
 words_of state.Serving = codes "serving\n"
 words_of state.Failing = codes "failing: the database did not keep the last changes that it was given\n"
 words_of state.Stopped = codes "stopped: the database failed, and no call is answered any more\n"
 words_of state.Stopping = codes "stopping: it was told to end\n"
 
--- The answer to what was asked, by how the service is.
+-- Holds if this is the response to a request, given the health of the service.
 abbrev pub Answers : AdminRequest → Health → (text : List ℕ) → Type 0
 Answers (Does page.Health) health text =
     text ≡ text_of (status_of (Does page.Health) health) (type_of None) None (words_of health)
@@ -88,7 +88,7 @@ Answers (Refuses p) health text =
 Answers Unknown health text =
     (body : List ℕ) × (text ≡ text_of (status_of Unknown health) (type_of None) None body)
 
--- The answer to one who asked for a backup, by what became of it.
+-- Holds if this is the response to a request for a backup, given its result.
 abbrev pub AnswersBackup : BackupResult → (text : List ℕ) → Type 0
 AnswersBackup backup text =
     text ≡ text_of (backups.status_of backup) (type_of None) None (backups.words_of backup)

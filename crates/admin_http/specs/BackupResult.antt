@@ -1,22 +1,22 @@
--- Backups that are asked for at the operator's port.
+-- Backups that are requested on the admin port.
 use Rattle.std.specs.Prelude.{◌≡◌, ◌==◌, ◌&&◌, ◌||◌, ◌++◌, ◌≤◌, ℕ, Bool, true, List, nat_le, length, codes, decimal}
 use Rattle.std.specs.List.{list_all}
 use Rattle.admin_http.specs.declared.backup.BackupResult.{BackupResult}
 use Rattle.admin_http.specs.declared.backup.BackupResult.TheVariants as backup
 
--- from the first byte to the last one
+-- True if a byte is in this range.
 abbrev pub is_from : (first last : ℕ) → ℕ → Bool
 is_from first last b = nat_le first b && nat_le b last
 
--- an ASCII letter or digit, '-' or '_'
+-- True for an ASCII letter or digit, '-' or '_'.
 abbrev pub is_name_byte : ℕ → Bool
 is_name_byte b = is_from 48 57 b || is_from 65 90 b || is_from 97 122 b || b == 45 || b == 95
 
--- a name is a word of 1 to 64 such bytes
+-- Holds if a name has 1 to 64 such bytes.
 abbrev pub IsName : List ℕ → Type 0
 IsName name = (1 ≤ length name) × (length name ≤ 64) × (list_all is_name_byte name ≡ true)
 
--- the query names a backup
+-- Holds if the query names a backup.
 abbrev pub Names : (query name : List ℕ) → Type 0
 Names query name = (query ≡ codes "name=" ++ name) × IsName name
 
@@ -31,7 +31,7 @@ status_of backup.ReadFailed = 503
 status_of backup.TooManyChanges = 503
 status_of backup.Memory = 503
 
--- the body of the answer
+-- The body of the response.
 abbrev pub words_of : BackupResult → List ℕ
 words_of (backup.Made size) = codes "made: " ++ (decimal size ++ codes " bytes\n")
 words_of backup.InvalidName = codes "name: 1 to 64 letters, digits, - and _\n"

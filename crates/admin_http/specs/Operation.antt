@@ -5,12 +5,12 @@ use Rattle.entity_core.specs.declared.nature.Kind.TheVariants as kinds
 use Rattle.policy_core.specs.declared.call.OpKind.{OpKind}
 use Rattle.policy_core.specs.declared.call.OpKind.TheVariants as operations
 
--- the word of two that is for the kind
+-- The word for the kind, of two words.
 abbrev pub of_entities : Kind → List ℕ → List ℕ → List ℕ
 of_entities kinds.Intent of_intents of_constraints = of_intents
 of_entities kinds.Constraint of_intents of_constraints = of_constraints
 
--- what a request asks for
+-- The word for the requested operation.
 abbrev pub operation_word : Option OpKind → List ℕ
 operation_word None = codes "none"
 operation_word (Some (operations.Query kind)) =

@@ -1,4 +1,4 @@
--- How a service is, as it is counted.
+-- The health of a service.
 use Rattle.admin_http.specs.declared.admin_route.Health.{Health}
 use Rattle.admin_http.specs.declared.admin_route.Health.TheVariants as state
 use Rattle.admin_http.specs.declared.service_metrics.ServiceMetrics.{ServiceMetrics}
@@ -6,21 +6,21 @@ use Rattle.admin_http.specs.declared.service_metrics.ServiceMetrics.{ServiceMetr
 abbrev pub health_of : ServiceMetrics → Health
 health_of figures = figures.health
 
--- how it is once changes were not kept
+-- The health after a failed commit.
 abbrev pub when_failing : Health → Health
 when_failing state.Serving = state.Failing
 when_failing state.Failing = state.Failing
 when_failing state.Stopped = state.Stopped
 when_failing state.Stopping = state.Stopping
 
--- how it is once a change was kept
+-- The health after a successful commit.
 abbrev pub when_kept : Health → Health
 when_kept state.Serving = state.Serving
 when_kept state.Failing = state.Serving
 when_kept state.Stopped = state.Stopped
 when_kept state.Stopping = state.Stopping
 
--- how it is once no call is answered any more
+-- The health after the store failed for good.
 abbrev pub when_broken : Health → Health
 when_broken state.Serving = state.Stopped
 when_broken state.Failing = state.Stopped

@@ -1,15 +1,15 @@
-//! What a request of the operator's port asks for.
+//! The routes of the admin port.
 ghost use Rattle.std.specs.Prelude.{◌≡◌, IfNone, IfSome};
 ghost use Rattle.admin_http.specs.AdminRequest.{IsAsked, IsNoPath, method_of, path_of, status_of};
 
-/// What is had at a path of the operator's port.
+/// An endpoint of the admin port.
 #[derive(Clone, Copy, Debug, PartialEq, Eq)]
 pub enum AdminRoute {
-    /// Whether the service answers.
+    /// The health of the service.
     Health,
-    /// What was counted.
+    /// The metrics.
     Metrics,
-    /// The end of the service.
+    /// The stop of the service.
     Stop,
     /// A backup of the database.
     Backup,
@@ -17,32 +17,32 @@ pub enum AdminRoute {
     Airspace,
 }
 
-/// What a method and a path ask for.
+/// The result of routing a method and a path.
 #[derive(Clone, Copy, Debug, PartialEq, Eq)]
 pub enum AdminRequest {
-    /// The page, by its method.
+    /// A request for the endpoint, with its method.
     Does(AdminRoute),
-    /// The page, by a method that it does not take.
+    /// A request for the endpoint, with a method that it does not allow.
     Refuses(AdminRoute),
-    /// No page.
+    /// A request for no endpoint.
     Unknown,
 }
 
-/// How the service is.
+/// The health of the service.
 #[derive(Clone, Copy, Debug, PartialEq, Eq)]
 pub enum Health {
-    /// It answers.
+    /// It answers calls.
     Serving,
-    /// It answers, and the last changes were not kept.
+    /// It answers calls, and the last commit failed.
     Failing,
-    /// It answers no call any more.
+    /// It answers no calls any more.
     Stopped,
-    /// It was told to end.
+    /// An operator requested its stop.
     Stopping,
 }
 
 impl AdminRoute {
-    /// The one method that it takes.
+    /// Returns the only method that it allows.
     pub fn method(self) -> &'static str
         ensures { result.now ≡ method_of self }
     {
@@ -56,7 +56,7 @@ impl AdminRoute {
     }
 }
 
-// The page of a path.
+// Returns the endpoint of a path.
 fn page_at(path: &[u8]) -> Option<AdminRoute>
     ensures some { IfSome result (λ page. path.now ≡ path_of page) }
     ensures none { IfNone result (IsNoPath path.now) }
@@ -79,7 +79,7 @@ fn page_at(path: &[u8]) -> Option<AdminRoute>
     None
 }
 
-/// What a method and a path ask for.
+/// Routes a method and a path.
 pub fn route_request(method: &[u8], path: &[u8]) -> AdminRequest
     ensures { IsAsked method.now path.now result }
 {
@@ -93,7 +93,7 @@ pub fn route_request(method: &[u8], path: &[u8]) -> AdminRequest
     }
 }
 
-/// The status of the answer.
+/// Returns the status of the response.
 pub fn request_status(asked: AdminRequest, health: Health) -> u16
     ensures { result ≡ status_of asked health }
 {

@@ -1,4 +1,4 @@
-//! The answer to one who asks for the airspace.
+//! The response to a request for the airspace.
 ghost use Rattle.std.specs.Prelude.{◌≡◌, IfOk};
 ghost use Rattle.admin_http.specs.Airspace.{AnswersAirspace, words_of};
 
@@ -9,7 +9,7 @@ use admin_airspace::shown_page::page_text;
 use space_snapshot::snapshot::{NoMirror, Snapshot};
 use std::alloc::{AllocError, Global};
 
-// Why nothing is shown, in words.
+// Returns the reason why nothing is shown, in words.
 fn no_copy_words(why: NoMirror) -> &'static str
     ensures { result.now ≡ words_of why }
 {
@@ -19,8 +19,8 @@ fn no_copy_words(why: NoMirror) -> &'static str
     }
 }
 
-/// The answer to one who asks for the airspace with a query: a page of what is shown, or why
-/// nothing is, or that there is no such query.
+/// Returns the response to a request for the airspace with a query: a page of the snapshot, the
+/// reason why there is none, or a rejection of the query.
 pub fn airspace_answer(
     alloc: Global,
     query: &str,

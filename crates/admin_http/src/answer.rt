@@ -1,4 +1,4 @@
-//! The answers of the operator's port.
+//! The responses of the admin port.
 ghost use Rattle.std.specs.Prelude.{◌≡◌, IfOk};
 ghost use Rattle.std.specs.String.{string_bytes};
 ghost use Rattle.admin_http.specs.Answer.{Answers, AnswersBackup, allow_line, front_of, length_line, reason_of, status_line, text_of, type_line, type_of, words_of};
@@ -12,7 +12,7 @@ use crate::service_metrics::ServiceMetrics;
 use std::alloc::{AllocError, Global};
 use wire_head::rule::WireRule;
 
-// The reason phrase of a status.
+// Returns the reason phrase of a status.
 #[tactic(auto, unfolding(crate::specs::Answer::reason_of))]
 fn reason_of(status: u16) -> &'static str
     ensures { result.now ≡ reason_of status }
@@ -30,7 +30,7 @@ fn reason_of(status: u16) -> &'static str
     }
 }
 
-// The media type of a body.
+// Returns the media type of a body.
 fn type_of(page: Option<AdminRoute>) -> &'static str
     ensures { result.now ≡ type_of page }
 {
@@ -41,7 +41,7 @@ fn type_of(page: Option<AdminRoute>) -> &'static str
     }
 }
 
-// The line that tells which method a page takes, where one was refused.
+// Returns the header `Allow` with the method of an endpoint, if another method was rejected.
 fn allow_line(alloc: Global, refused: Option<AdminRoute>) -> Result<String, AllocError>
     ensures { IfOk result (λ line. string_bytes line ≡ allow_line refused) }
 {
@@ -54,7 +54,7 @@ fn allow_line(alloc: Global, refused: Option<AdminRoute>) -> Result<String, Allo
     Ok(line)
 }
 
-// The status line.
+// Returns the status line.
 #[tactic(auto, unfolding(crate::specs::Answer::status_line))]
 fn status_line(alloc: Global, status: u16) -> Result<String, AllocError>
     ensures { IfOk result (λ text. string_bytes text ≡ status_line status) }
@@ -65,7 +65,7 @@ fn status_line(alloc: Global, status: u16) -> Result<String, AllocError>
     Ok(text)
 }
 
-// The line that tells what the body is.
+// Returns the header with the media type of the body.
 #[tactic(auto, unfolding(crate::specs::Answer::type_line))]
 fn type_line(alloc: Global, media: &str) -> Result<String, AllocError>
     ensures { IfOk result (λ text. string_bytes text ≡ type_line media.now) }
@@ -76,7 +76,7 @@ fn type_line(alloc: Global, media: &str) -> Result<String, AllocError>
     Ok(text)
 }
 
-// The line that tells the length of the body.
+// Returns the header with the length of the body.
 #[tactic(auto, unfolding(crate::specs::Answer::length_line))]
 fn length_line(alloc: Global, size: usize) -> Result<String, AllocError>
     ensures { IfOk result (λ text. string_bytes text ≡ length_line size) }
@@ -84,7 +84,7 @@ fn length_line(alloc: Global, size: usize) -> Result<String, AllocError>
     format!(in alloc; "Content-Length: {size}\r\n")
 }
 
-// What stands before the body.
+// Returns the head of the response.
 #[tactic(auto, unfolding(crate::specs::Answer::front_of))]
 fn front_of(
     alloc: Global,
@@ -104,7 +104,7 @@ fn front_of(
     Ok(front)
 }
 
-// The answer of these parts.
+// Returns the response with this status, media type and body.
 pub(crate) fn whole(
     alloc: Global,
     status: u16,
@@ -120,7 +120,7 @@ pub(crate) fn whole(
     Ok(text)
 }
 
-// How the service is, in words.
+// Returns the health of the service, in words.
 fn health_words(health: Health) -> &'static str
     ensures { result.now ≡ words_of health }
 {
@@ -133,8 +133,8 @@ fn health_words(health: Health) -> &'static str
     }
 }
 
-/// The answer to what was asked. To one who asks for a backup it is that where there is no folder
-/// for them, and to one who asks for the airspace that where nothing is shown.
+/// Returns the response to a request. For a backup it is the response without a backup directory,
+/// and for the airspace the one without a snapshot.
 pub fn answer(
     alloc: Global,
     asked: AdminRequest,
@@ -183,7 +183,7 @@ pub fn answer(
     }
 }
 
-/// The answer to one who asked for a backup, by what became of it.
+/// Returns the response to a request for a backup, given its result.
 pub fn backup_answer(alloc: Global, backup: BackupResult) -> Result<Vec<u8>, AllocError>
     ensures { IfOk result (λ text. AnswersBackup backup text.items) }
 {
@@ -197,7 +197,7 @@ pub fn backup_answer(alloc: Global, backup: BackupResult) -> Result<Vec<u8>, All
     )
 }
 
-/// The answer where a rule of the wire is broken.
+/// Returns the response to a request that breaks a protocol rule.
 pub fn refusal(alloc: Global, rule: WireRule) -> Result<Vec<u8>, AllocError> {
     whole(alloc, rule.status(), None, None, "no such request\n")
 }

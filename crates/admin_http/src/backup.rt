@@ -1,4 +1,4 @@
-//! Backups that are asked for at the operator's port: their names, and what is answered.
+//! Backups that are requested on the admin port: their names and results.
 ghost use Rattle.std.specs.Prelude.{◌≡◌, List, ℕ, IfOk, IfNone, IfSome};
 ghost use Rattle.std.specs.List.{list_all};
 ghost use Rattle.std.specs.String.{string_bytes};
@@ -6,27 +6,27 @@ ghost use Rattle.admin_http.specs.BackupResult.{Names, is_name_byte, status_of, 
 
 use std::alloc::{AllocError, Global};
 
-/// The most bytes of a backup's name.
+/// The maximum length of a backup's name in bytes.
 pub const MAX_NAME_BYTES: usize = 64;
 
-/// What became of a backup that was asked for.
+/// The result of a requested backup.
 #[derive(Clone, Copy, Debug, PartialEq, Eq)]
 pub enum BackupResult {
-    /// It is there, with so many bytes.
+    /// It is complete, with so many bytes.
     Made(u64),
     /// Its name is not 1 to 64 letters, digits, `-` and `_`.
     InvalidName,
-    /// There is no folder for backups.
+    /// There is no backup directory.
     NoDirectory,
-    /// One of its name is there.
+    /// A backup of that name exists.
     Exists,
-    /// Another one is being made.
+    /// Another backup is in progress.
     Busy,
     /// It cannot be written.
     WriteFailed,
-    /// The database's files cannot be read.
+    /// The database files cannot be read.
     ReadFailed,
-    /// The database was changed faster than it is read.
+    /// The database changed faster than it was read.
     TooManyChanges,
     /// Memory ran out.
     Memory,
@@ -40,7 +40,7 @@ fn has_name_bytes(text: &str) -> bool
         .all(|b| b.is_ascii_alphanumeric() || *b == b'-' || *b == b'_')
 }
 
-/// The backup's name in a query `name=WORD`, of 1 to 64 letters, digits, `-` and `_`.
+/// Returns the name of the backup in a query `name=WORD`, of 1 to 64 letters, digits, `-` and `_`.
 pub fn name_in(query: &str) -> Option<&str>
     ensures some { IfSome result (λ name. Names query.now name.now) }
     ensures none { IfNone result (¬ ((name : List ℕ) × Names query.now name)) }
@@ -52,7 +52,7 @@ pub fn name_in(query: &str) -> Option<&str>
     Some(name)
 }
 
-/// The status of the answer.
+/// Returns the status of the response.
 pub fn backup_status(backup: BackupResult) -> u16
     ensures { result ≡ status_of backup }
 {
@@ -69,7 +69,7 @@ pub fn backup_status(backup: BackupResult) -> u16
     }
 }
 
-// The body of the answer.
+// Returns the body of the response.
 pub(crate) fn backup_words(alloc: Global, backup: BackupResult) -> Result<String, AllocError>
     ensures { IfOk result (λ text. string_bytes text ≡ words_of backup) }
 {

@@ -1,20 +1,20 @@
-//! What stays as it is while a service runs.
+//! The constant information about a running service.
 use crate::exposition::{Exposition, Label, Metric, MetricKind};
 use std::alloc::AllocError;
 
-/// What stays as it is while a service runs.
+/// The constant information about a running service.
 #[derive(Clone, Copy, Debug)]
 pub struct BuildInfo<'a> {
-    /// When it started, in seconds since 1970.
+    /// The time of its start, in Unix seconds.
     pub started: u64,
     /// The version of the package.
     pub version: &'a str,
-    /// The kit that it was made with.
+    /// The kit with which it was built.
     pub kit: &'a str,
 }
 
 impl<'a> BuildInfo<'a> {
-    /// Puts its lines behind the text.
+    /// Appends its lines to the text.
     pub(crate) fn put(&self, text: &mut Exposition) -> Result<(), AllocError> {
         let started = Metric {
             name: "dss_start_time_seconds",

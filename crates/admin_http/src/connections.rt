@@ -1,24 +1,24 @@
-//! What is counted of clients' connections.
+//! The metrics of clients' connections.
 use crate::exposition::{Exposition, Label, Metric, MetricKind};
 use crate::service_metrics::wide;
 use std::alloc::AllocError;
 
-/// Why a connection was given up.
+/// The cause of an aborted connection.
 #[derive(Clone, Copy, Debug, PartialEq, Eq)]
 pub enum ConnectionFailure {
-    /// A read.
+    /// A read failed.
     Read,
-    /// A write.
+    /// A write failed.
     Write,
-    /// The clock.
+    /// The clock failed.
     Clock,
-    /// A growth of memory was refused.
+    /// A memory allocation failed.
     Memory,
-    /// The reads that one stream may take are used up.
+    /// The maximum number of reads of one stream was reached.
     Turns,
 }
 
-// How many connections were given up, by their causes.
+// The number of aborted connections, by cause.
 #[derive(Clone, Copy, Debug)]
 struct Failed {
     read: u64,
@@ -28,12 +28,12 @@ struct Failed {
     turns: u64,
 }
 
-/// What is counted of clients' connections.
+/// The metrics of clients' connections.
 #[derive(Clone, Copy, Debug)]
 pub struct ConnectionMetrics {
-    /// How many are open.
+    /// The number of open connections.
     pub open: usize,
-    /// How many clients wait until they may send a large request.
+    /// The number of clients that wait until they may send a large request.
     pub waiting: usize,
     accepted: u64,
     refused: u64,
@@ -41,7 +41,7 @@ pub struct ConnectionMetrics {
 }
 
 impl ConnectionMetrics {
-    /// There was none.
+    /// Creates metrics of zero.
     pub(crate) fn new() -> ConnectionMetrics {
         ConnectionMetrics {
             open: 0,
@@ -58,17 +58,17 @@ impl ConnectionMetrics {
         }
     }
 
-    /// One was accepted.
+    /// Counts an accepted connection.
     pub fn accept(&mut self) {
         self.accepted = self.accepted.saturating_add(1);
     }
 
-    /// One was closed at once.
+    /// Counts a connection that was closed at once.
     pub fn refuse(&mut self) {
         self.refused = self.refused.saturating_add(1);
     }
 
-    /// One was given up.
+    /// Counts an aborted connection.
     pub fn fail(&mut self, cause: ConnectionFailure) {
         let failed = &mut self.failed;
         let count = match cause {
@@ -81,7 +81,7 @@ impl ConnectionMetrics {
         *count = (*count).saturating_add(1);
     }
 
-    // Those that were given up, by their causes.
+    // Appends the samples of aborted connections, by cause.
     fn put_failed(&self, text: &mut Exposition) -> Result<(), AllocError> {
         let metric = Metric {
             name: "dss_connections_failed_total",
@@ -107,7 +107,7 @@ impl ConnectionMetrics {
         Ok(())
     }
 
-    /// Puts their lines behind the text.
+    /// Appends their lines to the text.
     pub(crate) fn put(&self, text: &mut Exposition) -> Result<(), AllocError> {
         let open = Metric {
             name: "dss_connections_open",

@@ -1,4 +1,4 @@
-//! How long things took, by bounds.
+//! Histograms of durations.
 ghost use Rattle.std.specs.Duration.{as_nanos};
 ghost use Rattle.admin_http.specs.Durations.{IsPlace};
 
@@ -6,7 +6,7 @@ use crate::exposition::{Exposition, Label};
 use std::alloc::AllocError;
 use std::time::Duration;
 
-// The bounds, in nanoseconds, and how each is written in seconds.
+// The bounds in nanoseconds, and their text in seconds.
 const BOUNDS: [u128; 12] = [
     500_000,
     1_000_000,
@@ -27,14 +27,15 @@ const WRITTEN: [&str; 13] = [
     "2.5", "+Inf",
 ];
 
-/// How long things took: how many between each two bounds, and their sum.
+/// A histogram of durations: the count of each bucket, and the sum.
 #[derive(Clone, Copy, Debug)]
 pub(crate) struct Durations {
     between: [u64; 13],
     sum: Duration,
 }
 
-// The place of the first bound that it does not exceed; behind all of them where there is none.
+// Returns the index of the first bound that the duration does not exceed, or the number of bounds
+// if it exceeds all.
 fn place_of(took: Duration) -> usize
     ensures { IsPlace (as_nanos took) result }
 {
@@ -47,7 +48,7 @@ fn place_of(took: Duration) -> usize
     BOUNDS.len()
 }
 
-// Puts the sample of those that took at most so long.
+// Appends the sample of the durations up to a bound.
 fn put_bucket(
     text: &mut Exposition,
     operation: &str,
@@ -68,7 +69,7 @@ fn put_bucket(
 }
 
 impl Durations {
-    /// Nothing was done.
+    /// Creates an empty histogram.
     pub(crate) fn new() -> Durations {
         Durations {
             between: [0; 13],
@@ -76,7 +77,7 @@ impl Durations {
         }
     }
 
-    /// Something took so long.
+    /// Adds a duration.
     pub(crate) fn note(&mut self, took: Duration) {
         if let Some(count) = self.between.get_mut(place_of(took)) {
             *count = (*count).saturating_add(1);
@@ -84,13 +85,13 @@ impl Durations {
         self.sum = self.sum.saturating_add(took);
     }
 
-    /// Whether nothing was done.
+    /// Returns true if it has no duration.
     pub(crate) fn is_empty(&self) -> bool {
         self.between.iter().all(|count| *count == 0)
     }
 
-    /// Puts its samples behind the text, under three names: the counts of those that took at most
-    /// so long, the sum, and the count of all.
+    /// Appends its samples to the text, under three names: the cumulative counts of the buckets,
+    /// the sum, and the total count.
     pub(crate) fn put(&self, text: &mut Exposition, operation: &str) -> Result<(), AllocError> {
         let mut count = 0_u64;
         for (bound, between) in WRITTEN.iter().zip(self.between.iter()) {

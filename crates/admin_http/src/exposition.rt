@@ -1,20 +1,20 @@
-//! The text format of Prometheus: what is told of a name, and its samples.
+//! The text format of Prometheus: the description of a metric, and its samples.
 use std::alloc::{AllocError, Global};
 use std::time::Duration;
 
-/// What a name counts.
+/// The type of a metric.
 #[derive(Clone, Copy, Debug, PartialEq, Eq)]
 pub(crate) enum MetricKind {
-    /// What only grows.
+    /// A value that only increases.
     Counter,
-    /// What grows and falls.
+    /// A value that increases and decreases.
     Gauge,
-    /// How many were at most so great, by bounds.
+    /// Cumulative counts by bounds.
     Histogram,
 }
 
 impl MetricKind {
-    // Its word.
+    // Returns its word in the format.
     fn word(self) -> &'static str {
         match self {
             MetricKind::Counter => "counter",
@@ -24,30 +24,30 @@ impl MetricKind {
     }
 }
 
-/// A name, with what it counts.
+/// A metric's name, type and help text.
 #[derive(Clone, Copy, Debug)]
 pub(crate) struct Metric<'a> {
     pub(crate) name: &'a str,
     pub(crate) kind: MetricKind,
-    /// One sentence, on one line and without a backslash.
+    /// The help text: one sentence, on one line and without a backslash.
     pub(crate) help: &'a str,
 }
 
-/// A label of a sample, and its value, any text.
+/// A label of a sample, with any text as its value.
 #[derive(Clone, Copy, Debug)]
 pub(crate) struct Label<'a> {
     pub(crate) name: &'a str,
     pub(crate) value: &'a str,
 }
 
-/// A text of samples, which grows.
+/// A growing text of samples.
 #[derive(Drop)]
 pub(crate) struct Exposition {
     alloc: Global,
     text: String,
 }
 
-// The value of a label as it stands between quotes.
+// Escapes the value of a label for use between quotes.
 fn quoted(alloc: Global, value: &str) -> Result<String, AllocError> {
     let slashed = value.replace(alloc, '\\', "\\\\")?;
     let joined = slashed.as_str().replace(alloc, '\n', "\\n")?;
@@ -55,7 +55,7 @@ fn quoted(alloc: Global, value: &str) -> Result<String, AllocError> {
 }
 
 impl Exposition {
-    /// A text of no sample.
+    /// Creates an empty text.
     pub(crate) fn new(alloc: Global) -> Exposition {
         Exposition {
             alloc,
@@ -63,12 +63,12 @@ impl Exposition {
         }
     }
 
-    /// The text.
+    /// Returns the text.
     pub(crate) fn into_text(self) -> String {
         self.text
     }
 
-    /// Tells of a name, whose samples follow.
+    /// Appends the description of a metric, whose samples follow.
     pub(crate) fn describe(&mut self, metric: Metric<'_>) -> Result<(), AllocError> {
         let Metric { name, kind, help } = metric;
         let word = kind.word();
@@ -76,7 +76,7 @@ impl Exposition {
         self.text.push_str(lines.as_str())
     }
 
-    // What stands before the number of a sample.
+    // Appends the part of a sample before its number.
     fn begin(&mut self, name: &str, labels: &[Label<'_>]) -> Result<(), AllocError> {
         self.text.push_str(name)?;
         let mut before = "{";
@@ -93,7 +93,7 @@ impl Exposition {
             .push_str(if labels.is_empty() { " " } else { "} " })
     }
 
-    /// A sample of a name.
+    /// Appends a sample.
     pub(crate) fn sample(
         &mut self,
         name: &str,
@@ -105,7 +105,7 @@ impl Exposition {
         self.text.push_str(end.as_str())
     }
 
-    /// A sample that is a time, in seconds.
+    /// Appends a sample of a duration in seconds.
     pub(crate) fn sample_seconds(
         &mut self,
         name: &str,
@@ -118,7 +118,7 @@ impl Exposition {
         self.text.push_str(end.as_str())
     }
 
-    /// A name of one number.
+    /// Appends a metric with one sample.
     pub(crate) fn one(&mut self, metric: Metric<'_>, number: u64) -> Result<(), AllocError> {
         self.describe(metric)?;
         self.sample(metric.name, &[], number)

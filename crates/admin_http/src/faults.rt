@@ -1,11 +1,11 @@
-//! What is counted of faults of the machine.
+//! The metrics of failures of the machine.
 use crate::exposition::{Exposition, Metric, MetricKind};
 use std::alloc::AllocError;
 
-/// How often what the service stands on failed.
+/// The numbers of failures of the store, of memory, of the clock and of the access log.
 #[derive(Clone, Copy, Debug)]
 pub struct FailureMetrics {
-    /// How many lines of the log of requests could not be written.
+    /// The number of dropped lines of the access log.
     pub lost_lines: u64,
     store: u64,
     memory: u64,
@@ -13,7 +13,7 @@ pub struct FailureMetrics {
 }
 
 impl FailureMetrics {
-    /// Nothing failed.
+    /// Creates metrics of zero.
     pub(crate) fn new() -> FailureMetrics {
         FailureMetrics {
             lost_lines: 0,
@@ -23,22 +23,22 @@ impl FailureMetrics {
         }
     }
 
-    /// Changes were not kept.
+    /// Counts a failed commit.
     pub(crate) fn note_store(&mut self) {
         self.store = self.store.saturating_add(1);
     }
 
-    /// A growth of memory was refused.
+    /// Counts a failed memory allocation.
     pub fn note_memory(&mut self) {
         self.memory = self.memory.saturating_add(1);
     }
 
-    /// The clock told no time.
+    /// Counts a failed reading of the clock.
     pub fn note_clock(&mut self) {
         self.clock = self.clock.saturating_add(1);
     }
 
-    /// Puts their lines behind the text.
+    /// Appends their lines to the text.
     pub(crate) fn put(&self, text: &mut Exposition) -> Result<(), AllocError> {
         let store = Metric {
             name: "dss_store_failures_total",

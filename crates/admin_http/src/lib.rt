@@ -1,4 +1,4 @@
-//! The operator's port, below sockets: what bytes ask for there, and the answer.
+//! The admin port above sockets: parses requests, and prepares responses.
 #![tactic(auto)]
 
 pub mod admin_route;

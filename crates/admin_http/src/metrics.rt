@@ -1,11 +1,10 @@
-//! What was counted, in the text format of Prometheus.
+//! The metrics in the text format of Prometheus.
 use crate::build::BuildInfo;
 use crate::exposition::Exposition;
 use crate::service_metrics::ServiceMetrics;
 use std::alloc::{AllocError, Global};
 
-/// What was counted, in the text format of Prometheus: the lines of one group of figures after the
-/// other.
+/// Returns the metrics in the text format of Prometheus, group by group.
 pub(crate) fn metrics(
     alloc: Global,
     figures: &ServiceMetrics,

@@ -5,7 +5,7 @@ ghost use Rattle.admin_http.specs.Operation.{of_entities, operation_word};
 use entity_core::nature::Kind;
 use policy_core::call::OpKind;
 
-/// Every operation, and after them that of a request that asks for none.
+/// Every operation, and then `None` for a request without one.
 pub(crate) const OPERATIONS: [Option<OpKind>; 18] = [
     Some(OpKind::Query(Kind::Intent)),
     Some(OpKind::Read(Kind::Intent)),
@@ -27,7 +27,7 @@ pub(crate) const OPERATIONS: [Option<OpKind>; 18] = [
     None,
 ];
 
-// The word for an operation on entities of a kind, which names one or many.
+// Returns the word for an operation on one or many entities of a kind.
 fn of_entities(kind: Kind, of_intents: &'static str, of_constraints: &'static str) -> &'static str
     ensures { result.now ≡ of_entities kind of_intents.now of_constraints.now }
 {
@@ -37,7 +37,7 @@ fn of_entities(kind: Kind, of_intents: &'static str, of_constraints: &'static st
     }
 }
 
-/// The word for what a request asks for: the operation's, or `none` where it asks for none.
+/// Returns the word for the requested operation, or `none` if there is none.
 pub fn operation_name(operation: Option<OpKind>) -> &'static str
     ensures { result.now ≡ operation_word operation }
 {

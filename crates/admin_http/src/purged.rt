@@ -1,33 +1,33 @@
-//! What is counted of what had ended and was let go of.
+//! The metrics of purges.
 use crate::exposition::{Exposition, Metric, MetricKind};
 use crate::service_metrics::wide;
 use std::alloc::AllocError;
 
-/// How much went, and how often nothing could.
+/// The numbers of purged items and of failed purges.
 #[derive(Clone, Copy, Debug)]
 pub struct PurgeMetrics {
-    // how many intents, constraints and subscriptions went
+    // The number of purged intents, constraints and subscriptions.
     gone: u64,
     faults: u64,
 }
 
 impl PurgeMetrics {
-    /// Nothing went.
+    /// Creates metrics of zero.
     pub(crate) fn new() -> PurgeMetrics {
         PurgeMetrics { gone: 0, faults: 0 }
     }
 
-    /// So many went.
+    /// Counts purged items.
     pub fn note_gone(&mut self, count: usize) {
         self.gone = self.gone.saturating_add(wide(count));
     }
 
-    /// None could go.
+    /// Counts a failed purge.
     pub fn note_fault(&mut self) {
         self.faults = self.faults.saturating_add(1);
     }
 
-    /// Puts their lines behind the text.
+    /// Appends their lines to the text.
     pub(crate) fn put(&self, text: &mut Exposition) -> Result<(), AllocError> {
         let gone = Metric {
             name: "dss_purged_total",

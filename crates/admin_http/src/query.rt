@@ -2,7 +2,7 @@
 ghost use Rattle.std.specs.Prelude.{◌≡◌};
 ghost use Rattle.admin_http.specs.Query.{query_of};
 
-/// The query of a target: what stands after the first `?`. Nothing where there is none.
+/// Returns the query of a target: the text after the first `?`, or an empty text.
 pub fn query_of(target: &str) -> &str
     ensures { result.now ≡ query_of target.now }
 {

@@ -1,4 +1,4 @@
-//! What the bytes of a connection to the operator's port ask for.
+//! The parser of requests to the admin port.
 ghost use Rattle.std.specs.Prelude.{◌≤◌, length};
 ghost use Rattle.httparse.specs.Spans.{IsRequestWithin};
 
@@ -10,24 +10,24 @@ use wire_head::rest::{PartialHead, head_so_far};
 use wire_head::rule::WireRule;
 use wire_head::target::path_of;
 
-/// The most bytes of a head, the empty lines before it among them.
+/// The maximum length of a head in bytes, including empty lines before it.
 pub const HEAD_LIMIT: usize = 8192;
 
-/// The most bytes of a body.
+/// The maximum length of a body in bytes.
 pub const BODY_LIMIT: usize = 1024;
 
-/// What bytes so far say.
+/// The result of parsing the bytes so far.
 #[derive(Clone, Copy, Debug, PartialEq, Eq)]
 pub enum RequestParse<'a> {
-    /// Nothing yet.
+    /// More bytes are needed.
     Incomplete,
-    /// This, with the query of its target.
+    /// A request, with the query of its target.
     Request(AdminRequest, &'a str),
-    /// That they are no request, by this rule of the wire.
+    /// The bytes break this protocol rule.
     Invalid(WireRule),
 }
 
-// What a method and a target ask for.
+// Parses a method and a target.
 fn said_by_line<'a>(method: &[u8], target: &'a [u8]) -> RequestParse<'a> {
     match str::from_utf8(target) {
         Ok(target) => {
@@ -38,7 +38,7 @@ fn said_by_line<'a>(method: &[u8], target: &'a [u8]) -> RequestParse<'a> {
     }
 }
 
-// What a whole head asks for, once its body is there.
+// Parses a complete head, once its body has arrived.
 fn said_by_head<'a>(
     bytes: &[u8],
     front: &'a [u8],
@@ -61,8 +61,8 @@ fn said_by_head<'a>(
     said_by_line(spans.method.of(front), spans.path.of(front))
 }
 
-/// What the bytes so far say. A request has a head of at most 8 KiB and a body of at most 1 KiB,
-/// which nobody looks at.
+/// Parses the bytes so far. A request has a head of at most 8 KiB and a body of at most 1 KiB,
+/// which is ignored.
 pub fn parse_admin_request(bytes: &[u8]) -> RequestParse<'_> {
     let front = &bytes[..bytes.len().min(HEAD_LIMIT)];
     let mut fields = [EMPTY_HEADER_SPAN; 64];

@@ -1,4 +1,4 @@
-//! What is counted of requests and their answers.
+//! The metrics of requests and their responses.
 use crate::durations::Durations;
 use crate::exposition::{Exposition, Label, Metric, MetricKind};
 use crate::operation::{OPERATIONS, operation_name};
@@ -9,44 +9,44 @@ use std::alloc::{AllocError, Global};
 use std::time::Duration;
 use wire_head::rule::WireRule;
 
-// The statuses of answers to requests.
+// The possible statuses of responses.
 const STATUSES: [u16; 13] = [
     200, 201, 400, 401, 403, 404, 405, 409, 413, 431, 500, 501, 503,
 ];
 
-/// The rule by which a request was refused.
+/// The rule that denied a request.
 #[derive(Clone, Copy, Debug, PartialEq, Eq)]
 pub enum Denial {
-    /// Of the policy.
+    /// A rule of the policy.
     Policy(Rule),
-    /// Of the wire.
+    /// A protocol rule.
     Wire(WireRule),
 }
 
 /// A request that was answered.
 #[derive(Clone, Copy, Debug, PartialEq, Eq)]
 pub struct ResponseRecord {
-    /// What it asked for; none where it was no route, no method or no request.
+    /// The requested operation; `None` if the request has no route, a wrong method or a syntax
+    /// error.
     pub operation: Option<OpKind>,
-    /// The rule that it broke, if it did.
+    /// The rule that denied it, if any.
     pub denial: Option<Denial>,
-    /// The status of the answer.
+    /// The status of the response.
     pub status: u16,
-    /// How many bytes the answer has.
+    /// The size of the response in bytes.
     pub size: usize,
-    /// How long it took from when the request was held whole to when its answer may be sent, where
-    /// the clock told.
+    /// The time from the complete request until the response may be sent, if the clock returned it.
     pub took: Option<Duration>,
 }
 
-// What is counted of the requests for one operation.
+// The metrics of requests for one operation.
 #[derive(Clone, Copy, Debug)]
 struct Served {
     by_status: [u64; 13],
     durations: Durations,
 }
 
-/// What is counted of requests and their answers.
+/// The metrics of requests and their responses.
 #[derive(Clone, Copy, Debug)]
 pub struct RequestMetrics {
     by_operation: [Served; 18],
@@ -55,17 +55,17 @@ pub struct RequestMetrics {
     bytes: u64,
 }
 
-// Counts one more at a place.
+// Increments the count at an index.
 fn count_at(counts: &mut [u64], place: usize) {
     if let Some(count) = counts.get_mut(place) {
         *count = (*count).saturating_add(1);
     }
 }
 
-// The name for how many were answered.
+// The name of the metric of answered requests.
 const ANSWERED: &str = "dss_requests_total";
 
-// Puts the sample of those for an operation that had an answer of that status.
+// Appends the sample of an operation and a status.
 fn put_count(
     text: &mut Exposition,
     operation: &str,
@@ -86,7 +86,7 @@ fn put_count(
 }
 
 impl RequestMetrics {
-    /// There was none.
+    /// Creates metrics of zero.
     pub(crate) fn new() -> RequestMetrics {
         let none = Served {
             by_status: [0; 13],
@@ -100,7 +100,7 @@ impl RequestMetrics {
         }
     }
 
-    // Counts the rule by which one was refused.
+    // Counts a denial by its rule.
     fn note_denial(&mut self, denial: Denial) {
         match denial {
             Denial::Policy(rule) => {
@@ -118,7 +118,7 @@ impl RequestMetrics {
         }
     }
 
-    /// One was answered.
+    /// Counts an answered request.
     pub fn note(&mut self, answered: &ResponseRecord) {
         self.bytes = self.bytes.saturating_add(wide(answered.size));
         if let Some(denial) = answered.denial {
@@ -139,7 +139,7 @@ impl RequestMetrics {
         }
     }
 
-    // How many were answered, by operation and status, where there was any.
+    // Appends the numbers of answered requests, by operation and status, except zeros.
     fn put_answered(&self, text: &mut Exposition, alloc: Global) -> Result<(), AllocError> {
         let metric = Metric {
             name: ANSWERED,
@@ -159,7 +159,7 @@ impl RequestMetrics {
         Ok(())
     }
 
-    // How many were refused, by each rule.
+    // Appends the numbers of denied requests, by rule.
     fn put_denied(&self, text: &mut Exposition, alloc: Global) -> Result<(), AllocError> {
         let metric = Metric {
             name: "dss_requests_denied_total",
@@ -181,7 +181,7 @@ impl RequestMetrics {
         Ok(())
     }
 
-    // How long they took, by operation, where there was any.
+    // Appends the durations, by operation, except empty ones.
     fn put_durations(&self, text: &mut Exposition) -> Result<(), AllocError> {
         text.describe(Metric {
             name: "dss_request_duration_seconds",
@@ -196,7 +196,7 @@ impl RequestMetrics {
         Ok(())
     }
 
-    /// Puts their lines behind the text.
+    /// Appends their lines to the text.
     pub(crate) fn put(&self, text: &mut Exposition, alloc: Global) -> Result<(), AllocError> {
         self.put_answered(text, alloc)?;
         self.put_denied(text, alloc)?;

@@ -1,4 +1,4 @@
-//! What is counted of a service, and how it is.
+//! The metrics and the health of a service.
 ghost use Rattle.std.specs.Prelude.{◌≡◌};
 ghost use Rattle.admin_http.specs.ServiceMetrics.{health_of, when_broken, when_failing, when_kept};
 ghost use Rattle.admin_http.specs.declared.admin_route.Health.TheVariants as health;
@@ -11,7 +11,7 @@ use crate::requests::RequestMetrics;
 use crate::store_metrics::StoreMetrics;
 use crate::tokens::TokenMetrics;
 
-/// The number, for any width of an address.
+/// Converts a number from any address width.
 pub(crate) fn wide(number: usize) -> u64 {
     match u64::try_from(number) {
         Ok(number) => number,
@@ -19,27 +19,27 @@ pub(crate) fn wide(number: usize) -> u64 {
     }
 }
 
-/// What is counted of a service, and how it is. Each group of figures has a module of its own, with
-/// the lines that show it.
+/// The metrics and the health of a service. Each group of metrics has a module of its own, with its
+/// lines.
 #[derive(Clone, Copy, Debug)]
 pub struct ServiceMetrics {
-    /// Clients' connections.
+    /// The metrics of clients' connections.
     pub connections: ConnectionMetrics,
-    /// Requests and their answers.
+    /// The metrics of requests and their responses.
     pub requests: RequestMetrics,
-    /// Faults of the machine.
+    /// The metrics of failures of the machine.
     pub faults: FailureMetrics,
-    /// How much is kept.
+    /// The metrics of the stored airspace.
     pub kept: StoreMetrics,
-    /// What had ended and was let go of.
+    /// The metrics of purges.
     pub purged: PurgeMetrics,
-    /// The token file.
+    /// The metrics of the token file.
     pub tokens: TokenMetrics,
     pub(crate) health: Health,
 }
 
 impl ServiceMetrics {
-    /// Nothing was counted.
+    /// Creates metrics of zero, for a service that answers calls.
     pub fn new() -> ServiceMetrics
         ensures { health_of result ≡ health.Serving }
     {
@@ -54,7 +54,7 @@ impl ServiceMetrics {
         }
     }
 
-    /// A connection was given up.
+    /// Counts an aborted connection.
     pub fn fail(&mut self, cause: ConnectionFailure)
         ensures { health_of self.new ≡ health_of self.old }
     {
@@ -66,7 +66,7 @@ impl ServiceMetrics {
         }
     }
 
-    /// The database did not keep the changes that it was given, and goes on.
+    /// Counts a failed commit after which the database goes on.
     pub fn fail_store(&mut self)
         ensures { health_of self.new ≡ when_failing (health_of self.old) }
     {
@@ -76,7 +76,7 @@ impl ServiceMetrics {
         }
     }
 
-    /// It kept a change.
+    /// Records a successful commit.
     pub fn keep(&mut self)
         ensures { health_of self.new ≡ when_kept (health_of self.old) }
     {
@@ -85,7 +85,8 @@ impl ServiceMetrics {
         }
     }
 
-    /// The database failed so that no call is answered any more, which is counted once.
+    /// Records that the database failed for good, so that no call is answered any more. It is
+    /// counted once.
     pub fn break_store(&mut self)
         ensures { health_of self.new ≡ when_broken (health_of self.old) }
     {
@@ -98,7 +99,7 @@ impl ServiceMetrics {
         }
     }
 
-    /// The service was told to end.
+    /// Records that an operator requested the stop of the service.
     pub fn stop(&mut self)
         ensures { health_of self.new ≡ health.Stopping }
     {

@@ -1,11 +1,11 @@
-//! How much is kept, as its copy in memory tells.
+//! The metrics of the stored airspace, from its mirror.
 use crate::exposition::{Exposition, Label, Metric, MetricKind};
 use crate::service_metrics::wide;
 use entity_core::nature;
 use space_snapshot::snapshot::{NoMirror, Snapshot};
 use std::alloc::AllocError;
 
-// What a copy in memory has.
+// The numbers of a mirror.
 #[derive(Clone, Copy, Debug)]
 struct Numbers {
     intents: u64,
@@ -14,19 +14,19 @@ struct Numbers {
     serial: u64,
 }
 
-/// How much is kept, where there is a copy of it in memory.
+/// The metrics of the stored airspace, if there is a mirror.
 #[derive(Clone, Copy, Debug)]
 pub struct StoreMetrics {
     numbers: Option<Numbers>,
 }
 
 impl StoreMetrics {
-    /// Nothing is known of it.
+    /// Creates metrics without a mirror.
     pub(crate) fn unknown() -> StoreMetrics {
         StoreMetrics { numbers: None }
     }
 
-    /// What is shown, counted.
+    /// Counts the items of a snapshot.
     pub fn of(shown: Result<Snapshot<'_>, NoMirror>) -> StoreMetrics {
         match shown {
             Ok(shown) => StoreMetrics {
@@ -41,7 +41,7 @@ impl StoreMetrics {
         }
     }
 
-    // Puts the lines of a copy behind the text.
+    // Appends the lines of a mirror to the text.
     fn put_numbers(text: &mut Exposition, numbers: Numbers) -> Result<(), AllocError> {
         let entities = Metric {
             name: "dss_entities",
@@ -74,7 +74,7 @@ impl StoreMetrics {
         text.one(serial, numbers.serial)
     }
 
-    /// Puts their lines behind the text: without a copy only that there is none.
+    /// Appends their lines to the text. Without a mirror, the only line says so.
     pub(crate) fn put(&self, text: &mut Exposition) -> Result<(), AllocError> {
         let copy = Metric {
             name: "dss_mirror_up",

@@ -1,19 +1,19 @@
-//! What is counted of the token file.
+//! The metrics of the token file.
 use crate::exposition::{Exposition, Metric, MetricKind};
 use std::alloc::AllocError;
 use std::time::Duration;
 
-/// When the table of tokens that is in force was read, and how often one was not taken.
+/// The load time of the active token table, and the number of rejected reloads.
 #[derive(Clone, Copy, Debug)]
 pub struct TokenMetrics {
-    /// How long after the start of the service.
+    /// The load time since the start of the service.
     pub read: Duration,
-    /// How many token files that changed were not taken.
+    /// The number of changed token files that were rejected.
     pub refusals: u64,
 }
 
 impl TokenMetrics {
-    /// The table of the start.
+    /// Creates the metrics of the table of the start.
     pub fn new() -> TokenMetrics {
         TokenMetrics {
             read: Duration::from_secs(0),
@@ -21,8 +21,7 @@ impl TokenMetrics {
         }
     }
 
-    /// Puts their lines behind the text, where the service started at that moment, in seconds since
-    /// 1970.
+    /// Appends their lines to the text. `started` is the start of the service in Unix seconds.
     pub(crate) fn put(&self, text: &mut Exposition, started: u64) -> Result<(), AllocError> {
         let read = Metric {
             name: "dss_tokens_loaded_time_seconds",

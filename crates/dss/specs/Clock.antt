@@ -1,11 +1,11 @@
--- What the clock of the system tells.
+-- The readings of the system clock.
 use Rattle.std.specs.Prelude.{ℕ}
 use Rattle.dss.specs.declared.clock.SystemClock.{SystemClock}
 
--- A reading may be any moment: nothing is claimed of time.
+-- A reading can be any time: nothing is claimed of it.
 abbrev pub GivesMoment : SystemClock → ℕ → SystemClock → Type 0
 GivesMoment old moment new = Unit {0}
 
--- how often no moment could be told
+-- The number of failed readings.
 abbrev pub failures_of : SystemClock → ℕ
 failures_of clock = clock.failures

@@ -1,4 +1,4 @@
-//! The command `backup`: a copy of a database that nothing has open.
+//! The command `backup`: a backup of a database that no process has open.
 use crate::copying::{Copying, is_free};
 use dss_command::copy_fault::CopyFault;
 use dss_command::fault::{Fault, io_fault};
@@ -8,7 +8,7 @@ use sqlite::Start;
 use std::fs;
 use std::fs::File;
 
-// The file of a database that is there: none is made in order to copy it.
+// Returns an error if there is no such file. An open would create one in order to copy it.
 fn is_database(rt: &HostRuntime, name: &str) -> Result<(), Fault> {
     match fs::metadata(rt, name) {
         Ok(found) if found.is_file() => Ok(()),
@@ -37,7 +37,7 @@ fn copy_file(rt: &HostRuntime, name: &str, to: &str) -> Result<(), Fault> {
     Err(Fault::Copy(CopyFault::Read))
 }
 
-/// Runs the command. As long as it copies, no other program opens the database.
+/// Runs the command. No other program opens the database during the copy.
 pub(crate) fn backup<F: Start>(
     rt: &HostRuntime,
     database: &str,

@@ -1,15 +1,15 @@
-//! Backups, as the service asks for them.
+//! The backups that the service requests.
 use admin_backup::folder::BackupDir;
 use admin_http::backup::BackupResult;
 use dss_server::backups::{MakeBackups, Progress};
 
-/// What makes backups into a folder.
+/// The maker of backups in a directory.
 #[derive(Drop)]
 pub(crate) struct PortBackups<'a> {
     pub(crate) folder: BackupDir<'a>,
 }
 
-// How far a backup is whose end is told by that.
+// Returns the progress of a backup, given its result if it has ended.
 fn progress_of(ended: Option<BackupResult>) -> Progress {
     match ended {
         None => Progress::GoesOn,

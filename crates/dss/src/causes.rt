@@ -1,4 +1,4 @@
-//! What lies behind a fault with which `serve` ends, as a person needs it, where more is told.
+//! The causes of a fault that ends `serve`, as printed with `--verbose`.
 use dss_command::fault::Fault;
 use os::RangeLock;
 use space_sql_open::open_fault::OpenFault;
@@ -8,29 +8,29 @@ use std::net::Ipv4Addr;
 use std::os::fd::AsRawFd;
 use std::{fs, io};
 
-// The bytes of a database's file that SQLite locks: the first, and how many.
+// The bytes of a database file that SQLite locks: the first one, and how many.
 const FIRST_LOCK: u64 = 1_073_741_824;
 
 const LOCKS: u64 = 512;
 
-// What a file of SQLite begins with.
+// The first bytes of a SQLite file.
 const MARK: &str = "SQLite format 3\0";
 
-// Why a file that the system opens is not taken as a database.
+// The reason why a file that the system opens is rejected as a database.
 #[derive(Clone, Copy, Debug, PartialEq, Eq)]
 enum Refusal {
-    // a folder or a device has its name
+    // It is a directory or a device.
     NoFile,
-    // another process has locked it
+    // Another process has locked it.
     Held,
-    // it begins otherwise than a file of SQLite
+    // It does not begin like a SQLite file.
     NoDatabase,
-    // none of these
+    // None of these.
     Other,
 }
 
 impl Refusal {
-    // In words.
+    // Returns the reason in words.
     fn words(self) -> &'static str {
         match self {
             Refusal::NoFile => "it is no file",
@@ -41,7 +41,7 @@ impl Refusal {
     }
 }
 
-// Why the file of that name is not taken. An error is what the system says of it.
+// Returns the reason why the file of that name is rejected. An error is the system's.
 fn refusal_of(rt: &HostRuntime, name: &str) -> io::Result<Refusal> {
     if !fs::metadata(rt, name)?.is_file() {
         return Ok(Refusal::NoFile);
@@ -58,8 +58,8 @@ fn refusal_of(rt: &HostRuntime, name: &str) -> io::Result<Refusal> {
     Ok(Refusal::NoDatabase)
 }
 
-/// Where causes are told: on standard error, each on a line before that of its fault. That one
-/// cannot be told is no fault more.
+/// Prints causes on standard error, each on a line before that of its fault. A failed print is
+/// ignored.
 #[derive(Clone, Copy)]
 pub(crate) struct Causes<'a> {
     rt: &'a HostRuntime,
@@ -67,26 +67,26 @@ pub(crate) struct Causes<'a> {
 }
 
 impl<'a> Causes<'a> {
-    /// They are told or not.
+    /// Creates a printer that prints causes or not.
     pub(crate) fn new(rt: &'a HostRuntime, are_told: bool) -> Causes<'a> {
         Causes { rt, are_told }
     }
 
-    /// Tells what the system said of a file or a folder.
+    /// Prints the system's error for a file or a directory.
     pub(crate) fn tell_of(self, name: &str, cause: &io::Error) {
         if self.are_told {
             let _ = eprintln!(self.rt; "dss: cause: {name}: {cause}");
         }
     }
 
-    /// Tells what the system said of a port.
+    /// Prints the system's error for a port.
     pub(crate) fn tell_of_port(self, address: Ipv4Addr, port: u16, cause: &io::Error) {
         if self.are_told {
             let _ = eprintln!(self.rt; "dss: cause: {address}:{port}: {cause}");
         }
     }
 
-    /// Tells why a database was not opened, where its store failed: the file is looked at again.
+    /// Prints why a database was not opened, if its store failed. Checks the file again for that.
     pub(crate) fn tell_of_database(self, name: &str, fault: &Fault) {
         if !self.are_told {
             return;

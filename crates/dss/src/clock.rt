@@ -1,10 +1,10 @@
-//! The clock of the system.
+//! The system clock.
 use dss_command::moment::seconds_of;
 use std::time::SystemTime;
 use wire_http::{ClockFault, Moments};
 
-/// The clock of the system: each moment is a reading of it, in whole seconds since 1970. It fails
-/// where the system gives no time, or one before 1970.
+/// The system clock: each time is a reading in whole Unix seconds. A reading fails if the system
+/// returns no time, or one before 1970.
 #[derive(Clone, Copy)]
 pub(crate) struct SystemClock<'a> {
     rt: &'a HostRuntime,
@@ -12,12 +12,12 @@ pub(crate) struct SystemClock<'a> {
 }
 
 impl<'a> SystemClock<'a> {
-    /// The clock of that system.
+    /// Creates a clock of that system.
     pub(crate) fn new(rt: &'a HostRuntime) -> SystemClock<'a> {
         SystemClock { rt, failures: 0 }
     }
 
-    // One reading.
+    // Reads the clock once.
     fn read(&self) -> Option<u64> {
         let Ok(now) = SystemTime::now(self.rt) else {
             return None;

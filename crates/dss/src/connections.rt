@@ -23,7 +23,7 @@ use std::{fs, io};
 use token_conf::token_table::TokenTable;
 use wire_http::Moments;
 
-// The limits that a command line gives.
+// Returns the limits of a command line.
 fn limits_of(given: &ServeArgs<'_>) -> Limits {
     Limits {
         count: given.count,
@@ -34,7 +34,7 @@ fn limits_of(given: &ServeArgs<'_>) -> Limits {
     }
 }
 
-// The ports of this system, its log, what makes backups, and where causes are told.
+// The ports of this system, its log, the maker of backups, and the printer of causes.
 #[derive(Drop)]
 struct Ports<'a> {
     rt: &'a HostRuntime,
@@ -68,7 +68,7 @@ impl<'a> Listen for Ports<'a> {
     }
 }
 
-// The operator's port that a command line names. Where the system tells no time, the start is at 0.
+// Returns the admin port of a command line. If the system returns no time, the start is at 0.
 fn operated(rt: &HostRuntime, given: &ServeArgs<'_>) -> Option<AdminListener> {
     let port = given.admin_port?;
     let started = match SystemClock::new(rt).next() {
@@ -78,7 +78,7 @@ fn operated(rt: &HostRuntime, given: &ServeArgs<'_>) -> Option<AdminListener> {
     Some(AdminListener { port, started })
 }
 
-// The folder of backups that a command line names.
+// Opens the backup directory of a command line.
 fn backups_of<'a>(
     rt: &'a HostRuntime,
     given: &ServeArgs<'_>,
@@ -96,8 +96,8 @@ fn backups_of<'a>(
     }
 }
 
-// The token file's text and its table. Where more is to be told it is, first what is wrong with the
-// file or surely not meant, and then the limits: that it cannot be told is no reason not to serve.
+// Returns the text of the token file, and its table. With `--verbose`, first prints the errors and
+// warnings of the file, and then the limits. A failed print is ignored.
 fn tokens_of<E: Write>(
     rt: &HostRuntime,
     given: &ServeArgs<'_>,
@@ -121,7 +121,7 @@ fn tokens_of<E: Write>(
     Ok((text, tokens))
 }
 
-// The log that a command line names.
+// Opens the log of a command line.
 fn log_of<'a>(
     rt: &'a HostRuntime,
     given: &ServeArgs<'a>,

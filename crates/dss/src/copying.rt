@@ -1,5 +1,5 @@
-//! A copy of a file that is whole or not there: written beside its name piece by piece, synced, and
-//! only then put there.
+//! A copy of a file that is complete or does not exist. It is written under a temporary name chunk
+//! by chunk, synced, and only then renamed.
 use dss_command::copy_fault::CopyFault;
 use dss_command::fault::{Fault, io_fault};
 use std::fs::{File, OpenOptions};
@@ -8,13 +8,13 @@ use std::os::unix::fs::{OpenOptionsExt, PermissionsExt};
 use std::path::PathBuf;
 use std::{fs, io};
 
-// The bytes of a piece.
+// The bytes of a chunk.
 const CHUNK: usize = 65_536;
 
-// What the name under which a copy is written ends with.
+// The suffix of the temporary name.
 const BEGUN: &str = ".begun";
 
-// What the names of the files end with that are read with a database.
+// The suffixes of the files that are read together with a database.
 const BESIDE: [&str; 2] = ["-wal", "-journal"];
 
 fn unread_source(cause: io::Error) -> Fault {
@@ -25,7 +25,7 @@ fn unwritten(cause: io::Error) -> Fault {
     io_fault(&cause, Fault::Copy(CopyFault::Write))
 }
 
-// How long the file of that name is, if there is one.
+// Returns the length of the file of that name, if it exists.
 fn length_of(rt: &HostRuntime, name: &str) -> Result<Option<u64>, Fault> {
     match fs::symlink_metadata(rt, name) {
         Ok(found) => Ok(Some(found.len())),
@@ -34,8 +34,8 @@ fn length_of(rt: &HostRuntime, name: &str) -> Result<Option<u64>, Fault> {
     }
 }
 
-/// Refuses the name of a copy that has a file already, or beside which a log or a journal lies that
-/// is not empty, since that would be taken for the copy's.
+/// Rejects the name of a copy if a file of that name exists, or a log or journal of it that is not
+/// empty. SQLite would read such a log as the copy's.
 pub(crate) fn is_free(rt: &HostRuntime, to: &str) -> Result<(), Fault> {
     if length_of(rt, to)?.is_some() {
         return Err(Fault::Copy(CopyFault::Exists));
@@ -49,7 +49,7 @@ pub(crate) fn is_free(rt: &HostRuntime, to: &str) -> Result<(), Fault> {
     Ok(())
 }
 
-// Takes away a file, if there is one.
+// Removes a file, if it exists.
 fn remove(rt: &HostRuntime, name: &str) -> io::Result<()> {
     match fs::remove_file(rt, name) {
         Err(cause) if cause.kind() == ErrorKind::NotFound => Ok(()),
@@ -57,7 +57,7 @@ fn remove(rt: &HostRuntime, name: &str) -> io::Result<()> {
     }
 }
 
-// Opens the folder in which a file lies.
+// Opens the directory of a file.
 fn folder_of(rt: &HostRuntime, name: &str) -> io::Result<File> {
     let mut folder = PathBuf::from_str(rt.alloc(), name)?;
     folder.pop();
@@ -67,7 +67,7 @@ fn folder_of(rt: &HostRuntime, name: &str) -> io::Result<File> {
     }
 }
 
-// A new file with the access that the source's has.
+// Creates a file with the permissions of the source.
 fn new_file(rt: &HostRuntime, name: &str, source: &File) -> io::Result<File> {
     let mode = source.metadata()?.permissions().mode() & 0o777;
     remove(rt, name)?;
@@ -78,22 +78,22 @@ fn new_file(rt: &HostRuntime, name: &str, source: &File) -> io::Result<File> {
         .open(rt, name)
 }
 
-/// A copy that is being made.
+/// A copy in progress.
 #[derive(Drop)]
 pub(crate) struct Copying<'a> {
     rt: &'a HostRuntime,
     source: File,
     copy: File,
-    // the name under which it is written
+    // The temporary name.
     begun: String,
-    // and the one that it gets
+    // The final name.
     to: String,
     chunk: Vec<u8>,
 }
 
 impl<'a> Copying<'a> {
-    /// Begins a copy of what the file holds from where it is read next. What a copy of that name
-    /// that was given up has left is taken away.
+    /// Begins a copy of the file from its current position. Removes what an aborted copy of that
+    /// name left.
     pub(crate) fn begin(rt: &'a HostRuntime, source: File, to: &str) -> Result<Copying<'a>, Fault> {
         is_free(rt, to)?;
         let alloc = rt.alloc();
@@ -111,7 +111,8 @@ impl<'a> Copying<'a> {
         })
     }
 
-    /// Copies the next piece, and says whether there was one. After a fault it has to be given up.
+    /// Copies the next chunk, and returns true if there was one. After a fault the copy must be
+    /// aborted.
     pub(crate) fn go_on(&mut self) -> Result<bool, Fault> {
         let length = self.source.read(&mut self.chunk).map_err(unread_source)?;
         let read = &self.chunk[..length];
@@ -119,7 +120,7 @@ impl<'a> Copying<'a> {
         Ok(length != 0)
     }
 
-    // Puts the copy in its place.
+    // Renames the copy to its final name.
     fn put(&self) -> Result<(), Fault> {
         self.copy.sync_all().map_err(unwritten)?;
         let folder = folder_of(self.rt, self.to.as_str()).map_err(unwritten)?;
@@ -132,7 +133,7 @@ impl<'a> Copying<'a> {
         Ok(())
     }
 
-    /// Puts the copy in its place, on the disk, or leaves nothing of it.
+    /// Renames the copy to its final name and syncs it, or removes it.
     pub(crate) fn finish(self) -> Result<(), Fault> {
         let put = self.put();
         if put.is_err() {
@@ -141,7 +142,7 @@ impl<'a> Copying<'a> {
         put
     }
 
-    /// Leaves nothing of the copy.
+    /// Removes the copy.
     pub(crate) fn give_up(self) {
         let _ = remove(self.rt, self.begun.as_str());
     }

@@ -1,4 +1,4 @@
-//! The file to which the lines of requests are written.
+//! The file of the access log.
 use dss_command::request_log::LogFile;
 use std::fs::{File, OpenOptions};
 use std::io::Write;
@@ -6,10 +6,10 @@ use std::os::unix::fs::MetadataExt;
 use std::time::{Duration, Instant, SystemTime, UNIX_EPOCH};
 use std::{fs, io};
 
-// How long a file that was moved away may go on being written to, in seconds.
+// The interval in seconds between checks if the file was moved away.
 const LOOKS: u64 = 1;
 
-// A file that is open under its name, and when it was last looked at.
+// A file that is open under its name, and the time of the last check.
 #[derive(Drop)]
 struct Named<'a> {
     name: &'a str,
@@ -17,27 +17,27 @@ struct Named<'a> {
     looked: Option<Instant>,
 }
 
-// Where the lines go.
+// The target of the lines.
 #[derive(Drop)]
 enum LogTarget<'a> {
     StandardError,
     File(Named<'a>),
 }
 
-/// What the lines of requests are written to: a file that is found under its name again after it
-/// was moved away, or standard error.
+/// The target of the access log: standard error, or a file. The file is opened again under its name
+/// after it was moved away.
 #[derive(Drop)]
 pub(crate) struct SystemLog<'a> {
     rt: &'a HostRuntime,
     place: LogTarget<'a>,
 }
 
-// Opens the file of that name, at its end. It is made where there is none.
+// Opens the file of that name at its end. Creates it if it does not exist.
 fn open(rt: &HostRuntime, name: &str) -> io::Result<File> {
     OpenOptions::new().append(true).create(true).open(rt, name)
 }
 
-// Whether that file is found under that name.
+// Returns true if the name still refers to that file.
 fn is_found(rt: &HostRuntime, name: &str, file: &File) -> bool {
     match (fs::metadata(rt, name), file.metadata()) {
         (Ok(found), Ok(open)) => found.ino() == open.ino() && found.dev() == open.dev(),
@@ -46,8 +46,8 @@ fn is_found(rt: &HostRuntime, name: &str, file: &File) -> bool {
 }
 
 impl<'a> Named<'a> {
-    // Opens it anew where another file or none is found under its name, which is looked at each
-    // second. Where that cannot be done the lines go where they went.
+    // Opens the file again if its name no longer refers to it. Checks that each second. If the open
+    // fails, lines go to the old file.
     fn find(&mut self, rt: &HostRuntime) {
         let Ok(now) = Instant::now(rt) else {
             return;

@@ -1,4 +1,4 @@
-//! The command `self`: one stream of requests through a socket of the program's own.
+//! The command `self`: one stream of requests through a loopback socket.
 ghost use Rattle.std.specs.Prelude.{◌≡◌};
 ghost use Rattle.token_conf.specs.TokenFile.{salt_of};
 
@@ -15,24 +15,25 @@ use std::net::{Ipv4Addr, Shutdown, TcpListener, TcpStream};
 use token_conf::token_table::TokenTable;
 use wire_http::Counted;
 
-// The most bytes that are sent either way: so many wait in a socket until they are read.
+// The maximum number of bytes sent in either direction. A socket buffers that many until they are
+// read.
 const MOST_BYTES: usize = 16_384;
 
-/// What the command `self` was given.
+/// The arguments of the command `self`.
 #[derive(Clone, Copy)]
 pub(crate) struct SelfArgs<'a> {
     /// The name of the token file.
     pub(crate) tokens: &'a str,
-    /// The moment of each request, in seconds since 1970.
+    /// The time of each request, in Unix seconds.
     pub(crate) now: u64,
-    /// The name of the file of requests; `-` is the standard input.
+    /// The name of the file of requests; `-` is standard input.
     pub(crate) request: &'a str,
 }
 
-// The bytes of a reader, if they are few enough.
+// Reads the bytes of a reader, if they are within the maximum.
 fn few_bytes<R: Read>(rt: &HostRuntime, input: &mut R) -> Result<Vec<u8>, Fault> {
     let mut bytes = Vec::new(rt.alloc());
-    // one more than the most, by which too many are known
+    // one above the maximum, to detect too many
     match input.take(16_385).read_to_end(&mut bytes) {
         Ok(_) => {}
         Err(cause) => return Err(io_fault(&cause, Fault::RequestsUnread)),
@@ -43,7 +44,7 @@ fn few_bytes<R: Read>(rt: &HostRuntime, input: &mut R) -> Result<Vec<u8>, Fault>
     Ok(bytes)
 }
 
-// The bytes of the file of requests, or of the standard input.
+// Reads the bytes of the file of requests, or of standard input.
 fn request_bytes<R: Read>(rt: &HostRuntime, name: &str, input: &mut R) -> Result<Vec<u8>, Fault> {
     if name == "-" {
         return few_bytes(rt, input);
@@ -54,7 +55,7 @@ fn request_bytes<R: Read>(rt: &HostRuntime, name: &str, input: &mut R) -> Result
     }
 }
 
-// The two ends of a connection of this program to itself, of which the first has sent these bytes
+// Returns the two ends of a connection of this program to itself. The first has sent these bytes
 // and sends no more.
 fn connect_self(rt: &HostRuntime, request: &[u8]) -> io::Result<(TcpStream, TcpStream)> {
     let listener = TcpListener::bind(rt, (Ipv4Addr::LOCALHOST, 0))?;
@@ -65,7 +66,7 @@ fn connect_self(rt: &HostRuntime, request: &[u8]) -> io::Result<(TcpStream, TcpS
     Ok((client, server))
 }
 
-// Sends bytes from the one end, and gives what came to the other.
+// Sends bytes from one end, and returns what arrived at the other.
 fn sent_back(
     rt: &HostRuntime,
     bytes: &[u8],
@@ -79,7 +80,8 @@ fn sent_back(
     Ok(came)
 }
 
-// What comes back for requests to a service over an empty airspace that are sent through a socket.
+// Returns the responses to requests that are sent through a socket to a service over an empty
+// airspace.
 fn answers_to(
     rt: &HostRuntime,
     tokens: &TokenTable,

@@ -1,4 +1,4 @@
-//! The program `dss`: its commands, and what runs them.
+//! The program `dss`: its commands, and the code that runs them.
 #![tactic(auto)]
 
 mod backup;
@@ -44,7 +44,7 @@ fn run_words(rt: &HostRuntime) -> io::Result<u8> {
     ))
 }
 
-// Tells on one line why the words of the command line cannot be had, and answers the exit status.
+// Prints one line that says why the command line cannot be read, and returns the exit status.
 fn unread_words(rt: &HostRuntime, error: &io::Error) -> u8 {
     if error.kind() == io::ErrorKind::InvalidData {
         let _ = eprintln!(rt; "error: a word of the command line is not UTF-8");

@@ -1,4 +1,4 @@
-//! The commands, as this system does them.
+//! The commands on this system.
 use crate::loopback::{self, SelfArgs};
 use crate::run::{self, RunArgs};
 use crate::{backup, connections, purge, tokens_command};
@@ -10,7 +10,7 @@ use sqlite::{Start, Wary};
 use std::io::{Read, Write};
 use wire_http::Counted;
 
-/// The system, and what stands for all that the file and the log of a database may hold.
+/// The system, and the representation of any contents of a database's file and log.
 #[derive(Drop)]
 pub(crate) struct Program<'a, F: Start> {
     pub(crate) rt: &'a HostRuntime,
@@ -18,7 +18,7 @@ pub(crate) struct Program<'a, F: Start> {
 }
 
 impl<'a, F: Start> Commands for Program<'a, F> {
-    // what the system holds and does is not said
+    // nothing is claimed of what the system holds and does
     ghost does = { λ line remaining before after done. Unit {0} };
 
     fn run<R: Read, W: Write>(

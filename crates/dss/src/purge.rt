@@ -1,4 +1,4 @@
-//! The command `purge`: what has ended in a database is let go of.
+//! The command `purge`: removes what has ended from a database.
 use crate::clock::SystemClock;
 use dss_command::fault::Fault;
 use dss_command::moment::check_not_in_future;
@@ -7,7 +7,7 @@ use sqlite::Start;
 use std::io::Write;
 use wire_http::Moments;
 
-// The moment that counts as now: the one that is given, or else the clock's.
+// Returns the current time: the given one, or otherwise that of the clock.
 fn moment_of(rt: &HostRuntime, now: Option<u64>) -> Result<u64, Fault> {
     match now {
         Some(now) => Ok(now),
@@ -18,7 +18,7 @@ fn moment_of(rt: &HostRuntime, now: Option<u64>) -> Result<u64, Fault> {
     }
 }
 
-/// Runs the command. A moment in the future is refused before the database is opened.
+/// Runs the command. Rejects a time in the future before it opens the database.
 pub(crate) fn purge<F: Start, W: Write>(
     rt: &HostRuntime,
     database: &str,

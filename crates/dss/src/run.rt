@@ -1,4 +1,4 @@
-//! The command `run`: one stream of requests, each at the same moment.
+//! The command `run`: one stream of requests, with one time for all.
 ghost use Rattle.std.specs.Prelude.{◌≡◌};
 ghost use Rattle.token_conf.specs.TokenFile.{salt_of};
 
@@ -14,20 +14,20 @@ use std::io::{Read, Write};
 use token_conf::token_table::TokenTable;
 use wire_http::Counted;
 
-/// What the command `run` was given.
+/// The arguments of the command `run`.
 #[derive(Clone, Copy)]
 pub(crate) struct RunArgs<'a> {
     /// The name of the token file.
     pub(crate) tokens: &'a str,
-    /// The moment of each request, in seconds since 1970.
+    /// The time of each request, in Unix seconds.
     pub(crate) now: u64,
-    /// The name of the database's file, if it is not in memory.
+    /// The name of the database file; the airspace is in memory if `None`.
     pub(crate) database: Option<&'a str>,
-    /// The name of the file of requests; `-` is the standard input.
+    /// The name of the file of requests; `-` is standard input.
     pub(crate) requests: &'a str,
 }
 
-// Serves the requests of a file, or of the standard input, in memory.
+// Serves the requests of a file, or of standard input, in memory.
 fn in_memory<R: Read, W: Write>(
     rt: &HostRuntime,
     given: &RunArgs<'_>,
@@ -50,7 +50,7 @@ fn in_memory<R: Read, W: Write>(
     }
 }
 
-// The same over the database in the file of that name, which is closed last.
+// Serves them over the database in the file of that name, which is closed last.
 fn over_file<F: Start, R: Read, W: Write>(
     rt: &HostRuntime,
     given: &RunArgs<'_>,

@@ -10,18 +10,18 @@ use std::io::{ErrorKind, Read, Write};
 use std::net::{Ipv4Addr, Shutdown, SocketAddr, SocketAddrV4};
 use std::time::{Duration, Instant};
 
-// The tokens of the listeners. A client's is the key under which it is watched, and is less; that
-// of a connection to the operator's port is its key and this much more.
+// The tokens of the listeners. The token of a client is its key, which is less. The token of an
+// admin connection is its key plus the last constant.
 const LISTENER: usize = 1_000_000;
 
 const OPERATORS_LISTENER: usize = 1_000_001;
 
 const OPERATORS: usize = 2_000_000;
 
-// How many events are taken at once.
+// The maximum number of events taken at once.
 const EVENTS: usize = 1_024;
 
-// What the system answers where it has no descriptor or no memory for one socket more.
+// The system errors for a lack of memory or of descriptors for another socket.
 const NO_MEMORY: i32 = 12;
 
 const NO_DESCRIPTOR_IN_SYSTEM: i32 = 23;
@@ -40,7 +40,7 @@ pub(crate) struct Client {
 impl Socket for Client {
     ghost use Rattle.std.specs.Prelude.{None};
 
-    // nobody knows the bytes of a socket
+    // the bytes of a socket are unknown
     ghost coming = { λ _. None };
 
     ghost gone = { λ _. None };
@@ -75,12 +75,12 @@ pub(crate) struct PortSockets<'a> {
     operators: Option<TcpListener>,
     events: Events,
     told: Vec<SocketEvent>,
-    // how many of what was told were taken
+    // The number of events already taken.
     taken: usize,
     backups: Option<PortBackups<'a>>,
 }
 
-// What is watched under a token.
+// Returns the source of events with that token.
 fn watched_as(token: usize) -> EventSource {
     match token {
         LISTENER => EventSource::Port,
@@ -90,7 +90,7 @@ fn watched_as(token: usize) -> EventSource {
     }
 }
 
-// The token under which it is watched.
+// Returns the token of a source of events.
 fn token_of(which: EventSource) -> usize {
     match which {
         EventSource::Port => LISTENER,
@@ -100,8 +100,7 @@ fn token_of(which: EventSource) -> usize {
     }
 }
 
-// A listener on a port of an address, which is watched. It is told what the system says where there
-// is none to be had.
+// Opens a watched listener on a port of an address. Prints the system's error if that fails.
 fn listener_on(
     rt: &HostRuntime,
     poll: &Poll,
@@ -123,7 +122,7 @@ fn listener_on(
     Ok(listener)
 }
 
-// The next connection of a listener.
+// Accepts the next connection of a listener.
 fn accept_client(listener: &TcpListener) -> Result<Client, AcceptFault> {
     match listener.accept() {
         Ok((stream, address)) => {
@@ -134,7 +133,7 @@ fn accept_client(listener: &TcpListener) -> Result<Client, AcceptFault> {
     }
 }
 
-// What an event tells.
+// Converts an event.
 fn told_by(event: &Event) -> SocketEvent {
     let Token(token) = event.token();
     SocketEvent {
@@ -146,7 +145,7 @@ fn told_by(event: &Event) -> SocketEvent {
     }
 }
 
-// Why the system gave no client.
+// Returns the reason why the system returned no client.
 fn not_taken(cause: io::Error) -> AcceptFault {
     match cause.raw_os_error() {
         Some(NO_MEMORY | NO_DESCRIPTOR_IN_SYSTEM | NO_DESCRIPTOR | NO_BUFFER) => AcceptFault::Full,
@@ -159,8 +158,8 @@ fn not_taken(cause: io::Error) -> AcceptFault {
 }
 
 impl<'a> PortSockets<'a> {
-    /// Listens on a port of an address, and for operators on one of 127.0.0.1. Backups are made
-    /// where there is a folder for them.
+    /// Listens on a port of an address, and on the admin port of 127.0.0.1 if there is one. Makes
+    /// backups if there is a directory for them.
     pub(crate) fn listen(
         rt: &'a HostRuntime,
         address: Ipv4Addr,

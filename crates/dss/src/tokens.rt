@@ -5,7 +5,7 @@ use dss_server::token_watch::TokenSource;
 use std::{fs, io};
 use token_conf::token_table::TokenTable;
 
-/// The text of the token file with that name.
+/// Reads the text of the token file of that name.
 pub(crate) fn token_text(rt: &HostRuntime, name: &str) -> Result<String, Fault> {
     match fs::read_to_string(rt, name) {
         Ok(text) => Ok(text),
@@ -13,13 +13,13 @@ pub(crate) fn token_text(rt: &HostRuntime, name: &str) -> Result<String, Fault> 
     }
 }
 
-/// The table of the token file with that name.
+/// Reads the table of the token file of that name.
 pub(crate) fn token_table(rt: &HostRuntime, name: &str) -> Result<TokenTable, Fault> {
     let text = token_text(rt, name)?;
     table_of(rt.alloc(), text.as_str())
 }
 
-/// The token file with that name, which may change.
+/// The token file of that name, which may change.
 #[derive(Clone, Copy)]
 pub(crate) struct TokenFile<'a> {
     rt: &'a HostRuntime,
@@ -27,14 +27,14 @@ pub(crate) struct TokenFile<'a> {
 }
 
 impl<'a> TokenFile<'a> {
-    /// The file with that name.
+    /// Creates the source for the file of that name.
     pub(crate) fn named(rt: &'a HostRuntime, name: &'a str) -> TokenFile<'a> {
         TokenFile { rt, name }
     }
 }
 
 impl<'a> TokenSource for TokenFile<'a> {
-    // what the system's file has is not said
+    // nothing is claimed of the file's contents
     ghost gives = { λ bytes. Unit {0} };
 
     fn read(&mut self) -> io::Result<Vec<u8>> {

@@ -1,4 +1,4 @@
-//! The command `tokens`, with what the system has: the text of a file, random bytes.
+//! The command `tokens` with the system's resources: the text of a file, random bytes.
 ghost use Rattle.std.specs.Prelude.{◌≡◌, OnOk};
 
 use crate::tokens::token_text;
@@ -14,7 +14,7 @@ pub(crate) fn check<W: Write>(rt: &HostRuntime, file: &str, output: &mut W) -> R
     token_files::check_tokens(rt.alloc(), file, text.as_str(), output)
 }
 
-// Random bytes of the system.
+// Returns random bytes of the system.
 fn random_bytes(rt: &HostRuntime) -> Result<[u8; RANDOM_BYTES], Fault> {
     let mut bytes = [0; RANDOM_BYTES];
     match rt.fill_bytes(&mut bytes) {
@@ -23,7 +23,7 @@ fn random_bytes(rt: &HostRuntime) -> Result<[u8; RANDOM_BYTES], Fault> {
     }
 }
 
-/// Makes a token of a supplier with scopes.
+/// Generates a token of a USS with scopes.
 pub(crate) fn new_token<W: Write, E: Write>(
     rt: &HostRuntime,
     uss: &str,
@@ -37,7 +37,7 @@ pub(crate) fn new_token<W: Write, E: Write>(
     token_files::new_token(rt.alloc(), uss, scopes, &random, output, error)
 }
 
-/// Makes a salt.
+/// Generates a salt.
 pub(crate) fn new_salt<W: Write>(rt: &HostRuntime, output: &mut W) -> Result<(), Fault> {
     let random = random_bytes(rt)?;
     token_files::new_salt(rt.alloc(), &random, output)

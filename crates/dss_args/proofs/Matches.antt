@@ -1,4 +1,4 @@
--- What the getters of `clap`'s matches read, by the rows of the matches.
+-- What the getters of `clap`'s matches read from the rows of the matches.
 use Rattle.std.proofs.Common.{◌≡◌, ◌<◌, ◌^◌, ℕ, List, Option, Some, None, codes, refl, sym, subst, inl, inr, ap, ◌∙◌, arith, false}
 use Rattle.std.specs.Prelude.{Bool, IfNone, IfSome, is_some, not, option_map, true, ◌⊎◌}
 use Rattle.std.specs.Borrow.{Bor}
@@ -22,7 +22,7 @@ use Rattle.dss_args.specs.declared.fault.LineFault.{LineFault}
 use Rattle.dss_args.specs.declared.fault.LineFault.TheVariants as fault
 use Rattle.dss_args.specs.declared.command_args.CommandArgs.TheVariants.{Backup, Cell, CheckTokens, Loopback, NewSalt, NewToken, Report, Run, Serve, Purge, Upgrade}
 
--- a number that was read is that of the argument's text
+-- A number that was read is that of the argument's text.
 pub number_from_text : (f : Found) (id : Text) (n : ℕ) → (one_text f id ≡ None → Some n ≡ None) → ((t : List ℕ) → one_text f id ≡ Some t → (IsNumeral 10 (without_leading_plus t) × (digits_value 10 (without_leading_plus t) < 2 ^ 64)) × (n ≡ digits_value 10 (without_leading_plus t))) → HasNumber id (rows_of f) n
 number_from_text f id n none some = go (one_text f id) refl
   where
@@ -30,24 +30,24 @@ number_from_text f id n none some = go (one_text f id) refl
     go None e = let bad : Some n ≡ None = none e in cc
     go (Some t) e = (t, sym (one_text-rows f id) ∙ e, (some t e).0.0, (some t e).1)
 
--- where no number was read, no number of 64 bits is the argument's
+-- If no number was read, the argument has no 64-bit number.
 pub no_number : (f : Found) (id : Text) → ((t : List ℕ) → one_text f id ≡ Some t → IsNumeral 10 (without_leading_plus t) × (digits_value 10 (without_leading_plus t) < 2 ^ 64) → ⊥) → (n : ℕ) → HasNumber id (rows_of f) n → n < 2 ^ 64 → ⊥
 no_number f id none n (text, is, numeral, value) within = none text (one_text-rows f id ∙ is) (numeral, omega arith)
 
--- the argument has one number
+-- An argument has at most one number.
 pub same_number : (id : Text) (rows : List Row) (m n : ℕ) → HasNumber id rows m → HasNumber id rows n → m ≡ n
 same_number id rows m n (t, t_is, t_numeral, m_is) (u, u_is, u_numeral, n_is) =
     let same : Some t ≡ Some u = sym t_is ∙ u_is in
     let texts : t ≡ u = cc in
     m_is ∙ ap (λ x. digits_value 10 (without_leading_plus x)) texts ∙ sym n_is
 
--- ---- what asks for nothing
+-- ---- command lines that request nothing
 
--- texts that differ somewhere are two
+-- Texts whose bytes differ are different.
 other : (a b : Text) → bytes_eq a b ≡ false → a ≡ b → ⊥
 other a b differ same = not_from_Decides (bytes_eq a b) (bytes_eq-Decides a b) differ same
 
--- the command `run` asks for nothing where no line of it has the values
+-- The subcommand `run` requests nothing if no command line has the values.
 pub nothing_of_run : (rows : List Row) → ((tokens : Bor (List ℕ)) (now : ℕ) (database : Option (Bor (List ℕ))) (requests : Bor (List ℕ)) → HasValues rows (Run tokens now database requests) → ⊥) → AsksNothing (Some (codes "run", rows))
 nothing_of_run rows none (Run tokens now database requests) asks = none tokens now database requests asks.1
 nothing_of_run rows none (Serve given) asks = other _ _ refl asks.0
@@ -61,7 +61,7 @@ nothing_of_run rows none (CheckTokens file) asks = other _ _ refl asks.0
 nothing_of_run rows none (NewToken uss scopes) asks = other _ _ refl asks.0
 nothing_of_run rows none NewSalt asks = other _ _ refl asks.0
 
--- the command `serve` asks for nothing where no line of it has the values
+-- The subcommand `serve` requests nothing if no command line has the values.
 pub nothing_of_serve : (rows : List Row) → ((given : ServeArgs) → HasServing rows given → ⊥) → AsksNothing (Some (codes "serve", rows))
 nothing_of_serve rows none (Run tokens now database requests) asks = other _ _ refl asks.0
 nothing_of_serve rows none (Serve given) asks = none given asks.1
@@ -75,7 +75,7 @@ nothing_of_serve rows none (CheckTokens file) asks = other _ _ refl asks.0
 nothing_of_serve rows none (NewToken uss scopes) asks = other _ _ refl asks.0
 nothing_of_serve rows none NewSalt asks = other _ _ refl asks.0
 
--- the command `self` asks for nothing where no line of it has the values
+-- The subcommand `self` requests nothing if no command line has the values.
 pub nothing_of_self : (rows : List Row) → ((tokens : Bor (List ℕ)) (now : ℕ) (request : Bor (List ℕ)) → HasValues rows (Loopback tokens now request) → ⊥) → AsksNothing (Some (codes "self", rows))
 nothing_of_self rows none (Run tokens now database requests) asks = other _ _ refl asks.0
 nothing_of_self rows none (Serve given) asks = other _ _ refl asks.0
@@ -89,7 +89,7 @@ nothing_of_self rows none (CheckTokens file) asks = other _ _ refl asks.0
 nothing_of_self rows none (NewToken uss scopes) asks = other _ _ refl asks.0
 nothing_of_self rows none NewSalt asks = other _ _ refl asks.0
 
--- the command `cell` asks for nothing where no line of it has the values
+-- The subcommand `cell` requests nothing if no command line has the values.
 pub nothing_of_cell : (rows : List Row) → ((token : Bor (List ℕ)) → HasValues rows (Cell token) → ⊥) → AsksNothing (Some (codes "cell", rows))
 nothing_of_cell rows none (Run tokens now database requests) asks = other _ _ refl asks.0
 nothing_of_cell rows none (Serve given) asks = other _ _ refl asks.0
@@ -103,7 +103,7 @@ nothing_of_cell rows none (CheckTokens file) asks = other _ _ refl asks.0
 nothing_of_cell rows none (NewToken uss scopes) asks = other _ _ refl asks.0
 nothing_of_cell rows none NewSalt asks = other _ _ refl asks.0
 
--- the command `report` asks for nothing where no line of it has the values
+-- The subcommand `report` requests nothing if no command line has the values.
 pub nothing_of_report : (rows : List Row) → ((database : Bor (List ℕ)) (places : Bool) → HasValues rows (Report database places) → ⊥) → AsksNothing (Some (codes "report", rows))
 nothing_of_report rows none (Run tokens now database requests) asks = other _ _ refl asks.0
 nothing_of_report rows none (Serve given) asks = other _ _ refl asks.0
@@ -117,7 +117,7 @@ nothing_of_report rows none (CheckTokens file) asks = other _ _ refl asks.0
 nothing_of_report rows none (NewToken uss scopes) asks = other _ _ refl asks.0
 nothing_of_report rows none NewSalt asks = other _ _ refl asks.0
 
--- the command `backup` asks for nothing where no line of it has the values
+-- The subcommand `backup` requests nothing if no command line has the values.
 pub nothing_of_backup : (rows : List Row) → ((database to : Bor (List ℕ)) → HasValues rows (Backup database to) → ⊥) → AsksNothing (Some (codes "backup", rows))
 nothing_of_backup rows none (Run tokens now database requests) asks = other _ _ refl asks.0
 nothing_of_backup rows none (Serve given) asks = other _ _ refl asks.0
@@ -131,7 +131,7 @@ nothing_of_backup rows none (CheckTokens file) asks = other _ _ refl asks.0
 nothing_of_backup rows none (NewToken uss scopes) asks = other _ _ refl asks.0
 nothing_of_backup rows none NewSalt asks = other _ _ refl asks.0
 
--- the command `upgrade` asks for nothing where no line of it has the values
+-- The subcommand `upgrade` requests nothing if no command line has the values.
 pub nothing_of_upgrade : (rows : List Row) → ((database : Bor (List ℕ)) → HasValues rows (Upgrade database) → ⊥) → AsksNothing (Some (codes "upgrade", rows))
 nothing_of_upgrade rows none (Run tokens now database requests) asks = other _ _ refl asks.0
 nothing_of_upgrade rows none (Serve given) asks = other _ _ refl asks.0
@@ -145,7 +145,7 @@ nothing_of_upgrade rows none (CheckTokens file) asks = other _ _ refl asks.0
 nothing_of_upgrade rows none (NewToken uss scopes) asks = other _ _ refl asks.0
 nothing_of_upgrade rows none NewSalt asks = other _ _ refl asks.0
 
--- the command `sweep` asks for nothing where no line of it has the values
+-- The subcommand `purge` requests nothing if no command line has the values.
 pub nothing_of_purge : (rows : List Row) → ((database : Bor (List ℕ)) (until : ℕ) (now : Option ℕ) → HasValues rows (Purge database until now) → ⊥) → AsksNothing (Some (codes "purge", rows))
 nothing_of_purge rows none (Run tokens now database requests) asks = other _ _ refl asks.0
 nothing_of_purge rows none (Serve given) asks = other _ _ refl asks.0
@@ -159,11 +159,11 @@ nothing_of_purge rows none (CheckTokens file) asks = other _ _ refl asks.0
 nothing_of_purge rows none (NewToken uss scopes) asks = other _ _ refl asks.0
 nothing_of_purge rows none NewSalt asks = other _ _ refl asks.0
 
--- the text of a word, if there is one
+-- The text of an argument, if there is one.
 abbrev text_of : Option (Bor (List ℕ)) → Option Text
 text_of o = option_map (λ word. word.now) o
 
--- options that ask for no line of `tokens` have not the values of one
+-- Options from which no command of `tokens` follows do not have the values of one.
 no_check : (check new scopes : Option (Bor (List ℕ))) (flag : Bool) (file : Text) → text_of check ≡ Some file → text_of new ≡ None → text_of scopes ≡ None → flag ≡ false → line_of_options check new scopes flag ≡ None → ⊥
 no_check None new scopes flag file a b c d none = cc
 no_check (Some f) (Some n) scopes flag file a b c d none = cc
@@ -185,7 +185,7 @@ no_salt None None (Some s) flag a b c d none = cc
 no_salt None None None false a b c d none = cc
 no_salt None None None true a b c d none = cc
 
--- the command `tokens` asks for nothing where its options make no line
+-- The subcommand `tokens` requests nothing if no command follows from its options.
 pub nothing_of_tokens : (rows : List Row) (check new scopes : Option (Bor (List ℕ))) (flag : Bool) → text_of check ≡ first_of (codes "check") rows → text_of new ≡ first_of (codes "new-token") rows → text_of scopes ≡ first_of (codes "scopes") rows → flag ≡ is_set (codes "new-salt") rows → line_of_options check new scopes flag ≡ None → AsksNothing (Some (codes "tokens", rows))
 nothing_of_tokens rows check new scopes flag a b c d none (Run tokens now database requests) asks = other _ _ refl asks.0
 nothing_of_tokens rows check new scopes flag a b c d none (Serve given) asks = other _ _ refl asks.0
@@ -202,38 +202,38 @@ nothing_of_tokens rows check new scopes flag a b c d none (NewToken uss names) (
 nothing_of_tokens rows check new scopes flag a b c d none NewSalt (named, has) =
     no_salt check new scopes flag (a ∙ has.0) (b ∙ has.1) (c ∙ has.2) (d ∙ has.3) none
 
--- a line that its options make is asked for
+-- A command that follows from its options is requested.
 pub line_of_tokens : (rows : List Row) (check new scopes : Option (Bor (List ℕ))) (flag : Bool) → text_of check ≡ first_of (codes "check") rows → text_of new ≡ first_of (codes "new-token") rows → text_of scopes ≡ first_of (codes "scopes") rows → flag ≡ is_set (codes "new-salt") rows → IfSome (line_of_options check new scopes flag) (Asks (Some (codes "tokens", rows)))
 line_of_tokens rows (Some file) None None false a b c d = (refl, (sym a, sym b, sym c, sym d))
 line_of_tokens rows None (Some uss) (Some names) false a b c d = (refl, (sym a, sym b, sym c, sym d))
 line_of_tokens rows None None None true a b c d = (refl, (sym a, sym b, sym c, sym d))
 line_of_tokens rows check new scopes flag a b c d = tt
 
--- what follows from there being no value holds where there is none
+-- A consequence of a missing value holds if the value is missing.
 pub if_none : {A : Type 0} (o : Option A) (P : Type 0) → (o ≡ None → P) → IfNone o P
 if_none None P p = p refl
 if_none (Some x) P p = tt
 
--- an argument that is not there has no value
+-- An absent argument has no value.
 pub absent : (found : Option Text) (text : Text) → found ≡ None → found ≡ Some text → ⊥
 absent found text none some = let bad : None ≡ Some text = sym none ∙ some in cc
 
--- a fact that holds anyway holds where there is no value
+-- A fact that always holds also holds if there is no value.
 pub anyway : {A : Type 0} (o : Option A) (P : Type 0) → P → IfNone o P
 anyway None P p = p
 anyway (Some x) P p = tt
 
--- where one fact leads to another, it does so where there is no value
+-- An implication carries over to the case without a value.
 pub none_too : {A : Type 0} (o : Option A) (P Q : Type 0) → (P → Q) → IfNone o P → IfNone o Q
 none_too None P Q more p = more p
 none_too (Some x) P Q more p = tt
 
--- the same where there is one
+-- An implication carries over to the case with a value.
 pub some_too : {A : Type 0} (o : Option A) (P Q : A → Type 0) → ((a : A) → P a → Q a) → IfSome o P → IfSome o Q
 some_too None P Q more p = tt
 some_too (Some x) P Q more p = more x p
 
--- a text that is no address is listened on nowhere
+-- A text that is no address is not listened on.
 pub listens_nowhere : (rows : List Row) (text : Text) → first_of (codes "listen") rows ≡ Some text → ((a : Ipv4Addr) → IsIpv4Text text a → ⊥) → (a : Ipv4Addr) → HasListen rows a → ⊥
 listens_nowhere rows text there none a has =
     elim has [
@@ -241,32 +241,32 @@ listens_nowhere rows text there none a has =
       | inr is ↦ absent _ text is.0 there
     ]
 
--- a text is found where it is there
+-- A text is found if it is present.
 pub found_where : (o : Option (Bor (List ℕ))) (found : Option Text) → option_map (λ word. word.now) o ≡ found → is_some found ≡ is_some o
 found_where None found is = ap is_some (sym is)
 found_where (Some word) found is = ap is_some (sym is)
 
--- and is not found where it is not
+-- A text is not found if it is absent.
 pub absent_where : (o : Option (Bor (List ℕ))) (found : Option Text) (none : Bool) → is_some o ≡ not none → option_map (λ word. word.now) o ≡ found → none ≡ not (is_some found)
 absent_where o found true none is = sym (ap not (found_where o found is ∙ none))
 absent_where o found false none is = sym (ap not (found_where o found is ∙ none))
 
--- a text that is not there is not found
+-- An absent text is not found.
 pub no_text : (o : Option (Bor (List ℕ))) (found : Option Text) → is_some o ≡ false → option_map (λ word. word.now) o ≡ found → found ≡ None
 no_text None found none is = sym is
 no_text (Some word) found none is = let bad : true ≡ false = none in cc
 
--- one that is there is found
+-- A present text is found.
 pub some_text : (o : Option (Bor (List ℕ))) (found : Option Text) → is_some o ≡ true → option_map (λ word. word.now) o ≡ found → found ≡ None → ⊥
 some_text None found some is none = let bad : false ≡ true = some in cc
 some_text (Some word) found some is none = let bad : Some word.now ≡ None = is ∙ none in cc
 
--- where an option is there and its value is no number of its range, it has no choice
+-- An option that is present, and whose value is no number in its range, has no choice.
 pub no_choice : (id : Text) (least greatest : ℕ) (rows : List Row) → ((n : ℕ) → HasNumberIn id least greatest rows n → ⊥) → (first_of id rows ≡ None → ⊥) → (choice : Option ℕ) → HasChoice id least greatest rows choice → ⊥
 no_choice id least greatest rows number there None has = there has
 no_choice id least greatest rows number there (Some n) has = number n has
 
--- the fault of an error whose kind is a mistake of the words, or want of memory
+-- The fault of an error whose kind is an error of the arguments, or out of memory.
 pub fault_of_kind : (mistakes : List ErrorKind) (subcommand : Option (Text × List Row)) (kind : ErrorKind) (found : LineFault) → (kind ≡ OutOfMemory) ⊎ IsAmong kind mistakes → IsFaultOf kind found → Explains mistakes subcommand found
 fault_of_kind mistakes subcommand kind fault.Memory has is = tt
 fault_of_kind mistakes subcommand kind (fault.Shown text) (inr mistake) is = (kind, mistake, is)

@@ -1,4 +1,4 @@
--- What a command line asks for.
+-- What a command line requests.
 use Rattle.std.specs.Prelude.{
   ◌≡◌,
   ◌≤◌,
@@ -57,43 +57,43 @@ use Rattle.dss_args.specs.declared.command_args.CommandArgs.TheVariants.{
 }
 use Rattle.dss_args.specs.declared.serve_args.ServeArgs.{ServeArgs}
 
--- the texts of some words
+-- The texts of some arguments.
 abbrev pub texts : List (Bor (List ℕ)) → List Text
 texts words = map (λ word. word.now) words
 
--- the value of an argument is a decimal number
+-- Holds if the value of an argument is this decimal number.
 abbrev pub HasNumber : Text → List Row → ℕ → Type 0
 HasNumber id rows n =
     (text : List ℕ) × (one_of id rows ≡ Some text) × IsNumeral 10 (without_leading_plus text)
     × (n ≡ digits_value 10 (without_leading_plus text))
 
--- it is one from the least to the greatest
+-- Holds if the value is this number, in the range from `least` to `greatest`.
 abbrev pub HasNumberIn : Text → ℕ → ℕ → List Row → ℕ → Type 0
 HasNumberIn id least greatest rows n = HasNumber id rows n × (least ≤ n) × (n ≤ greatest)
 
--- the number of an option that need not be there, where it is there
+-- Holds if an optional argument has this number, or is absent.
 abbrev pub HasChoice : Text → ℕ → ℕ → List Row → Option ℕ → Type 0
 HasChoice id least greatest rows None = first_of id rows ≡ None
 HasChoice id least greatest rows (Some n) = HasNumberIn id least greatest rows n
 
--- the number of connections that are served at once: the option's, or without it the most
+-- The maximum number of connections at once: the option's, or the default.
 abbrev pub HasClients : List Row → ℕ → Type 0
 HasClients rows n =
     HasNumberIn (codes "max-connections") 1 MOST_CLIENTS rows n
     ⊎ ((first_of (codes "max-connections") rows ≡ None) × (n ≡ MOST_CLIENTS))
 
--- the address that is listened on: the option's, or without it 127.0.0.1
+-- The address to listen on: the option's, or 127.0.0.1 by default.
 abbrev pub HasListen : List Row → Ipv4Addr → Type 0
 HasListen rows a =
     ((text : List ℕ) × (first_of (codes "listen") rows ≡ Some text) × IsIpv4Text text a)
     ⊎ ((first_of (codes "listen") rows ≡ None) × (ipv4_octets a ≡ 127 ∷ 0 ∷ 0 ∷ 1 ∷ []))
 
--- whether a flag is set
+-- True if a flag is set.
 abbrev pub is_set : Text → List Row → Bool
 is_set id rows =
     option_map_or (λ text. pointwise nat_eq text (codes "true")) (first_of id rows) false
 
--- the options of the command `tokens` have these values, and its flag is set or not
+-- Holds if the options and the flag of the subcommand `tokens` have these values.
 abbrev pub HasOptions : List Row → Option Text → Option Text → Option Text → Bool → Type 0
 HasOptions rows check new scopes new_salt =
     (first_of (codes "check") rows ≡ check)
@@ -101,16 +101,16 @@ HasOptions rows check new scopes new_salt =
     × (first_of (codes "scopes") rows ≡ scopes)
     × (is_set (codes "new-salt") rows ≡ new_salt)
 
--- the value of an option, if it is there
+-- Holds if an option has this value, or is absent.
 abbrev pub HasText : Text → List Row → Option (Bor Text) → Type 0
 HasText id rows word = first_of id rows ≡ option_map (λ text. text.now) word
 
--- a folder for copies is named, and no operator's port, at which they are asked for
+-- True if a backup directory is given without an admin port, on which backups are requested.
 abbrev pub lacks_port : List Row → Bool
 lacks_port rows =
     is_some (first_of (codes "backup-dir") rows) && not (is_some (first_of (codes "admin-port") rows))
 
--- the arguments of the command `serve` have these values
+-- Holds if the arguments of the subcommand `serve` have these values.
 pub record HasServing (rows : List Row) (given : ServeArgs) : Type 0 where
   pub tokens : first_of (codes "tokens") rows ≡ Some given.tokens.now
   pub database : first_of (codes "db") rows ≡ Some given.database.now
@@ -127,7 +127,7 @@ pub record HasServing (rows : List Row) (given : ServeArgs) : Type 0 where
   pub double_sync : is_set (codes "double-sync") rows ≡ given.double_sync
   pub verbose : is_set (codes "verbose") rows ≡ given.verbose
 
--- the name of the command that asks for the line
+-- The name of the subcommand that requests the command.
 abbrev pub name_of : CommandArgs → Text
 name_of (Run tokens now database requests) = codes "run"
 name_of (Serve given) = codes "serve"
@@ -141,7 +141,7 @@ name_of (CheckTokens file) = codes "tokens"
 name_of (NewToken uss scopes) = codes "tokens"
 name_of NewSalt = codes "tokens"
 
--- the arguments have the values of the line
+-- Holds if the arguments have the values of the command.
 abbrev pub HasValues : List Row → CommandArgs → Type 0
 HasValues rows (Run tokens now database requests) =
     (first_of (codes "tokens") rows ≡ Some tokens.now)
@@ -167,8 +167,8 @@ HasValues rows (CheckTokens file) = HasOptions rows (Some file.now) None None fa
 HasValues rows (NewToken uss scopes) = HasOptions rows None (Some uss.now) (Some scopes.now) false
 HasValues rows NewSalt = HasOptions rows None None None true
 
--- the line of these values of the options of `tokens`: a file to check alone, a supplier with
--- scopes alone, or the flag alone
+-- The command of these options of `tokens`: only a file to check, only a USS with scopes, or only
+-- the flag.
 abbrev pub line_of_options
     : Option (Bor Text) → Option (Bor Text) → Option (Bor Text) → Bool → Option CommandArgs
 line_of_options (Some file) None None false = Some (CheckTokens file)
@@ -176,18 +176,18 @@ line_of_options None (Some uss) (Some scopes) false = Some (NewToken uss scopes)
 line_of_options None None None true = Some NewSalt
 line_of_options _ _ _ _ = None
 
--- the subcommand of that name with the values of these arguments asks for the line
+-- Holds if the subcommand of that name, with the values of these arguments, requests the command.
 abbrev pub Asks : Option (Text × List Row) → CommandArgs → Type 0
 Asks None line = ⊥
 Asks (Some (name, rows)) line = (name ≡ name_of line) × HasValues rows line
 
--- the subcommand, if there is one, asks for no line
+-- Holds if the subcommand, if any, requests no command.
 abbrev pub AsksNothing : Option (Text × List Row) → Type 0
 AsksNothing subcommand = (line : CommandArgs) → Asks subcommand line → ⊥
 
--- The fault explains a command line whose words have these mistakes and else this subcommand: it
--- is of one of the mistakes, or there is none and no line is asked for. Memory may run out at any
--- line.
+-- Holds if the fault explains a command line that has these errors, or this subcommand if there are
+-- none. The fault is one of the errors, or there is no error and no command is requested. Memory
+-- may run out at any command line.
 abbrev pub Explains : List ErrorKind → Option (Text × List Row) → LineFault → Type 0
 Explains mistakes subcommand fault.Memory = Unit {0}
 Explains mistakes subcommand (fault.Shown text) = (kind : ErrorKind) × IsAmong kind mistakes

@@ -1,4 +1,5 @@
--- The command line's grammar, in `clap`'s words: its commands, and the rule of each argument.
+-- The grammar of the command line, in terms of `clap`: its subcommands, and the rule of each
+-- argument.
 use Rattle.std.specs.Prelude.{◌≡◌, ℕ, Some, codes, false, true}
 use Rattle.clap.specs.Simple.{on_top}
 use Rattle.clap.specs.Words.{
@@ -23,49 +24,49 @@ use Rattle.dss_args.specs.declared.command_args.TheConstants.{
   MOST_CONNECTIONS,
 }
 
--- the command has this grammar, of whose arguments none is for the commands below too
+-- Holds if the command has this grammar, and none of its arguments is global.
 abbrev pub HasGrammar : App → Command → Type 0
 HasGrammar app command = (app_of command ≡ app) × ((out-Command command).has_globals ≡ false)
 
 -- ---- arguments
 
--- an option that has to be there, with a value
+-- A required option with a value.
 abbrev pub option_rule : Text → Rule
 option_rule name = record (new_rule name) { long = Some name; required = true }
 
 abbrev pub tokens_rule : Rule
 tokens_rule = record (option_rule (codes "tokens")) { value_names = 1 }
 
--- the value is a number from 0 to the last moment
+-- The value is a Unix time, up to the last one.
 abbrev pub now_rule : Rule
 now_rule = record (option_rule (codes "now")) {
   value_names = 1;
   parser = Some (Unsigned 0 LAST_MOMENT);
 }
 
--- the moment until which is swept, a number from 0 to the last moment
+-- The end of a purge: a Unix time, up to the last one.
 abbrev pub until_rule : Rule
 until_rule = record (option_rule (codes "until")) {
   value_names = 1;
   parser = Some (Unsigned 0 LAST_MOMENT);
 }
 
--- the database, which need not be named
+-- The database, which is optional.
 abbrev pub database_rule : Rule
 database_rule = record (new_rule (codes "db")) { long = Some (codes "db"); value_names = 1 }
 
--- the database of a command that keeps nothing in memory
+-- The database of a subcommand that requires one.
 abbrev pub store_rule : Rule
 store_rule = record (option_rule (codes "db")) { value_names = 1 }
 
--- the value is a number from 1 to the last port
+-- The value is a port number, from 1.
 abbrev pub port_rule : Rule
 port_rule = record (option_rule (codes "port")) {
   value_names = 1;
   parser = Some (Unsigned 1 LAST_PORT);
 }
 
--- an option with a number between these as its value, which need not be there
+-- An optional argument with a number in this range.
 abbrev pub number_rule : Text → ℕ → ℕ → Rule
 number_rule name least greatest = record (new_rule name) {
   long = Some name;
@@ -73,15 +74,15 @@ number_rule name least greatest = record (new_rule name) {
   parser = Some (Unsigned least greatest);
 }
 
--- an option with a value, which need not be there
+-- An optional argument with a value.
 abbrev pub choice_rule : Text → Rule
 choice_rule name = record (new_rule name) { long = Some name; value_names = 1 }
 
--- a flag, which is set or not
+-- A flag, which is set or not.
 abbrev pub flag_rule : Text → Rule
 flag_rule name = record (new_rule name) { long = Some name; action = Some SetTrue }
 
--- a word that has to be there
+-- A required positional argument.
 abbrev pub word_rule : Text → Rule
 word_rule name = record (new_rule name) { required = true }
 
@@ -97,7 +98,7 @@ token_rule = record (word_rule (codes "token")) { value_names = 1 }
 abbrev pub to_rule : Rule
 to_rule = record (word_rule (codes "to")) { value_names = 1 }
 
--- ---- commands
+-- ---- subcommands
 
 abbrev pub run_app : App
 run_app =
@@ -105,12 +106,12 @@ run_app =
     (with_rule (with_rule (with_rule (new_app (codes "run")) tokens_rule) now_rule) database_rule)
     requests_rule
 
--- the options that `serve` has to be given
+-- The required options of `serve`.
 abbrev pub serve_needs : App
 serve_needs =
     with_rule (with_rule (with_rule (new_app (codes "serve")) tokens_rule) store_rule) port_rule
 
--- those that bound what it serves
+-- The options of `serve` that limit what it serves and stores.
 abbrev pub serve_bounds : App
 serve_bounds =
     with_rule
@@ -121,7 +122,7 @@ serve_bounds =
     (number_rule (codes "quota") 1 GREATEST_BOUND))
     (number_rule (codes "retention") 1 LAST_MOMENT)
 
--- those for who runs it
+-- The options of `serve` for its operator.
 abbrev pub serve_watch : App
 serve_watch =
     with_rule
@@ -169,7 +170,7 @@ tokens_app =
     (choice_rule (codes "scopes")))
     (flag_rule (codes "new-salt"))
 
--- the program's own command: one of those below has to be there, or the version is asked for
+-- The program's own command. It requires a subcommand, or prints the version.
 abbrev pub own_app : App
 own_app =
     on_top (λ s. record s { subcommand_required = true; has_version = true })

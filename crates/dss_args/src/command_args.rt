@@ -1,4 +1,4 @@
-//! What a command line asks for.
+//! What a command line requests.
 ghost use Rattle.std.specs.Net.Grammar.{IsIpv4Text};
 ghost use Rattle.std.specs.declared.net.ipv4_addr.Ipv4Addr.{Ipv4Addr};
 ghost use Rattle.std.specs.Prelude.{
@@ -38,102 +38,101 @@ use clap::ArgMatches;
 use std::alloc::Global;
 use std::net::Ipv4Addr;
 
-/// The last moment that a command line may name, in seconds since 1970: the end of the year 9999.
+/// The last time that a command line can name, in Unix seconds: the end of the year 9999.
 pub const LAST_MOMENT: u64 = 253_402_300_799;
 
-/// The greatest number of a TCP port.
+/// The maximum TCP port number.
 pub const LAST_PORT: u64 = 65_535;
 
-/// The most connections that one call may serve.
+/// The maximum number of connections to serve before exit.
 pub const MOST_CONNECTIONS: u64 = 1_000_000;
 
-/// The most connections that are served at once, as many as are where the command line names no
-/// number.
+/// The maximum number of connections at once, which is also the default.
 pub const MOST_CLIENTS: u64 = 1_000;
 
-/// The greatest bound of what is kept of each supplier.
+/// The maximum quota of a USS.
 pub const GREATEST_BOUND: u64 = 4_294_967_295;
 
-// What is told where the words have no mistake by themselves and ask for nothing.
+// The error message for arguments that are valid one by one but request no command.
 const NO_LINE: &str =
     "error: the command line names no whole command, no IPv4 address after --listen, \
     or --backup-dir without --admin-port\n";
 
-/// What a command line asks for.
+/// A command that a command line requests.
 #[derive(Clone, Copy, Debug, PartialEq, Eq)]
 pub enum CommandArgs<'a> {
-    /// Serve one stream of requests, in memory or over a database.
+    /// Serves one stream of requests, in memory or from a database.
     Run {
         /// The name of the token file.
         tokens: &'a str,
-        /// The moment of each request, in seconds since 1970.
+        /// The time of each request, in Unix seconds.
         now: u64,
-        /// The name of the database's file, if it is not in memory.
+        /// The name of the database file; the airspace is in memory if `None`.
         database: Option<&'a str>,
-        /// The name of the file of requests; `-` is the standard input.
+        /// The name of the file of requests; `-` is standard input.
         requests: &'a str,
     },
-    /// Serve connections to a port of this machine.
+    /// Serves connections to a port of this machine.
     Serve(ServeArgs<'a>),
-    /// Serve one stream of requests in memory, through a socket of the program's own.
+    /// Serves one stream of requests in memory, through a loopback socket.
     Loopback {
         /// The name of the token file.
         tokens: &'a str,
-        /// The moment of each request, in seconds since 1970.
+        /// The time of each request, in Unix seconds.
         now: u64,
-        /// The name of the file of requests; `-` is the standard input.
+        /// The name of the file of requests; `-` is standard input.
         request: &'a str,
     },
-    /// Say what a token's cell is.
+    /// Prints the cell of a token.
     Cell {
-        /// The token, as it was given.
+        /// The token as given.
         token: &'a str,
     },
-    /// Say what a database keeps.
+    /// Prints what a database stores.
     Report {
-        /// The name of the database's file.
+        /// The name of the database file.
         database: &'a str,
-        /// Whether the cells of each reference are told.
+        /// True if the cells of each reference are printed.
         places: bool,
     },
-    /// Copy a database that nobody has open.
+    /// Backs up a database that no process has open.
     Backup {
-        /// The name of the database's file.
+        /// The name of the database file.
         database: &'a str,
-        /// The name of the copy's file.
+        /// The name of the backup file.
         to: &'a str,
     },
-    /// Bring a database to the newest format, and say which it had.
+    /// Upgrades a database to the newest format, and prints its previous format.
     Upgrade {
-        /// The name of the database's file.
+        /// The name of the database file.
         database: &'a str,
     },
-    /// Let go of what has ended in a database, and say how much it was.
+    /// Purges what has ended in a database, and prints how much it was.
     Purge {
-        /// The name of the database's file.
+        /// The name of the database file.
         database: &'a str,
-        /// The moment by which it has ended, in seconds since 1970.
+        /// The time by which it ended, in Unix seconds.
         until: u64,
-        /// The moment that counts as now, in seconds since 1970, if it is not that of the clock.
+        /// The current time, in Unix seconds; that of the clock if `None`.
         now: Option<u64>,
     },
-    /// Say what is wrong with a token file, and what it surely does not mean.
+    /// Prints the errors and warnings of a token file.
     CheckTokens {
         /// The name of the token file.
         file: &'a str,
     },
-    /// Make a token, and print the table that a token file has of it.
+    /// Generates a token, and prints its table for a token file.
     NewToken {
-        /// The id of the supplier, as it was given.
+        /// The id of the USS as given.
         uss: &'a str,
-        /// The names of the token's scopes with commas between, as they were given.
+        /// The names of the token's scopes as given, separated by commas.
         scopes: &'a str,
     },
-    /// Make a salt, and print the line that a token file has of it.
+    /// Generates a salt, and prints its line for a token file.
     NewSalt,
 }
 
-// The number of an argument, where it has one from the least to the greatest.
+// Returns the number of an argument, if it has one in this range.
 fn number_in(matches: &ArgMatches<'_>, name: &str, least: u64, greatest: u64) -> Option<u64>
     ensures some { IfSome result (HasNumberIn name.now least greatest
         (rows_of (found_of matches.now))) }
@@ -150,7 +149,7 @@ fn number_in(matches: &ArgMatches<'_>, name: &str, least: u64, greatest: u64) ->
     Some(number)
 }
 
-// What the matches of the subcommand `run` ask for; `None` where a value is not there or out of its
+// Returns the command of the subcommand `run`. Returns `None` if a value is missing or out of
 // range.
 fn run_line<'a>(matches: &ArgMatches<'a>) -> Option<CommandArgs<'a>>
     ensures some { IfSome result (Asks (Some (codes "run", rows_of (found_of matches.now)))) }
@@ -165,7 +164,7 @@ fn run_line<'a>(matches: &ArgMatches<'a>) -> Option<CommandArgs<'a>>
     })
 }
 
-// The port of the matches, where it is there and in its range.
+// Returns the port, if it is present and in range.
 fn port_in(matches: &ArgMatches<'_>) -> Option<u16>
     ensures some { IfSome result (HasNumberIn (codes "port") 1 LAST_PORT
         (rows_of (found_of matches.now))) }
@@ -179,7 +178,8 @@ fn port_in(matches: &ArgMatches<'_>) -> Option<u16>
     }
 }
 
-// The number of an option, if it is there; `None` where it is there and out of its range.
+// Returns the number of an option, if it is present. Returns `None` if it is present and out of
+// range.
 fn choice_in(matches: &ArgMatches<'_>, name: &str, least: u64, greatest: u64) -> Option<Option<u64>>
     ensures some { IfSome result (HasChoice name.now least greatest
         (rows_of (found_of matches.now))) }
@@ -192,7 +192,8 @@ fn choice_in(matches: &ArgMatches<'_>, name: &str, least: u64, greatest: u64) ->
     Some(Some(number_in(matches, name, least, greatest)?))
 }
 
-// How many connections are served at once; `None` where a number is there and out of its range.
+// Returns the maximum number of connections at once. Returns `None` if a number is present and out
+// of range.
 fn clients_in(matches: &ArgMatches<'_>) -> Option<u64>
     ensures some { IfSome result (HasClients (rows_of (found_of matches.now))) }
     ensures none { IfNone result ((n : ℕ) → HasClients (rows_of (found_of matches.now)) n → ⊥) }
@@ -203,7 +204,7 @@ fn clients_in(matches: &ArgMatches<'_>) -> Option<u64>
     number_in(matches, "max-connections", 1, MOST_CLIENTS)
 }
 
-// The address of a text.
+// Parses an address.
 fn address_of(text: &str) -> Option<Ipv4Addr>
     ensures some { IfSome result (IsIpv4Text text.now) }
     ensures none { IfNone result ((a : Ipv4Addr) → IsIpv4Text text.now a → ⊥) }
@@ -214,7 +215,7 @@ fn address_of(text: &str) -> Option<Ipv4Addr>
     }
 }
 
-// The address that is listened on; `None` where a text is there that is none.
+// Returns the address to listen on. Returns `None` if the option is present and no address.
 fn listen_in(matches: &ArgMatches<'_>) -> Option<Ipv4Addr>
     ensures some { IfSome result (HasListen (rows_of (found_of matches.now))) }
     ensures none { IfNone result ((a : Ipv4Addr) → HasListen (rows_of (found_of matches.now)) a
@@ -226,7 +227,7 @@ fn listen_in(matches: &ArgMatches<'_>) -> Option<Ipv4Addr>
     }
 }
 
-// The operator's port, if one is there; `None` where it is out of its range.
+// Returns the admin port, if it is present. Returns `None` if it is out of range.
 fn admin_in(matches: &ArgMatches<'_>) -> Option<Option<u16>>
     ensures some { IfSome result (HasChoice (codes "admin-port") 1 LAST_PORT
         (rows_of (found_of matches.now))) }
@@ -242,8 +243,7 @@ fn admin_in(matches: &ArgMatches<'_>) -> Option<Option<u16>>
     }
 }
 
-// How much is kept of each supplier at most, if a number is there; `None` where it is out of its
-// range.
+// Returns the quota of each USS, if it is present. Returns `None` if it is out of range.
 fn most_kept_in(matches: &ArgMatches<'_>) -> Option<Option<u32>>
     ensures some { IfSome result (HasChoice (codes "quota") 1 GREATEST_BOUND
         (rows_of (found_of matches.now))) }
@@ -259,14 +259,15 @@ fn most_kept_in(matches: &ArgMatches<'_>) -> Option<Option<u32>>
     }
 }
 
-// Whether a folder for copies is named, and no operator's port, at which they are asked for.
+// Returns true if a backup directory is given without an admin port, on which backups are
+// requested.
 fn lacks_port(matches: &ArgMatches<'_>) -> bool
     ensures { result ≡ lacks_port (rows_of (found_of matches.now)) }
 {
     matches.get_str("backup-dir").is_some() && matches.get_str("admin-port").is_none()
 }
 
-// The same of the subcommand `serve`.
+// Returns the command of the subcommand `serve`. Returns `None` if a value is missing or invalid.
 fn serve_line<'a>(matches: &ArgMatches<'a>) -> Option<CommandArgs<'a>>
     ensures some { IfSome result (Asks (Some (codes "serve", rows_of (found_of matches.now)))) }
     ensures none { IfNone result (AsksNothing
@@ -292,7 +293,8 @@ fn serve_line<'a>(matches: &ArgMatches<'a>) -> Option<CommandArgs<'a>>
     }))
 }
 
-// The same of the subcommand `self`.
+// Returns the command of the subcommand `self`. Returns `None` if a value is missing or out of
+// range.
 fn loopback_line<'a>(matches: &ArgMatches<'a>) -> Option<CommandArgs<'a>>
     ensures some { IfSome result (Asks (Some (codes "self", rows_of (found_of matches.now)))) }
     ensures none { IfNone result (AsksNothing
@@ -305,7 +307,7 @@ fn loopback_line<'a>(matches: &ArgMatches<'a>) -> Option<CommandArgs<'a>>
     })
 }
 
-// What the matches of the subcommand `cell` ask for; `None` where the token is not there.
+// Returns the command of the subcommand `cell`. Returns `None` if the token is missing.
 fn cell_line<'a>(matches: &ArgMatches<'a>) -> Option<CommandArgs<'a>>
     ensures some { IfSome result (Asks (Some (codes "cell", rows_of (found_of matches.now)))) }
     ensures none { IfNone result (AsksNothing
@@ -316,7 +318,7 @@ fn cell_line<'a>(matches: &ArgMatches<'a>) -> Option<CommandArgs<'a>>
     })
 }
 
-// What the matches of the subcommand `report` ask for; `None` where the database is not named.
+// Returns the command of the subcommand `report`. Returns `None` if the database is missing.
 fn report_line<'a>(matches: &ArgMatches<'a>) -> Option<CommandArgs<'a>>
     ensures some { IfSome result (Asks (Some (codes "report", rows_of (found_of matches.now)))) }
     ensures none { IfNone result (AsksNothing
@@ -328,7 +330,7 @@ fn report_line<'a>(matches: &ArgMatches<'a>) -> Option<CommandArgs<'a>>
     })
 }
 
-// The same of the subcommand `backup`, which names a copy, too.
+// Returns the command of the subcommand `backup`. Returns `None` if a file is missing.
 fn backup_line<'a>(matches: &ArgMatches<'a>) -> Option<CommandArgs<'a>>
     ensures some { IfSome result (Asks (Some (codes "backup", rows_of (found_of matches.now)))) }
     ensures none { IfNone result (AsksNothing
@@ -340,7 +342,7 @@ fn backup_line<'a>(matches: &ArgMatches<'a>) -> Option<CommandArgs<'a>>
     })
 }
 
-// The same of the subcommand `upgrade`.
+// Returns the command of the subcommand `upgrade`. Returns `None` if the database is missing.
 fn upgrade_line<'a>(matches: &ArgMatches<'a>) -> Option<CommandArgs<'a>>
     ensures some { IfSome result (Asks (Some (codes "upgrade", rows_of (found_of matches.now)))) }
     ensures none { IfNone result (AsksNothing
@@ -351,8 +353,8 @@ fn upgrade_line<'a>(matches: &ArgMatches<'a>) -> Option<CommandArgs<'a>>
     })
 }
 
-// What the matches of the subcommand `sweep` ask for; `None` where a value is not there or out of
-// its range.
+// Returns the command of the subcommand `purge`. Returns `None` if a value is missing or out of
+// range.
 fn purge_line<'a>(matches: &ArgMatches<'a>) -> Option<CommandArgs<'a>>
     ensures some { IfSome result (Asks (Some (codes "purge", rows_of (found_of matches.now)))) }
     ensures none { IfNone result (AsksNothing
@@ -365,7 +367,7 @@ fn purge_line<'a>(matches: &ArgMatches<'a>) -> Option<CommandArgs<'a>>
     })
 }
 
-// Whether a flag is set.
+// Returns true if a flag is set.
 fn is_set(matches: &ArgMatches<'_>, name: &str) -> bool
     ensures { result ≡ is_set name.now (rows_of (found_of matches.now)) }
 {
@@ -375,7 +377,7 @@ fn is_set(matches: &ArgMatches<'_>, name: &str) -> bool
     }
 }
 
-// What the options of the subcommand `tokens` ask for; `None` where they go not together.
+// Returns the command of the options of `tokens`. Returns `None` if they conflict.
 fn line_of_options<'a>(
     check: Option<&'a str>,
     new: Option<&'a str>,
@@ -392,7 +394,8 @@ fn line_of_options<'a>(
     }
 }
 
-// What the matches of the subcommand `tokens` ask for; `None` where they ask for no one thing.
+// Returns the command of the subcommand `tokens`. Returns `None` if its options do not request
+// exactly one.
 fn tokens_line<'a>(matches: &ArgMatches<'a>) -> Option<CommandArgs<'a>>
     ensures some { IfSome result (Asks (Some (codes "tokens", rows_of (found_of matches.now)))) }
     ensures none { IfNone result (AsksNothing
@@ -404,7 +407,7 @@ fn tokens_line<'a>(matches: &ArgMatches<'a>) -> Option<CommandArgs<'a>>
     line_of_options(check, new, scopes, is_set(matches, "new-salt"))
 }
 
-// What the matches of a subcommand ask for; `None` where no subcommand has that name.
+// Returns the command of a subcommand. Returns `None` if no subcommand has that name.
 fn line_of<'a>(name: &str, matches: &ArgMatches<'a>) -> Option<CommandArgs<'a>>
     ensures some { IfSome result (Asks (Some (name.now, rows_of (found_of matches.now)))) }
     ensures none { IfNone result (AsksNothing (Some (name.now, rows_of (found_of matches.now)))) }
@@ -423,7 +426,7 @@ fn line_of<'a>(name: &str, matches: &ArgMatches<'a>) -> Option<CommandArgs<'a>>
     }
 }
 
-// What the subcommand of the matches asks for; `None` where there is none.
+// Returns the command of the matched subcommand. Returns `None` if there is none.
 fn line_in<'a>(matches: &ArgMatches<'a>) -> Option<CommandArgs<'a>>
     ensures some { IfSome result (Asks (subcommand_rows_of matches.now)) }
     ensures none { IfNone result (AsksNothing (subcommand_rows_of matches.now)) }
@@ -434,10 +437,11 @@ fn line_in<'a>(matches: &ArgMatches<'a>) -> Option<CommandArgs<'a>>
     }
 }
 
-/// Reads the words of a command line, of which the first is the program's name. A line is answered
-/// only for words without a mistake. A fault has the whole text that the user reads, its line ends
-/// included. What the words ask for, and which mistakes they have, is by `clap`'s own account of
-/// the grammar.
+/// Parses a command line, whose first argument is the program's name.
+///
+/// Returns a command only for arguments without an error. A fault has the whole text that the user
+/// reads, with its line ends. `clap`'s own specification of the grammar says what the arguments
+/// request and which errors they have.
 pub fn parse<'a>(alloc: Global, words: &'a [&'a str]) -> Result<CommandArgs<'a>, LineFault>
     ensures ok { IfOk result (Asks (subcommand_of dss_app (texts words.entry.now))) }
     ensures faultless { IfOk result (λ _. mistakes_of dss_app (texts words.entry.now) ≡ []) }

@@ -1,4 +1,4 @@
-//! Why a command line asks for no command.
+//! The reason why a command line requests no command.
 ghost use Rattle.std.specs.Prelude.{◌≡◌};
 ghost use Rattle.clap.specs.Values.{kind_of};
 ghost use Rattle.dss_args.specs.LineFault.{IsFaultOf, status_of};
@@ -7,20 +7,20 @@ use clap::Error;
 use clap::error::ErrorKind;
 use std::alloc::{AllocError, Global};
 
-/// Why a command line asks for no command.
+/// The reason why a command line requests no command.
 #[derive(Debug, Drop)]
 pub enum LineFault {
-    /// Help was asked for: this text is for the standard output.
+    /// The text is help or the version, for standard output.
     Shown(String),
-    /// The words are no command line: this text is for the standard error.
+    /// The text is an error of the arguments, for standard error.
     Refused(String),
     /// Memory ran out.
     Memory,
 }
 
 impl LineFault {
-    /// The exit status of the program that was called so: 0 where help was asked for, 2 where the
-    /// words were refused, and 1 where memory ran out.
+    /// Returns the exit status of the program: 0 for help, 2 for rejected arguments, and 1 if
+    /// memory ran out.
     pub fn status(&self) -> u8
         ensures { result ≡ status_of self.now }
     {
@@ -42,7 +42,7 @@ impl From<AllocError> for LineFault {
     }
 }
 
-/// The fault of a parse that gave no matches, with the whole text that its user reads.
+/// Returns the fault of a failed parse, with the whole text that the user reads.
 pub(crate) fn fault_of(alloc: Global, error: &Error) -> LineFault
     ensures { IsFaultOf (kind_of error.now) result }
 {

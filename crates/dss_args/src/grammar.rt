@@ -1,4 +1,4 @@
-//! The command line's grammar: the commands of the program, with their arguments.
+//! The grammar of the command line: the subcommands of the program, with their arguments.
 ghost use Rattle.std.specs.Prelude.{◌≡◌, IfOk, codes, false};
 ghost use Rattle.clap.specs.Words.{rule_of};
 ghost use Rattle.dss_args.specs.Grammar.{
@@ -36,7 +36,7 @@ use clap::builder::ValueParser;
 use clap::{Arg, ArgAction, Command};
 use std::alloc::{AllocError, Global};
 
-// An option that has to be there, with its value.
+// Returns a required option with a value.
 fn option<'a>(alloc: Global, name: &'a str) -> Arg<'a>
     ensures rule { rule_of result ≡ option_rule name.entry.now }
     ensures local { result.global ≡ false }
@@ -50,17 +50,17 @@ fn tokens_option<'a>(alloc: Global) -> Arg<'a>
 {
     option(alloc, "tokens")
         .value_name("FILE")
-        .help("The token file")
+        .help("Token file to load")
 }
 
-// The moment until which is swept.
+// Returns the option for the end of a purge.
 fn until_option<'a>(alloc: Global) -> Arg<'a>
     ensures rule { rule_of result ≡ until_rule }
     ensures local { result.global ≡ false }
 {
     option(alloc, "until")
         .value_name("SECONDS")
-        .help("What ended at or before this moment goes, in seconds since 1970; it must be past")
+        .help("Purge what ended at or before this past time, in Unix seconds [0-253402300799]")
         .value_parser(ValueParser::unsigned(0, LAST_MOMENT))
 }
 
@@ -70,38 +70,38 @@ fn now_option<'a>(alloc: Global) -> Arg<'a>
 {
     option(alloc, "now")
         .value_name("SECONDS")
-        .help("The moment of each request, in seconds since 1970")
+        .help("Time of each request, in Unix seconds [0-253402300799]")
         .value_parser(ValueParser::unsigned(0, LAST_MOMENT))
 }
 
-// The database of a command that may do without.
+// Returns the database option of a subcommand that does not require one.
 fn database_option<'a>(alloc: Global) -> Arg<'a>
     ensures rule { rule_of result ≡ database_rule }
     ensures local { result.global ≡ false }
 {
     Arg::new(alloc, "db").long("db").value_name("FILE").help(
-        "The database, made where there is none; without it the airspace is in memory",
+        "Database file, created if missing [default: the airspace is in memory]",
     )
 }
 
-// The database of a command that keeps nothing in memory.
+// Returns the database option of a subcommand that requires one.
 fn store_option<'a>(alloc: Global) -> Arg<'a>
     ensures rule { rule_of result ≡ store_rule }
     ensures local { result.global ≡ false }
 {
     option(alloc, "db")
         .value_name("FILE")
-        .help("The database, made where there is none")
+        .help("Database file, created if missing")
 }
 
-// The database of a command that makes none.
+// Returns the database option of a subcommand that creates none.
 fn source_option<'a>(alloc: Global) -> Arg<'a>
     ensures rule { rule_of result ≡ store_rule }
     ensures local { result.global ≡ false }
 {
     option(alloc, "db")
         .value_name("FILE")
-        .help("The database, which must be there")
+        .help("Database file, which must exist")
 }
 
 fn port_option<'a>(alloc: Global) -> Arg<'a>
@@ -110,11 +110,11 @@ fn port_option<'a>(alloc: Global) -> Arg<'a>
 {
     option(alloc, "port")
         .value_name("PORT")
-        .help("The port, from 1 to 65535")
+        .help("Port to listen on [1-65535]")
         .value_parser(ValueParser::unsigned(1, LAST_PORT))
 }
 
-// An option with a number from 1 as its value, which need not be there.
+// Returns an optional argument with a number from 1.
 fn number_option<'a>(alloc: Global, name: &'a str, value: &'a str, greatest: u64) -> Arg<'a>
     ensures rule { rule_of result ≡ number_rule name.entry.now 1 greatest }
     ensures local { result.global ≡ false }
@@ -125,7 +125,7 @@ fn number_option<'a>(alloc: Global, name: &'a str, value: &'a str, greatest: u64
         .value_parser(ValueParser::unsigned(1, greatest))
 }
 
-// The moment that counts as now, which need not be there.
+// Returns the option for the current time.
 fn moment_option<'a>(alloc: Global) -> Arg<'a>
     ensures rule { rule_of result ≡ number_rule (codes "now") 0 LAST_MOMENT }
     ensures local { result.global ≡ false }
@@ -133,18 +133,17 @@ fn moment_option<'a>(alloc: Global) -> Arg<'a>
     Arg::new(alloc, "now")
         .long("now")
         .value_name("SECONDS")
-        .help("The moment that counts as now, in seconds since 1970; without it that of the clock")
+        .help("Current time, in Unix seconds [0-253402300799; default: the clock]")
         .value_parser(ValueParser::unsigned(0, LAST_MOMENT))
 }
 
-// How long what has ended is kept.
+// Returns the option for the retention.
 fn keep_option<'a>(alloc: Global) -> Arg<'a>
     ensures rule { rule_of result ≡ number_rule (codes "retention") 1 LAST_MOMENT }
     ensures local { result.global ≡ false }
 {
     number_option(alloc, "retention", "SECONDS", LAST_MOMENT).help(
-        "How long what has ended is kept, at least 1 second: what ended so long ago or longer \
-         goes; without it nothing goes",
+        "Purge what ended at least this many seconds ago [1-253402300799; default: never]",
     )
 }
 
@@ -153,7 +152,7 @@ fn count_option<'a>(alloc: Global) -> Arg<'a>
     ensures local { result.global ≡ false }
 {
     number_option(alloc, "count", "NUMBER", MOST_CONNECTIONS).help(
-        "How many connections to serve before it ends, from 1 to 1000000; else as many as come",
+        "Exit after this many connections [1-1000000; default: unlimited]",
     )
 }
 
@@ -162,7 +161,7 @@ fn clients_option<'a>(alloc: Global) -> Arg<'a>
     ensures local { result.global ≡ false }
 {
     number_option(alloc, "max-connections", "NUMBER", MOST_CLIENTS).help(
-        "How many connections to serve at once, from 1 to 1000; without it 1000",
+        "Max connections at once [1-1000; default: 1000]",
     )
 }
 
@@ -171,8 +170,8 @@ fn most_kept_option<'a>(alloc: Global) -> Arg<'a>
     ensures local { result.global ≡ false }
 {
     number_option(alloc, "quota", "NUMBER", GREATEST_BOUND).help(
-        "How many entities and subscriptions to keep of each supplier, with 64 cells for each, \
-         from 1 to 4294967295; without it there is no bound",
+        "Max entities and subscriptions to store per USS, with 64 cells for each \
+         [1-4294967295; default: unlimited]",
     )
 }
 
@@ -181,12 +180,11 @@ fn admin_option<'a>(alloc: Global) -> Arg<'a>
     ensures local { result.global ≡ false }
 {
     number_option(alloc, "admin-port", "PORT", LAST_PORT).help(
-        "The operator's port of 127.0.0.1, from 1 to 65535, for /health, /metrics and /stop; \
-         without it there is none",
+        "Admin port on 127.0.0.1, for /health, /metrics and /stop [1-65535; default: none]",
     )
 }
 
-// An option with a value, which need not be there.
+// Returns an optional argument with a value.
 fn choice<'a>(alloc: Global, name: &'a str, value: &'a str) -> Arg<'a>
     ensures rule { rule_of result ≡ choice_rule name.entry.now }
     ensures local { result.global ≡ false }
@@ -194,36 +192,36 @@ fn choice<'a>(alloc: Global, name: &'a str, value: &'a str) -> Arg<'a>
     Arg::new(alloc, name).long(name).value_name(value)
 }
 
-// The folder for copies that are asked for at the operator's port.
+// Returns the option for the directory of the backups that are requested on the admin port.
 fn backups_option<'a>(alloc: Global) -> Arg<'a>
     ensures rule { rule_of result ≡ choice_rule (codes "backup-dir") }
     ensures local { result.global ≡ false }
 {
     choice(alloc, "backup-dir", "DIR").help(
-        "Where POST /backup of the operator's port puts copies of the database, with --admin-port; \
-         without it none are made",
+        "Directory for the backups of POST /backup on the admin port; requires --admin-port \
+         [default: no backups]",
     )
 }
 
-// The address that is listened on.
+// Returns the option for the address to listen on.
 fn listen_option<'a>(alloc: Global) -> Arg<'a>
     ensures rule { rule_of result ≡ choice_rule (codes "listen") }
     ensures local { result.global ≡ false }
 {
-    choice(alloc, "listen", "ADDRESS").help("The IPv4 address to listen on; without it 127.0.0.1")
+    choice(alloc, "listen", "ADDRESS").help("IPv4 address to listen on [default: 127.0.0.1]")
 }
 
-// The file to which a line is written for each request.
+// Returns the option for the access log.
 fn log_option<'a>(alloc: Global) -> Arg<'a>
     ensures rule { rule_of result ≡ choice_rule (codes "access-log") }
     ensures local { result.global ≡ false }
 {
     choice(alloc, "access-log", "FILE").help(
-        "Where a line is written for each request, - for standard error; without it nowhere",
+        "Write a line per request to this file, or - for standard error [default: no log]",
     )
 }
 
-// A word that has to be there.
+// Returns a required positional argument.
 fn word<'a>(alloc: Global, name: &'a str) -> Arg<'a>
     ensures rule { rule_of result ≡ word_rule name.entry.now }
     ensures local { result.global ≡ false }
@@ -237,7 +235,7 @@ fn requests_word<'a>(alloc: Global) -> Arg<'a>
 {
     word(alloc, "requests")
         .value_name("REQUESTS")
-        .help("The file of requests, or - for standard input")
+        .help("File of requests, or - for standard input")
 }
 
 fn request_word<'a>(alloc: Global) -> Arg<'a>
@@ -245,7 +243,7 @@ fn request_word<'a>(alloc: Global) -> Arg<'a>
     ensures local { result.global ≡ false }
 {
     word(alloc, "request").value_name("REQUEST").help(
-        "The file of requests, at most 16384 bytes, or - for standard input",
+        "File of requests, at most 16384 bytes, or - for standard input",
     )
 }
 
@@ -255,50 +253,50 @@ fn token_word<'a>(alloc: Global) -> Arg<'a>
 {
     word(alloc, "token")
         .value_name("TOKEN")
-        .help("The token of the cell")
+        .help("Token of the S2 cell")
 }
 
-// The file of a copy.
+// Returns the argument for the backup file.
 fn to_word<'a>(alloc: Global) -> Arg<'a>
     ensures rule { rule_of result ≡ to_rule }
     ensures local { result.global ≡ false }
 {
     word(alloc, "to")
         .value_name("DESTINATION")
-        .help("The file of the copy, which must not be there yet")
+        .help("File of the backup, which must not exist")
 }
 
-// The token file that is checked.
+// Returns the option for the token file to check.
 fn check_option<'a>(alloc: Global) -> Arg<'a>
     ensures rule { rule_of result ≡ choice_rule (codes "check") }
     ensures local { result.global ≡ false }
 {
     choice(alloc, "check", "FILE").help(
-        "The token file: what is wrong with it is told line by line",
+        "Check this token file, and print a line per error or warning",
     )
 }
 
-// The supplier of a new token.
+// Returns the option for the USS of a new token.
 fn new_option<'a>(alloc: Global) -> Arg<'a>
     ensures rule { rule_of result ≡ choice_rule (codes "new-token") }
     ensures local { result.global ≡ false }
 {
     choice(alloc, "new-token", "USS").help(
-        "The id of a supplier: the table of a new token is printed, with --scopes",
+        "Generate a token for this USS, and print its table; requires --scopes",
     )
 }
 
-// The scopes of a new token.
+// Returns the option for the scopes of a new token.
 fn scopes_option<'a>(alloc: Global) -> Arg<'a>
     ensures rule { rule_of result ≡ choice_rule (codes "scopes") }
     ensures local { result.global ≡ false }
 {
     choice(alloc, "scopes", "SCOPES").help(
-        "The names of the new token's scopes, with commas between",
+        "Scopes of the new token, separated by commas",
     )
 }
 
-// A flag, which is set or not.
+// Returns a flag, which is set or not.
 fn flag<'a>(alloc: Global, name: &'a str) -> Arg<'a>
     ensures rule { rule_of result ≡ flag_rule name.entry.now }
     ensures local { result.global ≡ false }
@@ -306,42 +304,41 @@ fn flag<'a>(alloc: Global, name: &'a str) -> Arg<'a>
     Arg::new(alloc, name).long(name).action(ArgAction::SetTrue)
 }
 
-// Whether a salt is made.
+// Returns the flag that generates a salt.
 fn new_salt_flag<'a>(alloc: Global) -> Arg<'a>
     ensures rule { rule_of result ≡ flag_rule (codes "new-salt") }
     ensures local { result.global ≡ false }
 {
-    flag(alloc, "new-salt").help("The line of a new salt is printed")
+    flag(alloc, "new-salt").help("Generate a salt, and print its line")
 }
 
-// Whether the cells of each reference are told.
+// Returns the flag that prints the cells of each reference.
 fn places_flag<'a>(alloc: Global) -> Arg<'a>
     ensures rule { rule_of result ≡ flag_rule (codes "cells") }
     ensures local { result.global ≡ false }
 {
     flag(alloc, "cells").help(
-        "Print a line for each cell of each volume in place of one for each reference, \
-         and no serial",
+        "Print a line per cell of each volume instead of one per reference, and no serial",
     )
 }
 
-// Whether nothing is supposed of a torn write.
+// Returns the flag for double sync.
 fn wary_flag<'a>(alloc: Global) -> Arg<'a>
     ensures rule { rule_of result ≡ flag_rule (codes "double-sync") }
     ensures local { result.global ≡ false }
 {
     flag(alloc, "double-sync").help(
-        "Suppose nothing of a torn write: each change is synced twice, which else is synced once",
+        "Sync each commit twice, and assume nothing about torn writes [default: sync once]",
     )
 }
 
-// Whether more is told before it listens.
+// Returns the flag that prints warnings and limits before listening.
 fn verbose_flag<'a>(alloc: Global) -> Arg<'a>
     ensures rule { rule_of result ≡ flag_rule (codes "verbose") }
     ensures local { result.global ≡ false }
 {
     flag(alloc, "verbose").help(
-        "Tell on standard error what the token file surely does not mean, and the limits",
+        "Print warnings about the token file, and the limits, on standard error",
     )
 }
 
@@ -349,7 +346,7 @@ fn run_command<'a>(alloc: Global) -> Result<Command<'a>, AllocError>
     ensures { IfOk result (HasGrammar run_app) }
 {
     Command::new(alloc, "run")
-        .about("Serves one stream of requests")
+        .about("Serve one stream of requests")
         .arg(tokens_option(alloc))?
         .arg(now_option(alloc))?
         .arg(database_option(alloc))?
@@ -360,7 +357,7 @@ fn serve_command<'a>(alloc: Global) -> Result<Command<'a>, AllocError>
     ensures { IfOk result (HasGrammar serve_app) }
 {
     Command::new(alloc, "serve")
-        .about("Serves connections to a port of this machine, many at once")
+        .about("Serve connections to a port of this machine, many at once")
         .arg(tokens_option(alloc))?
         .arg(store_option(alloc))?
         .arg(port_option(alloc))?
@@ -380,7 +377,7 @@ fn self_command<'a>(alloc: Global) -> Result<Command<'a>, AllocError>
     ensures { IfOk result (HasGrammar self_app) }
 {
     Command::new(alloc, "self")
-        .about("Serves one stream of requests in memory, through a socket of its own")
+        .about("Serve one stream of requests in memory, through a loopback socket")
         .arg(tokens_option(alloc))?
         .arg(now_option(alloc))?
         .arg(request_word(alloc))
@@ -390,7 +387,7 @@ fn cell_command<'a>(alloc: Global) -> Result<Command<'a>, AllocError>
     ensures { IfOk result (HasGrammar cell_app) }
 {
     Command::new(alloc, "cell")
-        .about("Prints the cell of a token")
+        .about("Print the cell of a token")
         .arg(token_word(alloc))
 }
 
@@ -398,7 +395,7 @@ fn report_command<'a>(alloc: Global) -> Result<Command<'a>, AllocError>
     ensures { IfOk result (HasGrammar report_app) }
 {
     Command::new(alloc, "report")
-        .about("Prints the references that a database keeps, and its serial")
+        .about("Print the references that a database stores, and its serial")
         .arg(store_option(alloc))?
         .arg(places_flag(alloc))
 }
@@ -407,7 +404,7 @@ fn backup_command<'a>(alloc: Global) -> Result<Command<'a>, AllocError>
     ensures { IfOk result (HasGrammar backup_app) }
 {
     Command::new(alloc, "backup")
-        .about("Copies a database that nothing has open: the copy is whole, or there is none")
+        .about("Back up a database that no process has open: all of it, or no file")
         .arg(source_option(alloc))?
         .arg(to_word(alloc))
 }
@@ -416,7 +413,7 @@ fn upgrade_command<'a>(alloc: Global) -> Result<Command<'a>, AllocError>
     ensures { IfOk result (HasGrammar upgrade_app) }
 {
     Command::new(alloc, "upgrade")
-        .about("Brings a database to format 2, and prints which format it had")
+        .about("Upgrade a database to format 2, and print its previous format")
         .arg(store_option(alloc))
 }
 
@@ -425,8 +422,8 @@ fn purge_command<'a>(alloc: Global) -> Result<Command<'a>, AllocError>
 {
     Command::new(alloc, "purge")
         .about(
-            "Lets go of each intent and constraint that has ended, and of each subscription that \
-             has and that no intent names, and prints how many they were",
+            "Purge ended intents, ended constraints, and ended subscriptions that no intent \
+             references, and print how many",
         )
         .arg(store_option(alloc))?
         .arg(until_option(alloc))?
@@ -438,7 +435,7 @@ fn tokens_command<'a>(alloc: Global) -> Result<Command<'a>, AllocError>
 {
     Command::new(alloc, "tokens")
         .about(
-            "Checks a token file, or makes a token or a salt for one: \
+            "Check a token file, or generate a token or a salt: \
              one of --check, --new-token, --new-salt",
         )
         .arg(check_option(alloc))?
@@ -447,12 +444,12 @@ fn tokens_command<'a>(alloc: Global) -> Result<Command<'a>, AllocError>
         .arg(new_salt_flag(alloc))
 }
 
-/// The commands of the program.
+/// Returns the program's command, with all subcommands.
 pub(crate) fn command<'a>(alloc: Global) -> Result<Command<'a>, AllocError>
     ensures { IfOk result (HasGrammar dss_app) }
 {
     Command::new(alloc, "dss")
-        .about("A discovery and synchronization service for drone suppliers")
+        .about("Discovery and synchronization service for drone traffic")
         .version(SHOWN)
         .subcommand_required(true)
         .subcommand(run_command(alloc)?)?

@@ -1,5 +1,5 @@
-//! The command line of the program: its words become a `Line`, or the text that is shown in its
-//! place.
+//! The command line of the program: parses its arguments into a `CommandArgs`, or returns the text
+//! to print instead.
 #![tactic(auto)]
 
 pub mod command_args;

@@ -1,37 +1,37 @@
-//! What the command `serve` is given.
+//! The arguments of the subcommand `serve`.
 use std::net::Ipv4Addr;
 
-/// What the command `serve` is given.
+/// The arguments of the subcommand `serve`.
 #[derive(Clone, Copy, Debug, PartialEq, Eq)]
 pub struct ServeArgs<'a> {
     /// The name of the token file.
     pub tokens: &'a str,
-    /// The name of the database's file.
+    /// The name of the database file.
     pub database: &'a str,
-    /// The address that is listened on.
+    /// The address to listen on.
     pub listen: Ipv4Addr,
     /// The port, at least 1.
     pub port: u16,
-    /// How many connections, from 1 to a million, or as many as come.
+    /// The number of connections before exit, from 1 to a million; unlimited if `None`.
     pub count: Option<u64>,
-    /// How many of them at once, from 1 to a thousand.
+    /// The maximum number of connections at once, from 1 to a thousand.
     pub max_connections: u64,
-    /// How many entities and subscriptions are kept of each supplier at most, at least 1, if there
-    /// is a bound.
+    /// The maximum number of entities and subscriptions stored per USS, at least 1; unlimited if
+    /// `None`.
     pub quota: Option<u32>,
-    /// How many seconds what has ended is kept, at least 1; without a number nothing goes.
+    /// The retention of what has ended in seconds, at least 1; nothing is purged if `None`.
     pub retention: Option<u64>,
-    /// The operator's port, at least 1, if there is one.
+    /// The admin port, at least 1, if there is one.
     pub admin_port: Option<u16>,
-    /// The name of the folder for copies that are asked for at the operator's port, if there is
-    /// one; then there is an operator's port.
+    /// The name of the directory for backups that are requested on the admin port, if there is one.
+    /// Then there is an admin port.
     pub backup_dir: Option<&'a str>,
     /// The name of the file to which a line is written for each request, if there is one; `-` is
     /// standard error.
     pub access_log: Option<&'a str>,
-    /// Whether nothing is supposed of a torn write of the database.
+    /// True if each commit is synced twice, and nothing is assumed about torn writes of the
+    /// database.
     pub double_sync: bool,
-    /// Whether it tells, before it listens, what the token file surely does not mean, and its
-    /// limits.
+    /// True if warnings about the token file, and its limits, are printed before listening.
     pub verbose: bool,
 }

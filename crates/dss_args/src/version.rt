@@ -1,10 +1,10 @@
-//! Which version this is.
+//! The version of the program.
 
 /// The version, which is that of the package.
-pub const VERSION: &str = "0.1.0";
+pub const VERSION: &str = "0.2.0";
 
-/// The kit that it is proved and compiled with.
+/// The kit with which the program is proved and compiled.
 pub const KIT: &str = "rattle-kit-13b logic dac8208d650f15bf";
 
-/// Both, as `--version` shows them after the program's name.
-pub(crate) const SHOWN: &str = "0.1.0 (rattle-kit-13b logic dac8208d650f15bf)";
+/// The version and the kit, as `--version` prints them after the program's name.
+pub(crate) const SHOWN: &str = "0.2.0 (rattle-kit-13b logic dac8208d650f15bf)";

@@ -1,4 +1,4 @@
--- Faults of a copy, by number and name.
+-- Faults of a backup, by number and name.
 use Rattle.std.specs.Prelude.{ℕ, List, codes}
 use Rattle.dss_command.specs.declared.copy_fault.CopyFault.{CopyFault}
 use Rattle.dss_command.specs.declared.copy_fault.CopyFault.TheVariants.{Exists, Read, Write}

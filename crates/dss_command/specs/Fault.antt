@@ -1,4 +1,4 @@
--- Why a command failed.
+-- The reasons why a command failed.
 use Rattle.std.specs.Prelude.{◌≡◌, ℕ, List, ◌++◌, codes, decimal, Option, Result, Ok, Err}
 use Rattle.std.specs.Io.KnownBytes.{Appends}
 use Rattle.std.specs.IoError.{error_kind}
@@ -19,31 +19,31 @@ use Rattle.dss_report.specs.declared.fault.ReportFault.TheVariants as report
 use Rattle.wire_http.specs.declared.fault.StreamFault.{StreamFault}
 use Rattle.wire_http.specs.declared.fault.StreamFault.TheVariants as stream
 
--- the fault of a stream that was given up; want of memory is told as such
+-- The fault of an aborted stream. Out of memory is a fault of its own.
 abbrev pub IsOfStream : StreamFault → Fault → Type 0
 IsOfStream stream.Memory found = found ≡ fault.Memory
 IsOfStream why found = found ≡ fault.Stream why
 
--- the fault of the line of a cell
+-- The fault of printing a cell.
 abbrev pub IsOfCell : CellFault → Fault → Type 0
 IsOfCell (cell.Token why) found = found ≡ fault.Token why
 IsOfCell cell.Memory found = found ≡ fault.Memory
 
--- the fault of a report: of the database, or want of memory
+-- The fault of a report: of the database, or out of memory.
 abbrev pub IsOfReport : ReportFault → Fault → Type 0
 IsOfReport report.Space found = found ≡ fault.DatabaseFailed
 IsOfReport report.Memory found = found ≡ fault.Memory
 
--- what the failure of a call of the system is told as; want of memory is told as such
+-- The fault of a failed system call. Out of memory is a fault of its own.
 abbrev pub told_by : ErrorKind → Fault → Fault
 told_by kinds.OutOfMemory why = fault.Memory
 told_by kind why = why
 
--- what tells a fault by its number and its name
+-- The number and name of a fault, as printed.
 abbrev pub numbered : ℕ → List ℕ → List ℕ
 numbered number name = decimal number ++ (codes " " ++ name)
 
--- the line that tells a fault, without its end
+-- The line that is printed for a fault, without its line end.
 abbrev pub line_of : Fault → List ℕ
 line_of fault.TokensUnread = codes "dss: tokens: cannot read"
 line_of (fault.Tokens why) =
@@ -52,7 +52,7 @@ line_of (fault.Database why) =
     codes "dss: db: fault " ++ numbered (opening.number_of why) (opening.name_of why)
 line_of fault.DatabaseFailed = codes "dss: db: fault"
 line_of (fault.Copy why) =
-    codes "dss: copy: fault " ++ numbered (copies.number_of why) (copies.name_of why)
+    codes "dss: backup: fault " ++ numbered (copies.number_of why) (copies.name_of why)
 line_of fault.RequestsUnread = codes "dss: requests: cannot read"
 line_of fault.UntilInFuture = codes "dss: until: in the future"
 line_of fault.Clock = codes "dss: clock"
@@ -66,17 +66,17 @@ line_of (fault.Token why) =
 line_of fault.Output = codes "dss: output"
 line_of fault.Memory = codes "dss: memory"
 
--- the exit status of a command that ended so
+-- The exit status of a command with this result.
 abbrev pub status_of : Result (Unit {0}) Fault → ℕ
 status_of (Ok x) = 0
 status_of (Err e) = 1
 
--- a client's fault is told on a line
+-- Holds if the fault of a client is printed on one line.
 abbrev pub TellsClient : StreamFault → (old new : Option (List ℕ)) → Type 0
 TellsClient why old new =
     (found : Fault) × IsOfStream why found × Appends old new (line_of found ++ codes "\n")
 
--- how the command ends by how its service to many clients ended
+-- How the command ends, given the result of its service to many clients.
 abbrev pub EndsServing : Result (Unit {0}) Error → Result (Unit {0}) Fault → Type 0
 EndsServing (Ok x) ended = ended ≡ Ok x
 EndsServing (Err cause) ended = ended ≡ Err (told_by (error_kind cause) fault.Socket)

@@ -1,8 +1,8 @@
 -- The line with the limits of the command `serve`.
 use Rattle.std.specs.Prelude.{ℕ, List, Option, Some, None, ◌++◌, codes, decimal}
 
--- The line, with its end: how many clients are served at once, how many connections in all, if
--- there is a number, and how much is kept of each supplier, if there is a bound.
+-- The line with its line end: the maximum number of clients at once, the number of connections if
+-- limited, and the quota of each USS if there is one.
 abbrev pub limits_line : ℕ → Option ℕ → Option ℕ → List ℕ
 limits_line clients None None =
     codes "dss: limits: "

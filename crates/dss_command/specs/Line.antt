@@ -1,4 +1,4 @@
--- How a command line ends, by what its words ask for.
+-- How a command line ends, given what its arguments request.
 use Rattle.std.specs.Prelude.{◌≡◌, ◌⊎◌, ℕ, List, [], Option, None, OnOk, Result, string_bytes}
 use Rattle.std.specs.Io.KnownBytes.{Appends}
 use Rattle.clap.specs.Faults.{fault_of as mistakes_of}
@@ -25,26 +25,26 @@ use Rattle.dss_report.specs.Cell.{IsLineOfToken}
 use Rattle.dss_command.specs.Fault.{status_of}
 use Rattle.dss_command.specs.declared.fault.Fault.{Fault}
 
--- Help is written whole, and then the status is 0, or else 1; a refusal has the status 2, and want
--- of memory 1.
+-- Holds if help was written completely with status 0, or the status is 1. Rejected arguments have
+-- status 2, and out of memory has 1.
 abbrev pub EndsRefused : LineFault → (before after : Option (List ℕ)) → ℕ → Type 0
 EndsRefused (fault.Shown text) before after status =
     ((status ≡ 0) × Appends before after (string_bytes text)) ⊎ (status ≡ 1)
 EndsRefused (fault.Refused text) before after status = status ≡ 2
 EndsRefused fault.Memory before after status = status ≡ 1
 
--- what the commands of the system may do
+-- What the commands that need the system may do.
 abbrev pub Doing : Type 1
 Doing = CommandArgs → (remaining before after : Option (List ℕ)) → Result (Unit {0}) Fault → Type 0
 
--- the line of a token's cell is written
+-- Holds if the line of a token's cell is written.
 abbrev pub WritesCell : List ℕ → (before after : Option (List ℕ)) → Type 0
 WritesCell token before after = (line : List ℕ) × IsLineOfToken token line × Appends before after line
 
 module _ (does : Doing) where
-  -- What a line asks for was done: by the command of its name, with its values. `serve` writes to
-  -- the second writer, `backup` to none, and every other command to the first; to both where no
-  -- token is made, to tell why.
+  -- Holds if the requested command ran with its values. `serve` writes to the second writer,
+  -- `backup` to none, and every other command to the first. If `tokens --new-token` fails, it may
+  -- write the reason to the second one.
   abbrev pub Does : CommandArgs → (remaining output output' error error' : Option (List ℕ))
       → Result (Unit {0}) Fault → Type 0
   Does (Run tokens now database requests) remaining output output' error error' done =
@@ -70,7 +70,7 @@ module _ (does : Doing) where
   Does NewSalt remaining output output' error error' done =
       does NewSalt None output output' done × (error' ≡ error)
 
-  -- It ended with this status; where it was done, nothing more was written.
+  -- States that the command ended with this status, and printed no fault if it succeeded.
   pub record EndsCommand (line : CommandArgs) (remaining output output' error error' : Option (List ℕ))
       (status : ℕ) : Type 0 where
     pub done : Result (Unit {0}) Fault
@@ -79,8 +79,7 @@ module _ (does : Doing) where
     pub quiet : OnOk done (error' ≡ told)
     pub status_is : status ≡ status_of done
 
-  -- Words without a mistake that ask for a line end as its command does, and other words as they
-  -- are refused.
+  -- Holds if valid arguments end as their command does, and other arguments are rejected.
   abbrev pub EndsLine : List Text → (remaining output output' error error' : Option (List ℕ)) → ℕ
       → Type 0
   EndsLine words remaining output output' error error' status =

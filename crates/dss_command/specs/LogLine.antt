@@ -1,4 +1,4 @@
--- The line that a log has for a request.
+-- The line of a request in the access log.
 use Rattle.std.specs.Prelude.{◌≡◌, ◌/◌, ◌++◌, ℕ, List, false, Option, Some, None, codes, decimal}
 use Rattle.std.specs.Duration.{as_nanos}
 use Rattle.std.specs.declared.time.Duration.{Duration}
@@ -14,7 +14,7 @@ use Rattle.wire_http.specs.declared.request_info.Outcome.TheVariants as outcomes
 use Rattle.admin_http.specs.Operation.{operation_word}
 use Rattle.dss_server.specs.declared.server_log.LoggedRequest.{LoggedRequest}
 
--- the instant in UTC (RFC 3339), with three places of a second; `-` where none is told
+-- The time in UTC (RFC 3339) with milliseconds; `-` if it is unknown.
 abbrev pub IsMoment : Option Timestamp → List ℕ → Type 0
 IsMoment None text = text ≡ codes "-"
 IsMoment (Some moment) text = (printer : DateTimePrinter)
@@ -28,7 +28,7 @@ abbrev pub entity_word : Option ℕ → List ℕ
 entity_word None = codes "-"
 entity_word (Some id) = printed id
 
--- a rule by its number: P4 of the policy, H2 of the wire
+-- A rule by its number: P4 of the policy, H2 of the protocol.
 abbrev pub rule_word : Outcome → List ℕ
 rule_word outcomes.Done = codes "-"
 rule_word (outcomes.Denied rule) = codes "P" ++ decimal (policy.number_of rule)
@@ -36,31 +36,31 @@ rule_word outcomes.Fault = codes "-"
 rule_word outcomes.Stopped = codes "-"
 rule_word (outcomes.Wire rule) = codes "H" ++ decimal (wire.number_of rule)
 
--- whole microseconds
+-- A duration in whole microseconds.
 abbrev pub microseconds_word : Option Duration → List ℕ
 microseconds_word None = codes "-"
 microseconds_word (Some took) = decimal (as_nanos took / 1_000)
 
--- when and by whom a request was made
+-- The time and the caller of a request.
 unfoldable pub who : List ℕ → ℕ → List ℕ → List ℕ
 who time connection supplier =
     codes "time=" ++ (time
     ++ (codes " connection=" ++ (decimal connection ++ (codes " supplier=" ++ supplier))))
 
--- what it asked for, and with which status it was answered
+-- The operation, the entity and the status of a request.
 unfoldable pub what : List ℕ → List ℕ → ℕ → List ℕ
 what operation entity status =
     codes " operation=" ++ (operation
     ++ (codes " entity=" ++ (entity ++ (codes " status=" ++ decimal status))))
 
--- which rule it broke, what its answer took, and the end of the line
+-- The rule that denied a request, its duration and size, and the line end.
 unfoldable pub how : List ℕ → List ℕ → ℕ → List ℕ
 how rule took size =
     codes " rule=" ++ (rule
     ++ (codes " microseconds=" ++ (took
     ++ (codes " bytes=" ++ (decimal size ++ codes "\n")))))
 
--- the line with its end, of a request that was answered at that time
+-- The line with its line end, of a request that was answered at that time.
 unfoldable pub log_line : List ℕ → LoggedRequest → List ℕ
 log_line time request =
     who time request.connection (supplier_word request.noted.now.supplier)
@@ -68,7 +68,7 @@ log_line time request =
     request.status
     ++ how (rule_word request.noted.now.outcome) (microseconds_word request.took) request.size
 
--- the line of a request that was answered at that moment
+-- Holds if this is the line of a request that was answered at that time.
 abbrev pub IsLogLine : Option Timestamp → LoggedRequest → List ℕ → Type 0
 IsLogLine moment request line = (time : List ℕ) × IsMoment moment time
     × (line ≡ log_line time request)

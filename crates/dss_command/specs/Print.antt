@@ -1,4 +1,4 @@
--- What `report` prints of an airspace, and `sweep` of what it let go of.
+-- What `report` prints of an airspace, and `purge` of what it purged.
 use Rattle.std.specs.Prelude.{ℕ, ◌++◌, Bool, true, false, List, Option, codes, decimal}
 use Rattle.std.specs.Io.KnownBytes.{Appends}
 use Rattle.entity_core.specs.Airspace.{Airspace}
@@ -6,16 +6,16 @@ use Rattle.dss_report.specs.CellLines.{IsPlacesOf}
 use Rattle.dss_report.specs.Report.{report_of}
 use Rattle.dss_purge.specs.declared.purged.PurgeCounts.{PurgeCounts}
 
--- the lines of the cells of its references are written
+-- Holds if the lines of the cells of its references are written.
 abbrev pub WritesPlaces : Airspace → (before after : Option (List ℕ)) → Type 0
 WritesPlaces a before after = (text : List ℕ) × IsPlacesOf a text × Appends before after text
 
--- these are, or its report
+-- Holds if those lines are written, or otherwise its report.
 abbrev pub WritesReport : Bool → Airspace → (before after : Option (List ℕ)) → Type 0
 WritesReport true a before after = WritesPlaces a before after
 WritesReport false a before after = Appends before after (report_of a)
 
--- the line of what a sweep let go of
+-- The line that reports what was purged.
 abbrev pub purged_line : PurgeCounts → List ℕ
 purged_line purged =
     codes "swept " ++ (decimal purged.intents

@@ -8,17 +8,19 @@ use Rattle.token_conf.specs.TokenFile.{TokenFile, salt_of}
 use Rattle.wire_http.specs.declared.moments.Moments as moments
 use Rattle.dss_server.specs.Serve.{ServesAll}
 
--- a service over that space, which was asked nothing, with the salt of the token file
+-- Holds if this is a new service over that space, with the salt of the token file.
 pub record IsServiceOver {S : Type 0} (tokens : TokenFile) (space : S) (service : Service S)
     : Type 0 where
   pub space_is : held.space_of service ≡ space
   pub salt_is : held.salt_of service ≡ salt_of tokens
   pub goes : held.is_shut service ≡ false
 
--- Such a service was asked calls of requests, each of the caller whose token it bears, and no
--- other, in rounds that were all settled, and the space is given back as it is then. Between rounds
--- some of what had ended so long before as it is kept went, and nothing where it is kept for good.
--- The token file is the one of the start, and then what was taken of the bytes that it gives.
+-- States that such a service executed exactly calls of requests, each of the caller whose token the
+-- request bears. All calls were in batches that have ended, and the space is returned as it then
+-- is.
+-- Between batches, entities that ended at least the retention ago may have been purged. Without a
+-- retention nothing was purged. The token file is first the one of the start, and then what was
+-- loaded of the bytes that it has.
 pub record ServesClients {S M : Type 0} (g : spaces.Ghosts S) (k : settles.Ghosts S)
     (m : moments.Ghosts M) (gives : List ℕ → Type 0) (keep : Option ℕ) (tokens : TokenFile)
     (old new : S) (clock clock' : M) : Type 0 where

@@ -1,4 +1,4 @@
--- What a command tells of a stream that it serves, each moment being the same.
+-- How a command reports a stream that it serves, with one time for all calls.
 use Rattle.std.specs.Prelude.{◌≡◌, ◌⊎◌, ℕ, List, Option}
 use Rattle.dss_command.specs.Fault.{IsOfStream}
 use Rattle.dss_command.specs.Service.{IsServiceOver}
@@ -18,14 +18,14 @@ use Rattle.wire_http.specs.declared.end.Served.{Served}
 use Rattle.wire_http.specs.declared.fault.StreamFault.{StreamFault}
 use Rattle.wire_http.specs.declared.moments.FixedClock.{FixedClock}
 
--- what a clock gives that stands still: its moment, and it stays
+-- The results of a fixed clock: always its time, and no change.
 abbrev pub StandsStill : FixedClock → ℕ → FixedClock → Type 0
 StandsStill old moment new = (moment ≡ moment_of old) × (new ≡ old)
 
 module _ {S : Type 0} (g : Ghosts S) (tokens : TokenFile) (now : ℕ)
     (remaining before after : Option (List ℕ)) where
-  -- A service was asked what an input of the reader spells, each call at that moment, and the
-  -- answers were written.
+  -- States that a service executed the requests of a reader's input, each call at that time, and
+  -- that the responses were written.
   pub record ServesAt (old new : Service S) (served : Served) : Type 0 where
     pub input : List ℕ
     pub clock : FixedClock
@@ -35,8 +35,8 @@ module _ {S : Type 0} (g : Ghosts S) (tokens : TokenFile) (now : ℕ)
     pub serves : Serves g StandsStill (callers_of tokens) most_requests input old new clock clock'
         before after served
 
-  -- It was asked the first requests, and their answers were written, before the stream was given
-  -- up.
+  -- States that it executed the first requests, and that their responses were written, before the
+  -- stream was aborted.
   pub record ServesPartAt (old new : Service S) (fault : Fault) : Type 0 where
     pub why : StreamFault
     pub fault_is : IsOfStream why fault
@@ -48,7 +48,7 @@ module _ {S : Type 0} (g : Ghosts S) (tokens : TokenFile) (now : ℕ)
     pub serves : ServesPart g StandsStill (callers_of tokens) most_requests input old new clock
         clock' before after why
 
-  -- So a service over a space, which is given back as it is then.
+  -- States the same of a service over a space, which is returned as it then is.
   pub record ServesOver (old new : S) : Type 0 where
     pub first : Service S
     pub last : Service S
@@ -57,14 +57,14 @@ module _ {S : Type 0} (g : Ghosts S) (tokens : TokenFile) (now : ℕ)
     pub serves : ServesAt first last served
     pub ends : new ≡ space_of last
 
-  -- So of a stream that was given up; where memory lacked for the routes, nothing was asked or
-  -- written.
+  -- States the same of a stream that was aborted. If memory ran out for the routes, nothing was
+  -- executed or written.
   abbrev pub ServesPartOver : (old new : S) → Fault → Type 0
   ServesPartOver old new fault =
       ((fault ≡ Memory) × (new ≡ old) × (after ≡ before))
       ⊎ ((first : Service S) × (last : Service S) × IsServiceOver tokens old first
       × ServesPartAt first last fault × (new ≡ space_of last))
 
-  -- So over a space whose content is the empty airspace.
+  -- States the same of a space whose content is the empty airspace.
   abbrev pub ServesEmpty : Type 0
   ServesEmpty = (old : S) × (new : S) × IsContent g.holds old (empty_at 0) × ServesOver old new

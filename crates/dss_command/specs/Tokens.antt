@@ -12,38 +12,38 @@ use Rattle.dss_command.specs.Fault.{line_of}
 use Rattle.dss_command.specs.declared.fault.Fault.{Fault}
 use Rattle.dss_command.specs.declared.fault.Fault.TheVariants as fault
 
--- the fault of a token file that is wrong; want of memory is told as such
+-- The fault of an invalid token file. Out of memory is a fault of its own.
 abbrev pub IsOfTokens : ConfFault → Fault → Type 0
 IsOfTokens conf.Memory found = found ≡ fault.Memory
 IsOfTokens why found = found ≡ fault.Tokens why
 
--- what the reading of a file told is passed on
+-- Holds if the result of reading a file is passed on.
 abbrev pub Passes : Result TokenTable ConfFault → Result TokenTable Fault → Type 0
 Passes (Ok table) result = result ≡ Ok table
 Passes (Err why) (Ok table) = ⊥
 Passes (Err why) (Err found) = IsOfTokens why found
 
--- what comes of the text of a token file
+-- Holds of the result of a token file's text.
 abbrev pub Tables : List ℕ → Result TokenTable Fault → Type 0
 Tables text result =
     (told : Result TokenTable ConfFault) × ReadsFile (file_of text) told × Passes told result
 
--- how a check ends whose file has these mistakes: with the fault of the first
+-- How a check of a file with these errors ends: with the fault of the first.
 abbrev pub Judges : List TokenFileError → Result (Unit {0}) Fault → Type 0
 Judges [] result = result ≡ Ok tt
 Judges (m ∷ ms) result = result ≡ Err (fault.Tokens (fault_of m))
 
--- How a check ends of a file of which its reader says this: where it is done the reader takes the
--- file, and a fault of the file is the one that the reader tells.
+-- How a check ends, given what the reader says of the file. If the check succeeds, the reader
+-- accepts the file. A fault of the file is the one that the reader returns.
 abbrev pub EndsCheck : Result TokenFile ConfFault → Result (Unit {0}) Fault → Type 0
 EndsCheck said (Ok x) = IsOk said
 EndsCheck said (Err (fault.Tokens why)) = said ≡ Err why
 EndsCheck said (Err other) = Unit {0}
 
--- The line that tells why a token file that changed was not taken, without its end: that of the
--- fault with which a command ends by such a file, and for another salt one of its own.
+-- The line that reports why a changed token file was not loaded, without its line end. It is the
+-- line of the fault that a command ends with for such a file. Another salt has a line of its own.
 abbrev pub refusal_line : TokenReloadFault → List ℕ
 refusal_line refusal.Unread = line_of fault.TokensUnread
 refusal_line (refusal.Wrong conf.Memory) = line_of fault.Memory
 refusal_line (refusal.Wrong why) = line_of (fault.Tokens why)
-refusal_line refusal.OtherSalt = codes "dss: tokens: another salt"
+refusal_line refusal.OtherSalt = codes "dss: tokens: not reloaded: the salt changed; restart to apply it"

@@ -1,20 +1,20 @@
-//! The line that tells of a connection that was given up, beside that of its fault.
+//! The line that describes an aborted connection, next to that of its fault.
 use dss_server::phase::Phase;
 use dss_server::server_log::AbortedConnection;
 use std::io;
 use std::io::Write;
 
-// How far a connection was, by what it was waited for.
+// Returns what a connection was doing, given its phase.
 fn words(phase: Phase) -> &'static str {
     match phase {
-        Phase::Idle => "which owed nothing",
-        Phase::Sending => "within a request",
-        Phase::Taking => "within an answer",
-        Phase::Ending => "after its last answer",
+        Phase::Idle => "idle",
+        Phase::Sending => "reading a request",
+        Phase::Taking => "writing a response",
+        Phase::Ending => "closing",
     }
 }
 
-/// Tells on one line which connection was given up, and how far it was.
+/// Prints one line that says which connection was aborted, and in which phase.
 pub(crate) fn tell_given_up<E: Write>(
     given_up: AbortedConnection,
     error: &mut E,

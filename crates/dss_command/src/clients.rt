@@ -1,4 +1,4 @@
-//! The command `serve`, below the system.
+//! The command `serve` above the operating system.
 ghost use Rattle.std.specs.Prelude.{◌≡◌, ◌⊎◌, ◌++◌, OnOk, OnErr, IsSome, codes, decimal};
 ghost use Rattle.std.specs.Io.KnownBytes.{Appends};
 ghost use Rattle.std.specs.Net.Addr.{ipv4_octets};
@@ -31,7 +31,7 @@ use token_conf::token_table::TokenTable;
 use wire_http::{Moments, StreamFault};
 use wire_route::routes::Routes;
 
-/// Tells on one line that the port of that address is listened on.
+/// Prints one line that says that the port of that address is open.
 pub fn print_listening<E: Write>(address: Ipv4Addr, port: u16, error: &mut E) -> io::Result<()>
     ensures { OnOk result (Appends (E.contents error.old) (E.contents error.new)
         (codes "dss: listening on " ++ (ipv4_text (ipv4_octets address)
@@ -40,23 +40,23 @@ pub fn print_listening<E: Write>(address: Ipv4Addr, port: u16, error: &mut E) ->
     writeln!(error, "dss: listening on {address}:{port}")
 }
 
-/// Tells on one line that the operator's port is listened on.
+/// Prints one line that says that the admin port is open.
 pub fn print_admin_listening<E: Write>(port: u16, error: &mut E) -> io::Result<()>
     ensures { OnOk result (Appends (E.contents error.old) (E.contents error.new)
-        (codes "dss: admin on 127.0.0.1:" ++ decimal port ++ codes "\n")) }
+        (codes "dss: admin port on 127.0.0.1:" ++ decimal port ++ codes "\n")) }
 {
-    writeln!(error, "dss: admin on 127.0.0.1:{port}")
+    writeln!(error, "dss: admin port on 127.0.0.1:{port}")
 }
 
-/// Tells on one line why a client was given up.
+/// Prints one line that says why a client was aborted.
 pub fn print_client_fault<E: Write>(fault: StreamFault, error: &mut E) -> io::Result<()>
     ensures { OnOk result (TellsClient fault (E.contents error.old) (E.contents error.new)) }
 {
     print_fault(&Fault::from(fault), error)
 }
 
-// Where requests are told, if there is a log of them, and the faults of clients and of the token
-// file, each on a line, and, where more is to be told, whether the store keeps what it is given.
+// The server log: the access log, if there is one, and a line for each fault of a client and of the
+// token file. If `verbose`, also a line for each change of the store's state.
 #[derive(Drop)]
 struct Lines<'a, E: Write, L> {
     error: &'a mut E,
@@ -96,7 +96,7 @@ impl<'a, E: Write, L: LogFile> ServerLog for Lines<'a, E, L> {
     }
 }
 
-// How the command ends by how the service ended.
+// Returns how the command ends, given the result of the service.
 fn end_of_serving(served: io::Result<()>) -> Result<(), Fault>
     ensures { EndsServing served result }
 {
@@ -106,44 +106,44 @@ fn end_of_serving(served: io::Result<()>) -> Result<(), Fault>
     }
 }
 
-/// An operator's port.
+/// An admin port.
 #[derive(Clone, Copy)]
 pub struct AdminListener {
-    /// The port of 127.0.0.1.
+    /// The port on 127.0.0.1.
     pub port: u16,
-    /// When the service started, in seconds since 1970.
+    /// The time of the service's start, in Unix seconds.
     pub started: u64,
 }
 
-/// By what clients are answered, on which port, and how many.
+/// The configuration with which clients are answered.
 #[derive(Clone, Copy)]
 pub struct ServeConfig<'a> {
     /// The token file of the start.
     pub tokens: &'a TokenTable,
-    /// The address that is listened on.
+    /// The address to listen on.
     pub address: Ipv4Addr,
-    /// Its port.
+    /// The port to listen on.
     pub port: u16,
-    /// How many connections, and how many at once.
+    /// The limits on connections.
     pub limits: Limits,
-    /// For how many seconds what has ended is kept, if it is not for good.
+    /// The retention of what has ended in seconds; nothing is purged if `None`.
     pub keep: Option<u64>,
-    /// The operator's port, if there is one.
+    /// The admin port, if there is one.
     pub operated: Option<AdminListener>,
-    /// Whether it is told, too, that changes are not kept and that they are again.
+    /// True if failed commits and their recovery are reported, too.
     pub verbose: bool,
 }
 
-/// What listens on a port, and where the requests that come there are logged.
+/// A listener on a port, with the log of the requests that arrive there.
 pub trait Listen {
     type Sockets: Sockets + Drop;
 
     type Log: LogFile + Drop;
 
-    /// Where requests are logged, if they are, which is told once.
+    /// Returns the access log, if there is one, once.
     fn log(&mut self) -> Option<Self::Log>;
 
-    /// The sockets of that port of the address, and of the operator's port of 127.0.0.1.
+    /// Opens that port of the address, and the admin port of 127.0.0.1.
     fn listen(
         self,
         address: Ipv4Addr,
@@ -152,7 +152,7 @@ pub trait Listen {
     ) -> io::Result<Self::Sockets>;
 }
 
-// What operators are told that stays as it is.
+// Returns the build information for the admin port.
 fn build_of(operated: Option<AdminListener>) -> Option<BuildInfo<'static>>
     ensures { IsSome result → IsSome operated }
 {
@@ -166,7 +166,7 @@ fn build_of(operated: Option<AdminListener>) -> Option<BuildInfo<'static>>
     }
 }
 
-// The operator's port.
+// Returns the admin port.
 fn operators_port(operated: Option<AdminListener>) -> Option<u16> {
     match operated {
         Some(AdminListener { port, started: _ }) => Some(port),
@@ -174,7 +174,7 @@ fn operators_port(operated: Option<AdminListener>) -> Option<u16> {
     }
 }
 
-// Answers the clients of the sockets by a service over a space.
+// Answers the clients of the sockets with a service over a space.
 fn serve_sockets<
     S: PurgeEnded + SnapshotSource + Drop,
     M: Moments,
@@ -215,13 +215,14 @@ fn serve_sockets<
     (end_of_serving(served), service.into_space())
 }
 
-/// Answers the clients of a port by a service that it makes over a space, which is given back as it
-/// is then, after the last round of calls was settled. The token file is watched meanwhile, and
-/// what has ended so long before as it is kept goes between rounds. It tells that the port is
-/// listened on, and later the fault of each client that is given up, and why a token file that
-/// changed was not taken; each request that is answered is logged.
+/// Answers the clients of a port with a new service over a space, and returns the space after the
+/// last batch has ended.
 ///
-/// It is done only where a number of connections is given, or an operator's port.
+/// Meanwhile the token file is watched, and what ended at least the retention ago is purged between
+/// batches. Prints that the port is open, and later the fault of each aborted client, and why a
+/// changed token file was not loaded. Logs each answered request.
+///
+/// Returns `Ok` only if the number of connections is limited, or there is an admin port.
 pub fn serve_port<
     S: PurgeEnded + SnapshotSource + Drop,
     M: Moments,

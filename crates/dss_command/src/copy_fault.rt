@@ -1,21 +1,21 @@
-//! Why there is no whole copy of a database.
+//! The reasons why a backup of a database failed.
 ghost use Rattle.std.specs.Prelude.{◌≡◌};
 
-/// Why there is no whole copy of a database.
+/// The reason why a backup of a database failed.
 #[derive(Clone, Copy, Debug, PartialEq, Eq)]
 pub enum CopyFault {
-    /// A file of the copy's name is there.
+    /// A file of the backup's name exists.
     Exists,
-    /// The database's file cannot be read.
+    /// The database file cannot be read.
     Read,
-    /// The copy cannot be made, written or synced.
+    /// The backup cannot be created, written or synced.
     Write,
 }
 
 impl CopyFault {
     ghost use Rattle.dss_command.specs.CopyFault.{name_of, number_of};
 
-    /// Its number, from 1 to 3.
+    /// Returns its number, from 1 to 3.
     pub fn number(self) -> u8
         ensures { result ≡ number_of self }
     {
@@ -26,7 +26,7 @@ impl CopyFault {
         }
     }
 
-    /// Its name, as it is spelled here.
+    /// Returns its name, as written here.
     pub fn name(self) -> &'static str
         ensures { result.now ≡ name_of self }
     {

@@ -1,4 +1,4 @@
-//! Why a command failed, the line that tells it, and the exit status.
+//! The reasons why a command failed, their lines, and the exit status.
 ghost use Rattle.std.specs.Prelude.{◌≡◌, ◌++◌, codes, OnOk};
 ghost use Rattle.std.specs.Io.KnownBytes.{Appends};
 ghost use Rattle.std.specs.IoError.{error_kind};
@@ -13,37 +13,38 @@ use std::{fmt, io};
 use token_conf::conf_fault::ConfFault;
 use wire_http::StreamFault;
 
-/// Why a command failed. Printed, it is the line that the program writes to standard error, without
-/// the line end.
+/// The reason why a command failed.
+///
+/// `Display` writes the line that the program prints to standard error, without the line end.
 #[derive(Debug, Drop)]
 pub enum Fault {
     /// The token file does not open, fails to read or is not UTF-8.
     TokensUnread,
-    /// The token file is wrong.
+    /// The token file is invalid.
     Tokens(ConfFault),
-    /// The database was not taken.
+    /// The database could not be opened.
     Database(OpenFault),
-    /// The database failed after it was taken.
+    /// The database failed after it was opened.
     DatabaseFailed,
-    /// There is no whole copy of the database.
+    /// The backup of the database failed.
     Copy(CopyFault),
     /// The file of requests does not open, or the request of `self` fails to be read.
     RequestsUnread,
-    /// The moment until which was to be swept is in the future.
+    /// The end of the purge is in the future.
     UntilInFuture,
-    /// The system tells no time.
+    /// The system clock failed.
     Clock,
     /// The request of `self` has over 16,384 bytes.
     RequestTooLong,
-    /// The answers to it have over 16,384 bytes.
+    /// The responses to the request of `self` have over 16,384 bytes.
     AnswerTooLong,
     /// A socket failed outside a stream of requests.
     Socket,
-    /// The stream of requests was given up.
+    /// The stream of requests was aborted.
     Stream(StreamFault),
-    /// The token is of no cell.
+    /// The token is the token of no cell.
     Token(TokenFault),
-    /// What is printed beside the answers was not written.
+    /// Output other than responses could not be written.
     Output,
     /// Memory ran out.
     Memory,
@@ -72,7 +73,7 @@ impl fmt::Display for Fault {
             Fault::Copy(fault) => {
                 let number = fault.number();
                 let name = fault.name();
-                write!(f, "dss: copy: fault {number} {name}")
+                write!(f, "dss: backup: fault {number} {name}")
             }
             Fault::RequestsUnread => write!(f, "dss: requests: cannot read"),
             Fault::UntilInFuture => write!(f, "dss: until: in the future"),
@@ -157,7 +158,7 @@ impl From<ReportFault> for Fault {
     }
 }
 
-/// Tells a fault on one line.
+/// Prints a fault on one line.
 pub fn print_fault<E: Write>(fault: &Fault, error: &mut E) -> io::Result<()>
     ensures { OnOk result (Appends (E.contents error.old) (E.contents error.new)
         (line_of fault.now ++ codes "\n")) }
@@ -165,7 +166,7 @@ pub fn print_fault<E: Write>(fault: &Fault, error: &mut E) -> io::Result<()>
     writeln!(error, "{fault}")
 }
 
-/// The exit status of a command that ended so: 0 where it is done, and 1 after a fault.
+/// Returns the exit status of a command: 0 if it succeeded, and 1 after a fault.
 pub fn status(done: &Result<(), Fault>) -> u8
     ensures { result ≡ status_of done.now }
 {
@@ -175,7 +176,7 @@ pub fn status(done: &Result<(), Fault>) -> u8
     }
 }
 
-/// What a call of the system that failed comes to: want of memory is told as such.
+/// Returns the fault of a failed system call. Out of memory is a fault of its own.
 pub fn io_fault(cause: &io::Error, fault: Fault) -> Fault
     ensures { result ≡ told_by (error_kind cause.now) fault }
 {

@@ -1,4 +1,4 @@
-//! What the commands of `dss` do, over readers, writers and texts whose bytes a clause can name.
+//! The commands of `dss`, over readers, writers and texts whose bytes a contract can name.
 #![tactic(auto)]
 
 mod aborted_connection;

@@ -6,8 +6,8 @@ ghost use Rattle.dss_command.specs.Limits.{limits_line};
 use std::io;
 use std::io::Write;
 
-/// Tells on one line how many clients are served at once, how many connections in all, if there is
-/// a number, and how much is kept of each supplier at most, if there is a bound.
+/// Prints one line with the maximum number of clients at once, the number of connections if
+/// limited, and the quota of each USS if there is one.
 pub fn tell_limits<E: Write>(
     clients: u64,
     count: Option<u64>,

@@ -1,4 +1,4 @@
-//! One command line, run, up to its exit status.
+//! The execution of one command line, up to its exit status.
 ghost use Rattle.std.specs.Prelude.{◌≡◌, OnOk, string_bytes};
 ghost use Rattle.std.specs.Io.KnownBytes.{Appends};
 ghost use Rattle.dss_args.specs.CommandArgs.{texts};
@@ -15,11 +15,11 @@ use std::alloc::Global;
 use std::io::{Read, Write};
 use wire_http::Counted;
 
-/// The commands that need the system. What it holds and does, no clause can say: which text the
-/// file of a name has, who listens on a port, what time it is.
+/// The commands that need the system. Contracts cannot describe what the system holds and does: the
+/// text of a named file, the listeners on a port, the time.
 ///
-/// `does line remaining before after done`: the command of that line may end so, where the reader
-/// has this to give and the writer is left so.
+/// `does line remaining before after done` states that the command of that line may end with this
+/// result, if the reader still has these bytes and the writer changes so.
 pub trait Commands {
     ghost use Rattle.std.specs.Prelude.{ℕ, List, Option, Result, Some, None, OnOk, ◌≡◌};
     ghost use Rattle.dss_args.specs.declared.command_args.CommandArgs.{CommandArgs};
@@ -28,7 +28,7 @@ pub trait Commands {
     ghost does: { CommandArgs → (remaining before after : Option (List ℕ)) → Result (Unit {0}) Fault
         → Type 0 };
 
-    /// The command `run`.
+    /// Runs the command `run`.
     fn run<R: Read, W: Write>(
         self,
         tokens: &str,
@@ -42,12 +42,12 @@ pub trait Commands {
             (R.remaining (inner_of input.old))
             (W.contents (inner_of output.old)) (W.contents (inner_of output.new)) result };
 
-    /// The command `serve`.
+    /// Runs the command `serve`.
     fn serve<E: Write>(self, given: ServeArgs<'_>, error: &mut E) -> Result<(), Fault>
         ensures { does (CommandArgs.Serve given.entry) None (E.contents error.old) (E.contents error.new)
             result };
 
-    /// The command `self`.
+    /// Runs the command `self`.
     fn loop_back<R: Read, W: Write>(
         self,
         tokens: &str,
@@ -60,21 +60,21 @@ pub trait Commands {
             (R.remaining (inner_of input.old))
             (W.contents (inner_of output.old)) (W.contents (inner_of output.new)) result };
 
-    /// The command `report`.
+    /// Runs the command `report`.
     fn report<W: Write>(self, database: &str, places: bool, output: &mut W) -> Result<(), Fault>
         ensures { does (CommandArgs.Report database.entry places) None
             (W.contents output.old) (W.contents output.new) result };
 
-    /// The command `backup`, which prints nothing.
+    /// Runs the command `backup`, which prints nothing.
     fn backup(self, database: &str, to: &str) -> Result<(), Fault>
         ensures { does (CommandArgs.Backup database.entry to.entry) None None None result };
 
-    /// The command `upgrade`.
+    /// Runs the command `upgrade`.
     fn upgrade<W: Write>(self, database: &str, output: &mut W) -> Result<(), Fault>
         ensures { does (CommandArgs.Upgrade database.entry) None
             (W.contents output.old) (W.contents output.new) result };
 
-    /// The command `purge`.
+    /// Runs the command `purge`.
     fn purge<W: Write>(
         self,
         database: &str,
@@ -85,12 +85,13 @@ pub trait Commands {
         ensures { does (CommandArgs.Purge database.entry until now) None
             (W.contents output.old) (W.contents output.new) result };
 
-    /// The command `tokens --check`.
+    /// Runs the command `tokens --check`.
     fn check_tokens<W: Write>(self, file: &str, output: &mut W) -> Result<(), Fault>
         ensures { does (CommandArgs.CheckTokens file.entry) None
             (W.contents output.old) (W.contents output.new) result };
 
-    /// The command `tokens --new-token`. Why no token is made is told on a line of `error`.
+    /// Runs the command `tokens --new-token`. If no token is generated, prints the reason on a line
+    /// of `error`.
     fn new_token<W: Write, E: Write>(
         self,
         uss: &str,
@@ -102,12 +103,12 @@ pub trait Commands {
             (W.contents output.old) (W.contents output.new) result }
         ensures quiet { OnOk result (E.contents error.new ≡ E.contents error.old) };
 
-    /// The command `tokens --new-salt`.
+    /// Runs the command `tokens --new-salt`.
     fn new_salt<W: Write>(self, output: &mut W) -> Result<(), Fault>
         ensures { does CommandArgs.NewSalt None (W.contents output.old) (W.contents output.new) result };
 }
 
-/// The exit status of a command that ended, after its fault was told on one line.
+/// Returns the exit status of a command. Prints its fault first, on one line.
 pub fn end_status<E: Write>(done: Result<(), Fault>, error: &mut E) -> u8
     ensures status { result ≡ status_of done }
     ensures quiet { OnOk done (E.contents error.new ≡ E.contents error.old) }
@@ -128,8 +129,8 @@ fn shown<O: Write>(text: &String, output: &mut O) -> Result<(), Fault>
     }
 }
 
-/// What a command line that asks for no command gets, and its exit status: help, which is written
-/// to `output`, or why it was refused, to `error`.
+/// Ends a command line that requests no command, and returns its exit status. Writes help to
+/// `output`, or the reason of the rejection to `error`.
 pub fn refuse_line<O: Write, E: Write>(fault: LineFault, output: &mut O, error: &mut E) -> u8
     ensures { EndsRefused fault (O.contents output.old) (O.contents output.new) result }
 {
@@ -143,7 +144,7 @@ pub fn refuse_line<O: Write, E: Write>(fault: LineFault, output: &mut O, error: 
     }
 }
 
-// Does what a command line asks for.
+// Runs the command that a command line requests.
 fn perform<C: Commands + Drop, R: Read, O: Write, E: Write>(
     alloc: Global,
     commands: C,
@@ -184,9 +185,11 @@ fn perform<C: Commands + Drop, R: Read, O: Write, E: Write>(
     }
 }
 
-/// Runs one command line, whose first word is the program's name, over a reader and two writers,
-/// and answers the exit status: 0 where it is done, 1 after a fault, which is told on one line of
-/// `error`, and 2 for a command line that is refused.
+/// Runs one command line, whose first argument is the program's name, over a reader and two
+/// writers.
+///
+/// Returns the exit status: 0 if the command succeeded, 1 after a fault, which is printed on one
+/// line of `error`, and 2 for rejected arguments.
 pub fn run_line<'a, C: Commands + Drop, R: Read, O: Write, E: Write>(
     alloc: Global,
     words: &'a [&'a str],

@@ -1,4 +1,4 @@
-//! The line that a log has for a request.
+//! The line of a request in the access log.
 ghost use Rattle.std.specs.Prelude.{◌≡◌, IfOk};
 ghost use Rattle.std.specs.String.{string_bytes};
 ghost use Rattle.dss_command.specs.LogLine.{IsLogLine, IsMoment, entity_word, how, log_line, microseconds_word, rule_word, supplier_word, what, who};
@@ -13,7 +13,7 @@ use std::alloc::{AllocError, Global};
 use std::time::Duration;
 use wire_http::Outcome;
 
-// The moment in UTC, with three places of a second; `-` where none is told.
+// Returns the time in UTC with milliseconds, or `-` if it is unknown.
 fn moment_text(alloc: Global, moment: Option<Timestamp>) -> Result<String, AllocError>
     ensures { IfOk result (λ text. IsMoment moment (string_bytes text)) }
 {
@@ -26,7 +26,7 @@ fn moment_text(alloc: Global, moment: Option<Timestamp>) -> Result<String, Alloc
     }
 }
 
-// A supplier's id.
+// Returns the id of a USS, as printed.
 fn supplier_word(supplier: &Option<UssId>) -> &str
     ensures { result.now ≡ supplier_word supplier.now }
 {
@@ -36,7 +36,7 @@ fn supplier_word(supplier: &Option<UssId>) -> &str
     }
 }
 
-// The id of an entity or a subscription.
+// Returns the id of an entity or a subscription, as printed.
 fn entity_word(alloc: Global, entity: Option<EntityId>) -> Result<String, AllocError>
     ensures { IfOk result (λ text. string_bytes text ≡ entity_word entity) }
 {
@@ -46,7 +46,7 @@ fn entity_word(alloc: Global, entity: Option<EntityId>) -> Result<String, AllocE
     }
 }
 
-// A rule that was broken: `P4`, `H2`.
+// Returns the rule that denied the request, such as `P4` or `H2`.
 fn rule_word(alloc: Global, outcome: Outcome) -> Result<String, AllocError>
     ensures { IfOk result (λ text. string_bytes text ≡ rule_word outcome) }
 {
@@ -63,7 +63,7 @@ fn rule_word(alloc: Global, outcome: Outcome) -> Result<String, AllocError>
     }
 }
 
-// The whole microseconds of a time.
+// Returns a duration in whole microseconds.
 fn microseconds_word(alloc: Global, took: Option<Duration>) -> Result<String, AllocError>
     ensures { IfOk result (λ text. string_bytes text ≡ microseconds_word took) }
 {
@@ -76,7 +76,7 @@ fn microseconds_word(alloc: Global, took: Option<Duration>) -> Result<String, Al
     }
 }
 
-// When and by whom a request was made.
+// Returns the time and the caller of a request.
 #[tactic(auto, unfolding(crate::specs::LogLine::who))]
 fn who(alloc: Global, time: &str, connection: u64, supplier: &str) -> Result<String, AllocError>
     ensures { IfOk result (λ text. string_bytes text ≡ who time.now connection supplier.now) }
@@ -84,7 +84,7 @@ fn who(alloc: Global, time: &str, connection: u64, supplier: &str) -> Result<Str
     format!(in alloc; "time={time} connection={connection} supplier={supplier}")
 }
 
-// What it asked for, and with which status it was answered.
+// Returns the operation, the entity and the status of a request.
 #[tactic(auto, unfolding(crate::specs::LogLine::what))]
 fn what(alloc: Global, operation: &str, entity: &str, status: u16) -> Result<String, AllocError>
     ensures { IfOk result (λ text. string_bytes text ≡ what operation.now entity.now status) }
@@ -92,7 +92,7 @@ fn what(alloc: Global, operation: &str, entity: &str, status: u16) -> Result<Str
     format!(in alloc; " operation={operation} entity={entity} status={status}")
 }
 
-// Which rule it broke, and what its answer took.
+// Returns the rule that denied a request, with its duration and size.
 #[tactic(auto, unfolding(crate::specs::LogLine::how))]
 fn how(alloc: Global, rule: &str, took: &str, size: usize) -> Result<String, AllocError>
     ensures { IfOk result (λ text. string_bytes text ≡ how rule.now took.now size) }
@@ -100,7 +100,7 @@ fn how(alloc: Global, rule: &str, took: &str, size: usize) -> Result<String, All
     format!(in alloc; " rule={rule} microseconds={took} bytes={size}\n")
 }
 
-// The line of a request that was answered at that time.
+// Returns the line of a request that was answered at that time.
 #[tactic(auto, unfolding(crate::specs::LogLine::log_line))]
 fn line_at(alloc: Global, time: &str, request: &LoggedRequest<'_>) -> Result<String, AllocError>
     ensures { IfOk result (λ line. string_bytes line ≡ log_line time.now request.now) }
@@ -117,8 +117,8 @@ fn line_at(alloc: Global, time: &str, request: &LoggedRequest<'_>) -> Result<Str
     Ok(line)
 }
 
-/// The line for a request that was answered at that moment, with its end. It has no part of a
-/// token, of an OVN or of a body.
+/// Returns the line of a request that was answered at that time, with its line end. It has no part
+/// of a token, of an OVN or of a body.
 pub(crate) fn log_line(
     alloc: Global,
     moment: Option<Timestamp>,

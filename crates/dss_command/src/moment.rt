@@ -1,4 +1,4 @@
-//! The moment of a reading of the clock, and of a sweep.
+//! The time of a clock reading, and of a purge.
 ghost use Rattle.std.specs.Prelude.{◌≡◌, ◌≤◌, ◌<◌, ◌*◌, ◌+◌, ◌↔◌, IfErr, IfSome, IsSome, OnOk};
 ghost use Rattle.std.specs.Time.{system_time_nanos};
 ghost use Rattle.dss_command.specs.declared.fault.Fault.TheVariants.{UntilInFuture};
@@ -6,7 +6,7 @@ ghost use Rattle.dss_command.specs.declared.fault.Fault.TheVariants.{UntilInFutu
 use crate::fault::Fault;
 use std::time::{SystemTime, UNIX_EPOCH};
 
-/// The whole seconds since 1970 of a time of the system, which has none before 1970.
+/// Returns the whole Unix seconds of a system time. Returns `None` before 1970.
 pub fn seconds_of(time: SystemTime) -> Option<u64>
     ensures { IfSome result (λ moment.
         (moment * 1_000_000_000 ≤ system_time_nanos time)
@@ -18,7 +18,7 @@ pub fn seconds_of(time: SystemTime) -> Option<u64>
     }
 }
 
-/// Refuses a sweep until a moment that is in the future now, both in seconds since 1970.
+/// Rejects a purge up to a time after `now`, both in Unix seconds.
 pub fn check_not_in_future(until: u64, now: u64) -> Result<(), Fault>
     ensures past { OnOk result (until ≤ now) }
     ensures refused { IfErr result (λ fault. (fault ≡ UntilInFuture) × (now < until)) }

@@ -1,4 +1,4 @@
-//! What commands print.
+//! The output of commands.
 ghost use Rattle.std.specs.Prelude.{◌≡◌, ◌⊎◌, List, ℕ, OnOk, IfErr, codes, if◌then◌else◌};
 ghost use Rattle.std.specs.Io.KnownBytes.{Appends};
 ghost use Rattle.dss_command.specs.declared.fault.Fault.TheVariants.{DatabaseFailed, Memory, Output};
@@ -17,7 +17,7 @@ use space_core::space::Space;
 use std::alloc::Global;
 use std::io::Write;
 
-/// Writes all of the bytes. Its one fault is `Output`.
+/// Writes all of the bytes. The only possible fault is `Output`.
 pub fn put<W: Write>(bytes: &[u8], output: &mut W) -> Result<(), Fault>
     ensures whole { OnOk result (Appends (W.contents output.old) (W.contents output.new) bytes.now) }
     ensures output { IfErr result (λ fault. fault ≡ Output) }
@@ -28,7 +28,7 @@ pub fn put<W: Write>(bytes: &[u8], output: &mut W) -> Result<(), Fault>
     }
 }
 
-/// The command `cell`: the line of a token's cell.
+/// Runs the command `cell`: prints the line of a token's cell.
 pub fn cell<W: Write>(alloc: Global, token: &str, output: &mut W) -> Result<(), Fault>
     ensures { OnOk result ((line : List ℕ) × IsLineOfToken token.now line
         × Appends (W.contents output.old) (W.contents output.new) line) }
@@ -37,7 +37,7 @@ pub fn cell<W: Write>(alloc: Global, token: &str, output: &mut W) -> Result<(), 
     put(line.as_bytes(), output)
 }
 
-/// What the command `upgrade` prints of a database that was taken.
+/// Prints the line of the command `upgrade`, for a database that was opened.
 pub fn put_format<W: Write>(upgraded: bool, output: &mut W) -> Result<(), Fault>
     ensures whole { OnOk result (Appends (W.contents output.old) (W.contents output.new)
         (if upgraded then codes "format 2, was 1\n" else codes "format 2\n")) }
@@ -51,7 +51,7 @@ pub fn put_format<W: Write>(upgraded: bool, output: &mut W) -> Result<(), Fault>
     put(line.as_bytes(), output)
 }
 
-/// What the command `sweep` prints of what it let go of.
+/// Prints the line of the command `purge`, for what it purged.
 pub fn put_purged<W: Write>(purged: PurgeCounts, output: &mut W) -> Result<(), Fault>
     ensures whole { OnOk result (Appends (W.contents output.old) (W.contents output.new)
         (purged_line purged)) }
@@ -72,7 +72,7 @@ pub fn put_purged<W: Write>(purged: PurgeCounts, output: &mut W) -> Result<(), F
     Ok(())
 }
 
-/// The report of each airspace that a space held, which is only read.
+/// Prints the report of the airspace of a space, which is only read.
 pub fn put_report<S: Space + Drop, W: Write>(
     alloc: Global,
     space: &mut S,
@@ -91,7 +91,7 @@ pub fn put_report<S: Space + Drop, W: Write>(
     put(text.as_slice(), output)
 }
 
-/// The cells of each airspace that a space held, which is only read.
+/// Prints the cells of the airspace of a space, which is only read.
 pub fn put_places<S: Space + Drop, W: Write>(
     alloc: Global,
     space: &mut S,
@@ -110,8 +110,8 @@ pub fn put_places<S: Space + Drop, W: Write>(
     put(lines.as_slice(), output)
 }
 
-/// The command `report`, over a space, which is only read: its report, or the cells of its
-/// references.
+/// Runs the command `report` over a space, which is only read: prints its report, or the cells of
+/// its references.
 pub fn report<S: Space + Drop, W: Write>(
     alloc: Global,
     space: &mut S,

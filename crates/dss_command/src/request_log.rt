@@ -1,4 +1,4 @@
-//! The log of requests: a line for each, written at the end of its round.
+//! The access log: a line for each request, written at the end of its batch.
 use crate::log_line::log_line;
 use dss_server::server_log::LoggedRequest;
 use jiff_core::Timestamp;
@@ -6,29 +6,31 @@ use std::alloc::{AllocError, Global};
 use std::io;
 use std::time::Duration;
 
-/// Where the lines of a log go.
+/// A file for the lines of a log.
 pub trait LogFile {
-    /// How long after 1970 it is, in UTC, where the system tells it.
+    /// Returns the time since 1970 in UTC, if the system clock returns one.
     fn time(&self) -> Option<Duration>;
 
-    /// Appends the first of these bytes in one write: how many.
+    /// Appends the first of these bytes in one write, and returns how many.
     fn append(&mut self, bytes: &[u8]) -> io::Result<usize>;
 }
 
-/// The log of requests. The lines of a round are held until it ends, and then written at once.
-/// Those that could not be held or written whole are lost, and counted.
+/// The access log.
+///
+/// The lines of a batch are buffered until it ends, and then written at once. Lines that could not
+/// be buffered or written completely are dropped and counted.
 #[derive(Drop)]
 pub(crate) struct RequestLog<L> {
     alloc: Global,
     file: L,
-    // the end of a line, for one that was cut off, and then the lines that are held
+    // The line end of a line that was cut off, if any, and then the buffered lines.
     lines: Vec<u8>,
     lost: u64,
-    // whether what was written last ends within a line
+    // True if the last write ended within a line.
     is_cut: bool,
 }
 
-// How many lines end in the bytes.
+// Returns how many lines end in the bytes.
 fn line_ends(bytes: &[u8]) -> u64 {
     let mut count = 0_u64;
     for byte in bytes {
@@ -39,7 +41,7 @@ fn line_ends(bytes: &[u8]) -> u64 {
     count
 }
 
-// The moment so long after 1970.
+// Returns the timestamp of a time since 1970.
 fn moment_at(time: Duration) -> Option<Timestamp> {
     let Ok(nanoseconds) = i128::try_from(time.as_nanos()) else {
         return None;
@@ -48,7 +50,7 @@ fn moment_at(time: Duration) -> Option<Timestamp> {
 }
 
 impl<L: LogFile> RequestLog<L> {
-    /// A log in that file.
+    /// Creates a log that writes to that file.
     pub(crate) fn new(alloc: Global, file: L) -> RequestLog<L> {
         RequestLog {
             alloc,
@@ -59,7 +61,7 @@ impl<L: LogFile> RequestLog<L> {
         }
     }
 
-    // Holds a line.
+    // Buffers a line.
     fn hold(&mut self, line: &str) -> Result<(), AllocError> {
         if self.lines.is_empty() {
             self.lines.push(b'\n')?;
@@ -68,7 +70,7 @@ impl<L: LogFile> RequestLog<L> {
         Ok(())
     }
 
-    /// Holds the line of a request that was answered now.
+    /// Buffers the line of a request that was answered now.
     pub(crate) fn note(&mut self, request: &LoggedRequest<'_>) {
         let moment = match self.file.time() {
             Some(time) => moment_at(time),
@@ -83,7 +85,7 @@ impl<L: LogFile> RequestLog<L> {
         }
     }
 
-    // Writes the lines. Those that do not end in what was taken are lost.
+    // Writes the buffered lines. Drops those that were not written completely.
     fn write_held(&mut self) {
         let start = if self.is_cut { 0 } else { 1 };
         let Some(bytes) = self.lines.get(start..) else {
@@ -104,7 +106,7 @@ impl<L: LogFile> RequestLog<L> {
         }
     }
 
-    /// Writes the lines that are held. How many were lost since the start.
+    /// Writes the buffered lines. Returns how many were dropped since the start.
     pub(crate) fn write(&mut self) -> u64 {
         if !self.lines.is_empty() {
             self.write_held();

@@ -1,4 +1,4 @@
-//! The lines that tell of the store, while it is served.
+//! The lines that report the state of the store while it is served.
 ghost use Rattle.std.specs.Prelude.{OnOk};
 ghost use Rattle.std.specs.Io.KnownBytes.{Appends};
 ghost use Rattle.dss_command.specs.StoreLines.{store_line};
@@ -7,7 +7,7 @@ use dss_server::server_log::StoreEvent;
 use std::io;
 use std::io::Write;
 
-/// Tells on one line whether the store keeps what it is given.
+/// Prints one line that reports a change of the store's state.
 pub(crate) fn tell_store<E: Write>(news: StoreEvent, error: &mut E) -> io::Result<()>
     ensures { OnOk result (Appends (E.contents error.old) (E.contents error.new)
         (store_line news)) }
@@ -16,7 +16,7 @@ pub(crate) fn tell_store<E: Write>(news: StoreEvent, error: &mut E) -> io::Resul
         StoreEvent::CommitFailed => {
             writeln!(
                 error,
-                "dss: store: changes are not kept, and are answered as faults"
+                "dss: store: commit failed; changes are answered with 500 until a commit succeeds"
             )
         }
         StoreEvent::StillFailing(count) => {
@@ -28,7 +28,7 @@ pub(crate) fn tell_store<E: Write>(news: StoreEvent, error: &mut E) -> io::Resul
         StoreEvent::Recovered(count) => {
             writeln!(
                 error,
-                "dss: store: changes are kept again, after {count} faults"
+                "dss: store: commits succeed again after {count} failures"
             )
         }
         StoreEvent::Stopped => {

@@ -1,4 +1,4 @@
-//! One stream of requests, each at the same moment.
+//! One stream of requests, with one time for all calls.
 ghost use Rattle.std.specs.Prelude.{◌≡◌, ◌⊎◌, IfErr, IfOk, OnOk};
 ghost use Rattle.token_conf.specs.TokenFile.{salt_of};
 ghost use Rattle.wire_http.specs.Counted.{inner_of};
@@ -16,9 +16,11 @@ use token_conf::token_table::TokenTable;
 use wire_http::{Counted, FixedClock, Served, serve_stream};
 use wire_route::routes::Routes;
 
-/// Serves one stream, each moment being `now`: what the input spells was asked and answered, as
-/// `serve_stream` says it. After a fault the first bytes of the answers were written; where memory
-/// lacked for the routes, nothing was read, asked or written.
+/// Serves one stream, each call at the time `now`: executes and answers the requests of the input,
+/// as `serve_stream` does.
+///
+/// After a fault, the first bytes of the responses were written. If memory ran out for the routes,
+/// nothing was read, executed or written.
 pub fn serve_at<S: Space + Drop, R: Read, W: Write>(
     alloc: Global,
     service: &mut Service<S>,
@@ -48,8 +50,8 @@ pub fn serve_at<S: Space + Drop, R: Read, W: Write>(
     }
 }
 
-/// Serves one stream by a service that it makes over a space, which is given back as it is then.
-/// After a fault the first bytes of the answers were written, as `serve_at` has it.
+/// Serves one stream with a new service over a space, and returns the space as it then is. After a
+/// fault, the first bytes of the responses were written, as with `serve_at`.
 pub fn serve_stream_over<S: Space + Drop, R: Read, W: Write>(
     alloc: Global,
     space: S,
@@ -74,7 +76,7 @@ pub fn serve_stream_over<S: Space + Drop, R: Read, W: Write>(
     }
 }
 
-/// The command `run` without a database: serves one stream over an empty airspace in memory.
+/// Runs the command `run` without a database: serves one stream over an empty airspace in memory.
 pub fn serve_in_memory<R: Read, W: Write>(
     alloc: Global,
     salt: Salt,

@@ -1,5 +1,5 @@
-//! The command `tokens`, over texts and random bytes: a token file is checked, or a token or a salt
-//! is made for one.
+//! The command `tokens`, over texts and random bytes: checks a token file, or generates a token or
+//! a salt for one.
 ghost use Rattle.std.specs.Prelude.{◌≡◌, ◌⊎◌, IfErr, OnOk};
 ghost use Rattle.std.specs.Io.KnownBytes.{Appends};
 ghost use Rattle.token_conf.specs.TokenFile.{file_of};
@@ -26,7 +26,7 @@ fn put_lines<W: Write>(lines: &[String], output: &mut W) -> Result<(), Fault>
     Ok(())
 }
 
-// How a check ends whose file has these mistakes.
+// Returns how a check of a file with these errors ends.
 fn refuse_mistakes(mistakes: &[TokenFileError]) -> Result<(), Fault>
     ensures { Judges mistakes.now result }
 {
@@ -36,8 +36,7 @@ fn refuse_mistakes(mistakes: &[TokenFileError]) -> Result<(), Fault>
     }
 }
 
-/// Tells what is wrong with the text of a token file, and what it surely does not mean, in the
-/// lines of `check_tokens`.
+/// Prints the errors and warnings of a token file's text, in the lines of `check_tokens`.
 pub fn tell_tokens<E: Write>(alloc: Global, text: &str, error: &mut E) -> Result<(), Fault>
     ensures { IfErr result (λ fault. (fault ≡ Memory) ⊎ (fault ≡ Output)) }
 {
@@ -47,9 +46,9 @@ pub fn tell_tokens<E: Write>(alloc: Global, text: &str, error: &mut E) -> Result
     put_lines(report.lines.as_slice(), error)
 }
 
-/// What is wrong with the text of the token file of that name, and what it surely does not mean, on
-/// a line each. Where nothing is wrong a line tells how much the file has; else the fault is the
-/// one that the other commands tell of the file.
+/// Prints the errors and warnings of the text of the token file of that name, one per line. If
+/// there is no error, prints a line with the file's contents by number. Otherwise returns the fault
+/// that the other commands return for the file.
 pub fn check_tokens<W: Write>(
     alloc: Global,
     file: &str,
@@ -70,8 +69,8 @@ pub fn check_tokens<W: Write>(
     put("\n".as_bytes(), output)
 }
 
-/// The table of a new token of a supplier with scopes, whose text is made of these bytes. What is
-/// wrong with the supplier or a scope is told on a line of `error`.
+/// Prints the table of a new token of a USS with scopes, whose text is made from these bytes.
+/// Prints errors of the USS id or of a scope on a line of `error`.
 pub fn new_token<W: Write, E: Write>(
     alloc: Global,
     uss: &str,
@@ -94,7 +93,7 @@ pub fn new_token<W: Write, E: Write>(
     }
 }
 
-/// The line of a new salt that is made of these bytes.
+/// Prints the line of a new salt that is made from these bytes.
 pub fn new_salt<W: Write>(alloc: Global, random: &[u8], output: &mut W) -> Result<(), Fault>
     ensures { OnOk result (Appends (W.contents output.old) (W.contents output.new)
         (salt_line_of random.now)) }

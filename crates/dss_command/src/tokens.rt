@@ -24,14 +24,14 @@ fn pass_table(told: Result<TokenTable, ConfFault>) -> Result<TokenTable, Fault>
     }
 }
 
-/// The table of the text of a token file.
+/// Returns the table of the text of a token file.
 pub fn table_of(alloc: Global, text: &str) -> Result<TokenTable, Fault>
     ensures { Tables text.now result }
 {
     pass_table(TokenTable::read(alloc, text))
 }
 
-/// The salt of the table's OVNs. Its one fault is `Memory`.
+/// Returns the salt of the table's OVNs. The only possible fault is `Memory`.
 pub fn salt_of(tokens: &TokenTable) -> Result<Salt, Fault>
     ensures same { IfOk result (λ salt. salt ≡ salt_of tokens.now) }
     ensures memory { IfErr result (λ fault. fault ≡ Memory) }
@@ -42,7 +42,7 @@ pub fn salt_of(tokens: &TokenTable) -> Result<Salt, Fault>
     }
 }
 
-/// Tells on one line why a token file that changed was not taken.
+/// Prints one line that says why a changed token file was not loaded.
 pub fn tell_refusal<E: Write>(fault: TokenReloadFault, error: &mut E) -> io::Result<()>
     ensures { OnOk result (Appends (E.contents error.old) (E.contents error.new)
         (refusal_line fault ++ codes "\n")) }
@@ -51,6 +51,11 @@ pub fn tell_refusal<E: Write>(fault: TokenReloadFault, error: &mut E) -> io::Res
         TokenReloadFault::Unread => print_fault(&Fault::TokensUnread, error),
         TokenReloadFault::Wrong(ConfFault::Memory) => print_fault(&Fault::Memory, error),
         TokenReloadFault::Wrong(why) => print_fault(&Fault::Tokens(why), error),
-        TokenReloadFault::OtherSalt => writeln!(error, "dss: tokens: another salt"),
+        TokenReloadFault::OtherSalt => {
+            writeln!(
+                error,
+                "dss: tokens: not reloaded: the salt changed; restart to apply it"
+            )
+        }
     }
 }

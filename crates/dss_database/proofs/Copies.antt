@@ -1,4 +1,4 @@
--- What a space over tables holds was read before, and is its copy.
+-- A space over tables was read before, and has its mirror.
 use Rattle.std.specs.Prelude.{◌≡◌, true, false, Result, Ok, refl}
 use Rattle.std.proofs.Common.{sym, subst, ◌∙◌}
 use Rattle.sqlite_trees.specs.declared.store.Store.{Ghosts}
@@ -9,7 +9,7 @@ use Rattle.space_sql_load.specs.declared.table_check.LoadedAirspace.{LoadedAirsp
 use Rattle.space_sql.specs.Holding.{SqlSpaceModel, holds_of, is_sound_of, is_whole_of}
 use Rattle.space_sql.specs.Load.{IsAllOf}
 
--- the space after one reading
+-- The space after one read.
 abbrev IsRead : {S : Type 0} → Ghosts S → SqlSpaceModel S → SqlSpaceModel S → Type 0
 IsRead g old new =
     (answer : Result LoadedAirspace SpaceFault) × ReportsFault old.refusals new.refusals old.broken new.broken answer
@@ -29,6 +29,6 @@ module _ {S : Type 0} (g : Ghosts S) where
     },
   )
 
-  -- what was read before counts as read
+  -- What was read before counts as read.
   pub read_before : (old new : SqlSpaceModel S) (l : LoadedAirspace) → IsAllOf g old l → new ≡ old → IsRead g old new
   read_before old new l all same = subst (λ (k : SqlSpaceModel S). IsRead g old k) (sym same) (as_it_is old l all)

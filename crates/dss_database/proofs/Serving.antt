@@ -1,4 +1,4 @@
--- From a start of `serve` to the next.
+-- From one start of `serve` to the next.
 use Rattle.std.specs.Prelude.{◌≡◌, ◌∷◌, ℕ, List, [], ◌++◌, Option, Result, Ok, Err, OnOk, refl}
 use Rattle.std.proofs.Common.{sym, ap, subst, ◌∙◌}
 use Rattle.std.proofs.Math.Logic.{∥∥₁_map}
@@ -35,7 +35,7 @@ finds_again : {S T : Type 0} (again : Ghosts (SqlSpaceModel T)) (before after : 
 finds_again again before after old segments batches continues a stands next finds sound = ∥∥₁_map (continues a stands) (λ it.
     (it.0, without_empty_purged (salt_of old) a it.0 segments batches it.1, content_found after again next finds sound it.0 it.2))
 
--- files are closed only after work that was done
+-- Files are closed only after work that succeeded.
 work_done : {D : Type 0} {g : disk.Ghosts D} (P : Type 0) (k : SqlSpaceModel (FileStore D g)) (done : Result (Unit {0}) Fault) (files : Files D) → OnOk done P → EndsClosing done k (Ok files) → P × ClosesFiles k files
 work_done P k (Ok x) files p closes = (p, closes)
 work_done P k (Err why) files p ends = absurd (let wrong = ends in cc)

@@ -1,4 +1,4 @@
--- What is swept by a copy in memory is swept of the tables, and so of the files.
+-- A purge through the mirror purges the tables, and so the files.
 use Rattle.std.specs.Prelude.{◌≡◌, ◌↔◌, ◌⊎◌, ℕ, Bool, true, false, List, Option, Result, Ok, Err, IfErr, IfOk, IsErr, refl}
 use Rattle.std.proofs.Common.{arith, sym, ap, subst, inl, inr, ◌∙◌}
 use Rattle.std.proofs.Math.Logic.{∥∥₁_map}
@@ -31,7 +31,7 @@ use Rattle.dss_command.specs.declared.fault.Fault.TheVariants.{DatabaseFailed, O
 use Rattle.dss_database.specs.Files.{IsOfDatabase, PurgesFiles, PurgesPartly}
 use Rattle.dss_database.proofs.Telling.{IsOver}
 
--- what is said of a space with a copy in memory, where no change waits, by what is said of its store
+-- Relates the properties of a mirrored space without pending changes to those of its store.
 pub record IsGroupOver {S : Type 0} (tables : spaces.Ghosts S) (space : spaces.Ghosts (MirroredModel S)) : Type 0 where
   pub holds : (k : MirroredModel S) (a : Airspace) → is_pending_in k ≡ false → space.holds k a ↔ tables.holds k.store a
   pub whole : (k : MirroredModel S) → space.is_whole k ↔ tables.is_whole k.store
@@ -43,19 +43,19 @@ still_broken was now (Ok x) is broken = is ∙ broken
 still_broken was now (Err Unchanged) is broken = is ∙ broken
 still_broken was now (Err Broken) is broken = is
 
--- a reading leaves the content, or breaks the space
+-- A read keeps the content, or breaks the space.
 content_or_broken : {S T : Type 0} (g : spaces.Ghosts S) (P : Airspace → T → Type 0) (s t : S) (answer : Result T SpaceFault) → ReportsFault (g.refusals s) (g.refusals t) (g.is_broken s) (g.is_broken t) answer
     → Reads g.holds g.is_sound g.is_whole s t answer P → g.is_sound t → (a : Airspace) → IsContent g.holds s a → IsContent g.holds t a ⊎ (g.is_broken t ≡ true)
 content_or_broken g P s t (Ok x) tells reads is a content = inl (record { held = reads.stays is a content.held; only = λ b held. content.only b (reads.no_other is b held) })
 content_or_broken g P s t (Err Unchanged) tells reads is a content = inl (record { held = reads.stays is a content.held; only = λ b held. content.only b (reads.no_other is b held) })
 content_or_broken g P s t (Err Broken) tells reads is a content = inr tells.breaks
 
--- of a broken space nothing went
+-- Nothing is purged from a broken space.
 nothing_went : {S : Type 0} (Holds : S → Airspace → Type 0) (until : ℕ) (a : Airspace) (s : S) (told : Result PurgeCounts SpaceFault) → IsErr told → ((b : Airspace) → Holds s b → b ≡ a) → LeavesPurged Holds until a s told
 nothing_went Holds until a s (Ok counts) never only = absurd (let wrong : false ≡ true = never in cc)
 nothing_went Holds until a s (Err why) fails only = λ b held. subst (λ (c : Airspace). IsPartlyPurged until a c) (sym (only b held)) (record { entities = λ k e there. there; subscriptions = λ id s there. there; same = refl })
 
--- what is left of a space, by what is held of it in other words
+-- The content after a purge, carried over to an equivalent representation.
 left_too : {S T : Type 0} (Holds : S → Airspace → Type 0) (Held : T → Airspace → Type 0) (until : ℕ) (a : Airspace) (s : S) (t : T) (told : Result PurgeCounts SpaceFault) → ((b : Airspace) → Holds s b ↔ Held t b)
     → LeavesPurged Holds until a s told → LeavesPurged Held until a t told
 left_too Holds Held until a s t (Ok counts) same left = (record { held = (same (purged until a)).0 left.0.held; only = λ b held. left.0.only b ((same b).1 held) }, left.1)
@@ -86,13 +86,13 @@ module _ {S T : Type 0} (tables : spaces.Ghosts S) (space : spaces.Ghosts (Mirro
         reads.no_other (was_sound is) b ((over.holds first b calm).0 (purges.frozen (sound is) is_broken b ((over.holds last b (still ∙ calm)).1 held)));
   }
 
--- what is left is swept in part, however the sweep ended
+-- What is left is partly purged, however the purge ended.
 partly_left : {S : Type 0} (Holds : S → Airspace → Type 0) (until : ℕ) (a : Airspace) (s : S) (told : Result PurgeCounts SpaceFault) → LeavesPurged Holds until a s told → (b : Airspace) → Holds s b → IsPartlyPurged until a b
 partly_left Holds until a s (Ok counts) left b held = subst (λ (c : Airspace). IsPartlyPurged until a c) (sym (left.0.only b held)) (purged_partly until until a (omega arith))
 partly_left Holds until a s (Err why) left b held = left b held
 
 module _ {D : Type 0} {g : disk.Ghosts D} (space : spaces.Ghosts (SqlSpaceModel (FileStore D g))) (image : Image) (until : ℕ) (old new : SqlSpaceModel (FileStore D g)) (finds : FindsSpelt image space old) (over : IsOver space) where
-  -- closed files spell what is so of each airspace that the space may hold
+  -- Closed files represent every property that holds of each possible airspace of the space.
   spelt : (P : Airspace → Type 0) (files : Files D) → ClosesFiles new files → AreClean g files.log files.db → space.is_whole new → ((b : Airspace) → space.holds new b → P b) → (left : Image) → FilesHave g files left
       → ∥ ((b : Airspace) × P b × FilesSpell Two left b × FilesSpell Two (without_log left) b) ∥₁
   spelt P files closes clean whole each left have = ∥∥₁_map (closes.held clean (over.whole new whole) left have) (λ it. (it.0, each it.0 (over.holds new it.0 it.1), it.2, it.3))
@@ -137,14 +137,14 @@ module _ {D : Type 0} {g : disk.Ghosts D} (space : spaces.Ghosts (SqlSpaceModel 
   pub purge_told : (told : Result PurgeCounts SpaceFault) (counts : PurgeCounts) → told ≡ Ok counts → PurgesSpace space until old new told → (files : Files D) → ClosesFiles new files → (before after : Option (List ℕ)) → Appends before after (purged_line counts) → PurgesFiles g image until before after files
   purge_told told counts is purges = closed_told counts (subst (λ (t : Result PurgeCounts SpaceFault). PurgesSpace space until old new t) is purges)
 
--- ---- how the command ends
+-- ---- results of the command
 
--- what is so anyway is so after a fault
+-- A property that always holds also holds after a fault.
 pub partly_anyway : {T : Type 0} (result : Result T Fault) (Q : Fault → Type 0) (P : Type 0) → P → IfErr result (λ fault. Q fault ⊎ P)
 partly_anyway (Ok x) Q P p = tt
 partly_anyway (Err why) Q P p = inr p
 
--- where the work ended in a fault, no files are told of
+-- If the work ended in a fault, nothing is claimed of the files.
 pub untold : {T : Type 0} (result : Result T Fault) (why : Fault) (P : T → Type 0) → result ≡ Err why → IfOk result P
 untold result why P is = subst (λ r. IfOk r P) (sym is) tt
 

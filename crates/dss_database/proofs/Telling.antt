@@ -1,4 +1,4 @@
--- What is told of a space is told of the files that it was taken over.
+-- Properties of a space are properties of the files from which it was opened.
 use Rattle.std.proofs.Common.{◌≡◌, ℕ, Bool, true, false, List, Option, refl, sym, subst, inl, inr}
 use Rattle.std.specs.Prelude.{◌↔◌, ◌⊎◌, IsTrue, IfErr, IfOk, OnOk, Result, Ok, Err, codes, if◌then◌else◌}
 use Rattle.std.proofs.Math.Logic.{∥∥₁_map}
@@ -32,20 +32,20 @@ module _ {D : Type 0} {g : disk.Ghosts D} (k : SqlSpaceModel (FileStore D g)) wh
   pub ends_unclosed : (done : Result (Unit {0}) Fault) → done ≡ Ok tt → EndsClosing done k (Err DatabaseFailed)
   ends_unclosed done is = subst (λ d. EndsClosing d k (Err DatabaseFailed)) (sym is) refl
 
-  -- what is so after work that was done, of files that were closed then
+  -- A property that holds after successful work, of the files that were closed then.
   pub done_closed : (P : Type 0) (Q : Files D → Type 0) (done : Result (Unit {0}) Fault) (result : Result (Files D) Fault)
       → OnOk done P → EndsClosing done k result → (P → (files : Files D) → ClosesFiles k files → Q files) → IfOk result Q
   done_closed P Q (Ok x) (Ok files) p closes both = both p files closes
   done_closed P Q (Ok x) (Err why) p closes both = tt
   done_closed P Q (Err why) result p ends both = subst (λ r. IfOk r Q) (sym ends) tt
 
-  -- what is known of work that was done
+  -- The properties of work that succeeded.
   pub on_closed : (P : Type 0) (done : Result (Unit {0}) Fault) (result : Result (Files D) Fault) → OnOk done P → EndsClosing done k result → OnOk result P
   on_closed P (Ok x) (Ok files) p closes = p
   on_closed P (Ok x) (Err why) p closes = tt
   on_closed P (Err why) result p ends = subst (λ r. OnOk r P) (sym ends) tt
 
-  -- which fault of a report is told
+  -- The fault that a failed report returns.
   pub why_unreported : (done : Result (Unit {0}) Fault) (result : Result (Files D) Fault)
       → IfErr done (λ fault. (fault ≡ DatabaseFailed) ⊎ (fault ≡ Memory) ⊎ (fault ≡ Output)) → EndsClosing done k result
       → IfErr result (λ fault. IsOfDatabase fault ⊎ (fault ≡ Memory) ⊎ (fault ≡ Output))
@@ -56,13 +56,13 @@ module _ {D : Type 0} {g : disk.Ghosts D} (k : SqlSpaceModel (FileStore D g)) wh
     | inr it ↦ inr it
   ])
 
--- what is so of a space over files by its store is so of the space
+-- States that the properties of a space over files carry over from its store to the space.
 pub record IsOver {D : Type 0} {g : disk.Ghosts D} (space : spaces.Ghosts (SqlSpaceModel (FileStore D g))) : Type 0 where
   pub sound : (k : SqlSpaceModel (FileStore D g)) → is_sound_of over_files k → space.is_sound k
   pub whole : (k : SqlSpaceModel (FileStore D g)) → space.is_whole k → is_whole_of over_files k
   pub holds : (k : SqlSpaceModel (FileStore D g)) (a : Airspace) → holds_of over_files k a → space.holds k a
 
--- the line by which a space tells whether it was in format 1 is that of the format
+-- The line that says if a space had format 1 is the line of the format.
 line_told : (upgraded : Bool) (format : Format) → (IsTrue upgraded ↔ (format ≡ One))
     → (if upgraded then codes "format 2, was 1\n" else codes "format 2\n") ≡ format_line format
 line_told true One tells = refl
@@ -71,7 +71,7 @@ line_told false One tells = let wrong : false ≡ true = tells.1 refl in cc
 line_told false Two tells = refl
 
 module _ {D : Type 0} {g : disk.Ghosts D} (space : spaces.Ghosts (SqlSpaceModel (FileStore D g))) (image : Image) (before after : Option (List ℕ)) where
-  -- closed files stand for the airspace that alone the space may hold
+  -- Closed files represent the only airspace that the space may hold.
   kept_after : IsOver space → (new : SqlSpaceModel (FileStore D g)) (files : Files D) → ClosesFiles new files
       → (space.is_sound new → (a : Airspace) → StandFor image a → space.is_whole new × ((b : Airspace) → space.holds new b → b ≡ a))
       → KeepsAirspace g image files
@@ -91,7 +91,7 @@ module _ {D : Type 0} {g : disk.Ghosts D} (space : spaces.Ghosts (SqlSpaceModel 
             (reports.whole is (finds.whole (reports.sound is) a content.held), λ b held. content.only b (reports.no_other is b held)));
       })
 
-  -- files that were opened and closed stand for the airspace for which they stood
+  -- Files that were opened and closed represent the same airspace as before.
   pub settled_kept : (k : SqlSpaceModel (FileStore D g)) (files : Files D) → FindsSpelt image space k → ClosesFiles k files → IsOver space → KeepsAirspace g image files
   settled_kept k files finds closes over = kept_after over k files closes (λ is a stands.
       let content = content_found image space k finds is a stands in (finds.whole is a content.held, content.only))

@@ -1,4 +1,5 @@
--- What the commands over a database tell, by what its files held, and what they leave there.
+-- What the commands over a database return, given the contents of its files, and what they leave
+-- there.
 use Rattle.std.specs.Prelude.{◌≡◌, ◌⊎◌, ℕ, Bool, List, Option, false, Result, Ok, Err, OnOk, OnErr, IfErr, codes}
 use Rattle.std.specs.Io.KnownBytes.{Appends}
 use Rattle.sqlite_disk.specs.declared.Disk as disk
@@ -36,29 +37,29 @@ use Rattle.dss_command.specs.Stream.{ServesOver, ServesPartOver}
 use Rattle.dss_command.specs.declared.fault.Fault.{Fault}
 use Rattle.dss_command.specs.declared.fault.Fault.TheVariants.{Database, DatabaseFailed, Memory, Output}
 
--- what is printed of a database that had this format
+-- The line that is printed for a database that had this format.
 abbrev pub format_line : Format → List ℕ
 format_line One = codes "format 2, was 1\n"
 format_line Two = codes "format 2\n"
 
--- the database was not taken
+-- Holds if the database could not be opened.
 abbrev pub IsRefusal : Fault → Type 0
 IsRefusal fault = (why : OpenFault) × (fault ≡ Database why)
 
--- the database was not taken, or failed later
+-- Holds if the database could not be opened, or failed later.
 abbrev pub IsOfDatabase : Fault → Type 0
 IsOfDatabase fault = IsRefusal fault ⊎ (fault ≡ DatabaseFailed)
 
--- How a command ends whose work over a space ended so, and whose space is closed last: with the
--- fault of the work, or else as the closing does.
+-- How a command ends that closes its space last, given the result of its work: with the fault of
+-- the work, or otherwise as the close does.
 abbrev pub EndsClosing : {D : Type 0} {g : disk.Ghosts D}
     → Result (Unit {0}) Fault → SqlSpaceModel (FileStore D g) → Result (Files D) Fault → Type 0
 EndsClosing (Err why) k result = result ≡ Err why
 EndsClosing (Ok x) k (Ok files) = ClosesFiles k files
 EndsClosing (Ok x) k (Err why) = why ≡ DatabaseFailed
 
--- What was written of a space, which was only read, is the report of the airspace that it held, or
--- the cells of its references.
+-- States that the output is the report of the airspace of the space, or the cells of its
+-- references. The space was only read.
 pub record ReportsSpace {S : Type 0} (space : spaces.Ghosts S) (places : Bool)
     (before after : Option (List ℕ)) (old new : S) (done : Result (Unit {0}) Fault) : Type 0 where
   pub sound : space.is_sound new → space.is_sound old
@@ -69,33 +70,33 @@ pub record ReportsSpace {S : Type 0} (space : spaces.Ghosts S) (places : Bool)
   pub fault : IfErr done (λ fault. (fault ≡ DatabaseFailed) ⊎ (fault ≡ Memory) ⊎ (fault ≡ Output))
 
 module _ {D : Type 0} (g : disk.Ghosts D) (image : Image) where
-  -- As long as the disk returned what was written: whatever is found of the files, also without
-  -- their log, spells in format 2 the airspace for which they stood.
+  -- Holds if the files, also without their log, represent in format 2 the same airspace as before.
+  -- It applies as long as the disk returned what was written.
   abbrev pub KeepsAirspace : Files D → Type 0
   KeepsAirspace files =
       AreClean g files.log files.db → (a : Airspace) → StandFor image a
       → (left : Image) → FilesHave g files left
       → ∥ (FilesSpell Two left a × FilesSpell Two (without_log left) a) ∥₁
 
-  -- What was written is the report of the airspace for which the files stood, or the cells of its
-  -- references, and they stand for it.
+  -- States that the output is the report of the airspace that the files represented, or the cells
+  -- of its references. The files still represent that airspace.
   pub record ReportsFiles (places : Bool) (before after : Option (List ℕ)) (files : Files D)
       : Type 0 where
     pub told : AreClean g files.log files.db → (a : Airspace) → StandFor image a
         → WritesReport places a before after
     pub kept : KeepsAirspace files
 
-  -- What was written is the line of the format in which the files spelt an airspace, and they stand
-  -- for it in format 2.
+  -- States that the output is the line of the format in which the files represented an airspace.
+  -- The files now represent it in format 2.
   pub record UpgradesFiles (before after : Option (List ℕ)) (files : Files D) : Type 0 where
     pub told : AreClean g files.log files.db
         → (format : Format) (a : Airspace) → FilesSpell format image a
         → Appends before after (format_line format)
     pub kept : KeepsAirspace files
 
-  -- What was written is the line of what the airspace for which the files stood has less once it is
-  -- swept; and as long as the disk returned what was written, whatever is found of the files, also
-  -- without their log, spells in format 2 that airspace as it is then.
+  -- States that the output is the line of what a purge removed from the airspace of the files. The
+  -- files, also without their log, represent in format 2 the airspace after the purge. This applies
+  -- as long as the disk returned what was written.
   pub record PurgesFiles (until : ℕ) (before after : Option (List ℕ)) (files : Files D)
       : Type 0 where
     pub told : AreClean g files.log files.db → (a : Airspace) → StandFor image a
@@ -105,9 +106,9 @@ module _ {D : Type 0} (g : disk.Ghosts D) (image : Image) where
         → ∥ (FilesSpell Two left (purged until a)
         × FilesSpell Two (without_log left) (purged until a)) ∥₁
 
--- A space was taken over files and swept, or in part; then it was closed, or that failed. Whatever
--- is found of the files, after a closing or where a crash leaves what it may, spells in format 2 an
--- airspace that is, of the one for which they stood, swept in part.
+-- States that a space was opened from files, purged completely or partly, and closed, successfully
+-- or not. The files, after a close or after a crash, represent in format 2 a partly purged state of
+-- the airspace that they represented.
 pub record PurgesPartly {D : Type 0} {g : disk.Ghosts D}
     (tables : spaces.Ghosts (SqlSpaceModel (FileStore D g))) (image : Image) (until : ℕ) : Type 0 where
   pub opened : SqlSpaceModel (FileStore D g)
@@ -123,8 +124,8 @@ pub record PurgesPartly {D : Type 0} {g : disk.Ghosts D}
       → (a : Airspace) → StandFor image a → (left : Image) → FilesLeft last left
       → ∥ ((b : Airspace) × IsPartlyPurged until a b × FilesSpell Two left b) ∥₁
 
--- How a command ends that served a stream over a space, or the first requests of it, and closed the
--- space last.
+-- States how a command ends that served a stream over a space, or its first requests, and closed
+-- the space last.
 pub record ServesClosing {D : Type 0} {g : disk.Ghosts D}
     (space : spaces.Ghosts (SqlSpaceModel (FileStore D g))) (tokens : TokenFile) (now : ℕ)
     (remaining before after : Option (List ℕ)) (old : SqlSpaceModel (FileStore D g))
@@ -135,9 +136,10 @@ pub record ServesClosing {D : Type 0} {g : disk.Ghosts D}
   pub part : IfErr done (ServesPartOver space tokens now remaining before after old new)
   pub closed : EndsClosing done new result
 
--- The clients of a port were answered over a space over tables with a copy of it in memory, after
--- it was read once at most for the copy, in rounds that were all settled, between which some of
--- what had ended went; after a fault some were, or none. Then it is given back, without the copy.
+-- States that the clients of a port were answered over a mirrored space over tables. The space was
+-- read at most once for the mirror. All calls were in batches that have ended, with purges between
+-- them. After a fault some calls were executed, or none. Then the space is returned, without the
+-- mirror.
 pub record ServesCopied {S M : Type 0} (tables : spaces.Ghosts (SqlSpaceModel S))
     (space : spaces.Ghosts (QuotaModel (MirroredModel (SqlSpaceModel S))))
     (m : moments.Ghosts M) (gives : List ℕ → Type 0) (keep : Option ℕ) (tokens : TokenFile)
@@ -155,7 +157,7 @@ pub record ServesCopied {S M : Type 0} (tables : spaces.Ghosts (SqlSpaceModel S)
   pub sound : tables.is_sound last.space.store → space.is_sound last
   pub released : new ≡ last.space.store
 
--- And the space over tables was closed last.
+-- States the same, and that the space over tables was closed last.
 pub record ClosesServed {D M : Type 0} {g : disk.Ghosts D}
     (tables : spaces.Ghosts (SqlSpaceModel (FileStore D g)))
     (space : spaces.Ghosts (QuotaModel (MirroredModel (SqlSpaceModel (FileStore D g)))))

@@ -21,8 +21,8 @@ use Rattle.wire_http.specs.declared.moments.Moments as moments
 use Rattle.dss_command.specs.Service.{ServesClients}
 use Rattle.dss_database.specs.Files.{ClosesServed}
 
--- the next start finds in files what may have come, in this run, of the airspace for which they
--- stood, and no other
+-- Holds if the next start finds an airspace that may result, in this run, from the one that the
+-- files represented, and no other.
 abbrev pub FindsAgain : {T : Type 0} → spaces.Ghosts (SqlSpaceModel T) → (before : Image) → Run
     → (after : Image) → Type 0
 FindsAgain {T} again before run after =
@@ -30,9 +30,9 @@ FindsAgain {T} again before run after =
     → (next : SqlSpaceModel T) → FindsSpelt after again next → again.is_sound next
     → ∥ ((b : Airspace) × MayCome a run b × IsContent again.holds next b) ∥₁
 
--- What is known of files in which a database was served and closed: clients were answered in
--- rounds, between which some of what had ended was let go of, and the next start finds what may
--- have come of the run of these, also where the log is gone.
+-- States what is known of the files of a database that was served and closed. Clients were answered
+-- in batches, with purges between them. The next start finds a possible result of this run, even if
+-- the log is missing.
 pub record ServedIsFound {S T M : Type 0} (space : spaces.Ghosts S) (waiting : settles.Ghosts S)
     (m : moments.Ghosts M) (again : spaces.Ghosts (SqlSpaceModel T)) (gives : List ℕ → Type 0)
     (keep : Option ℕ) (tokens : TokenFile) (clock clock' : M) (before after : Image) : Type 0 where
@@ -44,8 +44,8 @@ pub record ServedIsFound {S T M : Type 0} (space : spaces.Ghosts S) (waiting : s
   pub without_log : FindsAgain again before
       (run_purged clients.first clients.serves.segments clients.serves.batches) (without_log after)
 
--- It is so of what `opened` takes and `serve` then closes, over files whose disk returned what was
--- written.
+-- Holds if that is true of what `opened` opens and `serve` then closes, over files whose disk
+-- returned what was written.
 abbrev pub NextStartFinds : {D T M : Type 0} {g : disk.Ghosts D}
     → spaces.Ghosts (SqlSpaceModel (FileStore D g)) → spaces.Ghosts (QuotaModel (MirroredModel (SqlSpaceModel (FileStore D g))))
     → moments.Ghosts M → spaces.Ghosts (SqlSpaceModel T) → (List ℕ → Type 0) → Type 0

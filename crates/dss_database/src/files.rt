@@ -1,5 +1,5 @@
-//! The commands over a database, whose files are opened first and closed last. What is said of them
-//! is said for all that the file and its log may hold, which `Start` stands for.
+//! The commands over a database, whose files are opened first and closed last. Their contracts
+//! cover any contents of the file and its log, which `Start` represents.
 ghost use Rattle.std.specs.Prelude.{◌≡◌, ◌⊎◌, IfErr, IfOk, IfSome, IsSome, OnOk};
 ghost use Rattle.sqlite.specs.Files.{over_files};
 ghost use Rattle.sqlite.specs.WalFiles.{image_at};
@@ -38,8 +38,8 @@ use std::io::{Read, Write};
 use token_conf::token_table::TokenTable;
 use wire_http::{Counted, Moments};
 
-/// Opens the database in the file of that name, with all that it then holds where that was read.
-/// After a fault what is open of it is closed.
+/// Opens the database in the file of that name, with everything that it holds if that was read.
+/// After a fault, closes what it opened.
 pub fn open_database<F: Start>(
     rt: &HostRuntime,
     name: &str,
@@ -59,8 +59,8 @@ pub fn open_database<F: Start>(
     }
 }
 
-/// Closes the database of a command whose work ended so: a fault of the work is told before one of
-/// the closing.
+/// Closes the database of a command with that result. A fault of the work takes precedence over one
+/// of the close.
 pub fn close_database<F: Start>(
     done: Result<(), Fault>,
     space: SqlSpace<FileStore<FileFrom<F>>>,
@@ -75,8 +75,8 @@ pub fn close_database<F: Start>(
     }
 }
 
-// Prints the report of tables in some store: generic in it, for what is proved of the store of a
-// file is dear.
+// Prints the report of tables in some store. It is generic in the store, because proofs over the
+// store of a file are expensive.
 fn report_tables<A: Alter + Drop, W: Write>(
     alloc: Global,
     space: &mut SqlSpace<A>,
@@ -89,8 +89,8 @@ fn report_tables<A: Alter + Drop, W: Write>(
     print::report(alloc, space, places, output)
 }
 
-/// The command `report`: the report of the airspace in the file of that name, or the cells of its
-/// references.
+/// Runs the command `report`: prints the report of the airspace in the file of that name, or the
+/// cells of its references.
 pub fn report<F: Start, W: Write>(
     rt: &HostRuntime,
     name: &str,
@@ -108,8 +108,8 @@ pub fn report<F: Start, W: Write>(
     close_database(done, space)
 }
 
-/// The command `upgrade`: the database in the file of that name is brought to the newest format,
-/// which an opening does, and closed, and then it is printed which format it had.
+/// Runs the command `upgrade`: opens the database in the file of that name, which upgrades it,
+/// closes it, and then prints its previous format.
 pub fn upgrade<F: Start, W: Write>(
     rt: &HostRuntime,
     name: &str,
@@ -128,8 +128,8 @@ pub fn upgrade<F: Start, W: Write>(
     Ok(files)
 }
 
-/// The database in the file of that name as it is to be copied: opened, and closed, so that the
-/// file alone has all, without its log. Until the files are let go no other program opens it.
+/// Opens and closes the database in the file of that name for a backup, so that the file contains
+/// everything without its log. No other program opens the database until the files are dropped.
 pub fn checkpoint_database<F: Start>(
     rt: &HostRuntime,
     name: &str,
@@ -143,7 +143,7 @@ pub fn checkpoint_database<F: Start>(
     Ok(files)
 }
 
-// Sweeps tables in some store, by a copy of them in memory.
+// Purges tables in some store through a mirror.
 fn purged_by_copy<A: Alter + Drop>(
     alloc: Global,
     space: SqlSpace<A>,
@@ -158,9 +158,9 @@ fn purged_by_copy<A: Alter + Drop>(
     (done, grouped.into_store())
 }
 
-/// The command `purge`: of the airspace in the file of that name goes what a sweep until a moment
-/// takes, in seconds since 1970, and it is closed; then it is printed how much that was. After a
-/// fault some of it may be gone.
+/// Runs the command `purge`: purges the airspace in the file of that name up to a time in Unix
+/// seconds, closes the file, and then prints how much was purged. After a fault, part of it may be
+/// purged.
 pub fn purge<F: Start, W: Write>(
     rt: &HostRuntime,
     name: &str,
@@ -208,7 +208,7 @@ fn served<A: Alter + Drop, R: Read, W: Write>(
     serve_stream_over(alloc, space, salt, tokens, now, reader, writer)
 }
 
-/// The command `run` over a database that was opened, which is closed last.
+/// Runs the command `run` over an open database, which is closed last.
 pub fn run<F: Start, R: Read, W: Write>(
     alloc: Global,
     space: SqlSpace<FileStore<FileFrom<F>>>,
@@ -227,7 +227,7 @@ pub fn run<F: Start, R: Read, W: Write>(
     close_database(done, space)
 }
 
-// A tally of what is kept of each supplier, where there is a bound.
+// Creates a usage table of all USSs, if there is a quota.
 fn tally_of(alloc: Global, most_kept: Option<u32>) -> Option<UsageTable> {
     match most_kept {
         Some(most) => Some(UsageTable::new(alloc, most)),
@@ -235,7 +235,7 @@ fn tally_of(alloc: Global, most_kept: Option<u32>) -> Option<UsageTable> {
     }
 }
 
-// Answers the clients of a port over tables in some store, with a copy of them in memory.
+// Answers the clients of a port over tables in some store, with a mirror.
 fn served_by_copy<A: Alter + Drop, M: Moments, L: Listen + Drop, T: TokenSource + Drop, E: Write>(
     alloc: Global,
     space: SqlSpace<A>,
@@ -264,11 +264,12 @@ fn served_by_copy<A: Alter + Drop, M: Moments, L: Listen + Drop, T: TokenSource 
     (done, inside.into_store())
 }
 
-/// The command `serve` over a database that was opened, which is closed last, with a copy of it in
-/// memory as long as there is memory for it, while the token file is watched. Changes that wait for
-/// the end of a round are kept then, or none of them. What has ended so long before as it is kept
-/// goes, a piece at a time, as long as there is the copy. With a number no more than so many
-/// entities and subscriptions are kept of each supplier.
+/// Runs the command `serve` over an open database, which is closed last.
+///
+/// It has a mirror as long as memory lasts, and watches the token file. The pending changes of a
+/// batch are committed at its end, all or none. What ended at least the retention ago is purged, a
+/// chunk at a time, as long as there is a mirror. With a quota, the stored entities and
+/// subscriptions of each USS are limited.
 pub fn serve<F: Start, M: Moments, L: Listen + Drop, T: TokenSource + Drop, E: Write>(
     alloc: Global,
     space: SqlSpace<FileStore<FileFrom<F>>>,

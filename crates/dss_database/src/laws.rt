@@ -1,4 +1,4 @@
-//! A law of the commands over a database. No program calls it: what it says is in its contract.
+//! A law of the commands over a database. No program calls it: its contract is the statement.
 ghost use Rattle.dss_database.specs.Served.{NextStartFinds};
 
 use dss_server::token_watch::TokenSource;
@@ -10,9 +10,11 @@ use space_sql::space::SqlSpace;
 use sqlite::{Alter, FileFrom, FileStore, Start};
 use wire_http::Moments;
 
-/// From one start of `serve` to the next: what its clients were told as done, once it is closed, is
-/// found by whoever then opens the files. It is said of what `opened` takes, by its clause `finds`,
-/// of what `serve` then closes, by its clause `served`, and of what `SqlSpace::open` takes next.
+/// States that the next start of `serve` finds what this one, once it is closed, has reported to
+/// its clients as done.
+///
+/// It relates what `opened` opens (clause `finds`), what `serve` then closes (clause `served`), and
+/// what `SqlSpace::open` opens next.
 pub fn next_start_finds<F: Start, M: Moments, T: Alter, W: TokenSource>()
     ensures { NextStartFinds ⟦<SqlSpace<FileStore<FileFrom<F>>> as Space>⟧
         ⟦<QuotaSpace<Mirrored<SqlSpace<FileStore<FileFrom<F>>>>> as Space>⟧ M.Moments

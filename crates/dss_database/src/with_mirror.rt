@@ -1,4 +1,4 @@
-//! A space over tables gets a copy in memory of what it holds.
+//! The mirror of a space over tables.
 ghost use Rattle.std.specs.Prelude.{◌≡◌, false, IfSome, Result};
 ghost use Rattle.space_core.specs.Space.{Reads, ReportsFault};
 ghost use Rattle.space_core.specs.declared.space.SpaceFault.{SpaceFault};
@@ -30,8 +30,8 @@ fn give_up(tally: &mut Option<UsageTable>) {
     }
 }
 
-// The space with these lists, which are all that it holds, as its copy; without them where there is
-// no memory for their index. They are counted where there is a tally.
+// Returns the space with this complete airspace as its mirror, or without one if memory runs out
+// for the indexes. Counts its usage if there is a quota.
 fn with_lists<S: Alter + Drop>(
     alloc: Global,
     space: SqlSpace<S>,
@@ -56,7 +56,7 @@ fn with_lists<S: Alter + Drop>(
     }
 }
 
-// The space after all that it holds was read once, with a copy of that.
+// Reads all that the space holds once, and returns the space with a mirror of it.
 fn read_whole<S: Alter + Drop>(
     alloc: Global,
     space: SqlSpace<S>,
@@ -79,9 +79,10 @@ fn read_whole<S: Alter + Drop>(
     }
 }
 
-/// The space with a copy in memory of all that it holds, which is read once where it is not given.
-/// There is no copy where that reading failed or memory lacks. Nothing waits, and it has refused
-/// nothing. What it holds is counted where there is a tally.
+/// Returns the space with a mirror of all that it holds, which is read once if it is not given.
+///
+/// There is no mirror if that read failed or memory ran out. No changes are pending, and the space
+/// has counted no failures. Its usage is counted if there is a quota.
 pub(crate) fn with_mirror<S: Alter + Drop>(
     alloc: Global,
     space: SqlSpace<S>,

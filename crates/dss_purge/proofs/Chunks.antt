@@ -1,4 +1,4 @@
--- A sweep piece by piece.
+-- A purge, chunk by chunk.
 use Rattle.std.specs.Prelude.{◌≡◌, ◌⊎◌, ℕ, ◌+◌, ◌*◌, ◌<◌, Bool, true, List, [], ◌∷◌, ◌==◌, Result, Ok, Err, fold, length, refl}
 use Rattle.std.proofs.Common.{arith, sym, ap, ◌∙◌, subst, inl, inr}
 use Rattle.std.proofs.Math.Dec.{eqb-suc-zero}
@@ -15,14 +15,15 @@ use Rattle.dss_purge.specs.PurgeCounts.{IsLess, nothing, with_one}
 use Rattle.dss_purge.specs.declared.purged.PurgeCounts.{PurgeCounts}
 use Rattle.dss_purge.proofs.Counting.{CountsTo, all_less, counts_nothing}
 
--- where a list is told to be empty, it is
+-- A list that is reported empty is empty.
 pub is_none : {X : Type 0} (xs : List X) (n : ℕ) (b : Bool) → n ≡ length xs → b ≡ (n == 0) → b ≡ true → xs ≡ []
 is_none [] n b long is t = refl
 is_none (x ∷ xs) n b long is t =
     let e : b ≡ (length (x ∷ xs) == 0) = is ∙ ap (λ (m : ℕ). m == 0) long in
     cc (eqb-suc-zero (length xs))
 
--- How far an airspace is swept that a space holds and no other, after so many pieces.
+-- States that a space holds exactly one airspace, which is purged up to this progress after so many
+-- chunks.
 pub record IsSoFar {S : Type 0} (g : Ghosts S) (until chunks : ℕ) (a : Airspace) (s : S) (told : PurgeCounts) : Type 0 where
   pub airspace : Airspace
   pub content : IsContent g.holds s airspace
@@ -46,18 +47,18 @@ begins chunks_make g until s = record {
 }
 
 module _ (law : GoneIsPurged) (chunks_make : ChunksMakePurges) {S V : Type 0} (items : V → List PurgeItem) (g : Ghosts S) (until : ℕ) where
-  -- one that is swept in part of one that is
+  -- A partly purged state of a partly purged airspace is partly purged.
   further : (a b c : Airspace) → IsPartlyPurged until a b → IsPartlyPurged until b c → IsPartlyPurged until a c
   further a b c one two = (chunks_make.more until a b one).further c two
 
-  -- a piece that was found is one of each airspace that is held
+  -- A chunk that was found is a chunk of each airspace that the space may hold.
   abbrev pub Finds : (old new : S) → Result V SpaceFault → Type 0
   Finds old new result = Reads g.holds g.is_sound g.is_whole old new result (λ a gone. IsPurgeChunk until 256 (items gone) a)
 
   abbrev pub Says : {T : Type 0} → (old new : S) → Result T SpaceFault → Type 0
   Says old new result = ReportsFault (g.refusals old) (g.refusals new) (g.is_broken old) (g.is_broken new) result
 
-  -- a space that answered was not broken
+  -- A space that returned `Ok` was not broken.
   alive : (old s t : S) (chunks : ℕ) (told : PurgeCounts) (gone : V) → PurgedSoFar g until chunks old s told → Says s t (Ok gone) → g.is_broken old ≡ true → ⊥
   alive old s t chunks told gone far says broken = let bad : ◌≡◌ {A = Result V SpaceFault} (Ok gone) (Err Broken) = says.stays_broken (far.stays_broken broken) in cc
 
@@ -144,7 +145,7 @@ module _ (law : GoneIsPurged) (chunks_make : ChunksMakePurges) {S V : Type 0} (i
     frozen = λ is broken b held. far.frozen (finds.sound is) broken b (finds.no_other is b held);
   }
 
-  -- what may be held after a change that ended in a fault
+  -- The airspaces that the space may hold after a failed change.
   after_fault : (broken : Bool) (t u : S) (gone : List PurgeItem) (why : SpaceFault) → Changes {T = Unit {0}} g.holds g.is_sound g.is_whole broken t u (Err why) (without_items gone) → g.is_sound u → (a b : Airspace) → g.holds t a → g.holds u b → g.holds t b ⊎ (b ≡ without_items gone a)
   after_fault broken t u gone Unchanged changes is a b was held = inl ((changes.refused is refl b).1 held)
   after_fault broken t u gone Broken changes is a b was held =

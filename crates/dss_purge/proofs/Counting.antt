@@ -1,4 +1,4 @@
--- How much is less where some was let go of.
+-- How many fewer entries there are after some were purged.
 use Rattle.std.specs.Prelude.{◌≡◌, ℕ, ◌+◌, ◌≤◌, not, Bool, true, false, cond, List, [], ◌∷◌, filter, fold, length, Option, Some, None, IsSome, is_some, refl}
 use Rattle.std.proofs.Common.{arith, sym, ap, ◌∙◌, subst}
 use Rattle.std.proofs.lemmas.Cmp.{nat_cmp_total}
@@ -21,7 +21,7 @@ use Rattle.space_core.specs.Space.{max_count}
 use Rattle.dss_purge.specs.PurgeCounts.{IsLess, how_many_subscriptions, nothing, one_more, with_one}
 use Rattle.dss_purge.specs.declared.purged.PurgeCounts.{PurgeCounts}
 
--- two filters may be swapped
+-- Two filters can be swapped.
 swapped : {X : Type 0} (p q : X → Bool) (xs : List X) → filter p (filter q xs) ≡ filter q (filter p xs)
 swapped p q [] = refl
 swapped p q (x ∷ xs) =
@@ -43,7 +43,7 @@ some_of false (Some x) is = refl
 some_of true None is = is
 some_of false None is = refl
 
--- of a kind there is one less, where it was of that kind
+-- There is one entry less of a kind if the removed one was of that kind.
 less_of_kind : (m : Entities) (k : EntityKey) (kind : Kind) → IsSome (get m k) → length (all_in (remove m k) kind) + cond (has_kind kind k) 1 0 ≡ length (all_in m kind)
 unfolding all_in
 less_of_kind m k kind there =
@@ -64,7 +64,7 @@ less_of_kind m k kind there =
     subst (λ (b : Bool). cond b 1 0 + length (where_key key_cmp others kept) ≡ length kept) found (length_without key_cmp key_total k kept sorted) in
     omega arith
 
--- of subscriptions there is one less
+-- There is one subscription less.
 less_subscriptions : (a : Airspace) (id : ℕ) → IsSome (get a.subscriptions id) → how_many_subscriptions (without_item a (gone.Subscription id)) + 1 ≡ how_many_subscriptions a
 less_subscriptions a id there =
     let m = a.subscriptions in
@@ -78,7 +78,8 @@ less_subscriptions a id there =
     let was : len m ≡ length es = len-entries m in
     omega arith
 
--- these counts are of what one airspace has less than another, and none is over so much
+-- States that these counts are the difference between two airspaces, and that none is above the
+-- maximum.
 pub record CountsTo (n : ℕ) (a b : Airspace) (told : PurgeCounts) : Type 0 where
   pub less : IsLess a b told
   pub intents : told.intents ≤ n
@@ -93,7 +94,7 @@ counts_nothing a = record {
   subscriptions = omega arith;
 }
 
--- a count that is not the greatest goes on
+-- A count below its maximum increases.
 goes_on : (n count : ℕ) → count ≤ n → n + 1 ≤ max_count → one_more count ≡ count + 1
 goes_on n count few room = min-eq_left (omega arith)
 
@@ -151,7 +152,7 @@ wider n m a b told more to =
     let z = to.subscriptions in
     record { less = to.less; intents = omega arith; constraints = omega arith; subscriptions = omega arith }
 
--- the counts go on by what goes, where there is room for so much
+-- The counts increase with each purged item, as long as they are below the maximum.
 pub all_less : (gs : List PurgeItem) (n m : ℕ) (a b : Airspace) (told : PurgeCounts) → n + length gs ≤ m → m ≤ max_count → CanPurgeAll gs b → CountsTo n a b told → CountsTo m a (without_items gs b) (fold with_one told gs)
 all_less [] n m a b told fit room can to = wider n m a b told (omega arith) to
 all_less (g ∷ gs) n m a b told fit room can to =

@@ -1,4 +1,4 @@
--- How much a sweep let go of.
+-- How much a purge removed.
 use Rattle.std.specs.Prelude.{◌≡◌, ℕ, ◌+◌, min, length}
 use Rattle.std.specs.FinMap.{len}
 use Rattle.entity_core.specs.Airspace.{Airspace}
@@ -13,7 +13,7 @@ use Rattle.dss_purge.specs.declared.purged.PurgeCounts.{PurgeCounts}
 abbrev pub nothing : PurgeCounts
 nothing = record { intents = 0; constraints = 0; subscriptions = 0 }
 
--- a count with one more, which stays at the greatest
+-- A count plus one, which saturates at the maximum.
 abbrev pub one_more : ℕ → ℕ
 one_more n = min (n + 1) max_count
 
@@ -24,15 +24,15 @@ with_one purged (gone.Entity Constraint id) =
 with_one purged (gone.Subscription id) =
     record purged { subscriptions = one_more purged.subscriptions }
 
--- how many intents, or constraints, an airspace has
+-- The number of intents, or of constraints, of an airspace.
 abbrev pub how_many : Kind → Airspace → ℕ
 how_many kind a = length (all_in a.entities kind)
 
--- how many subscriptions it has
+-- The number of subscriptions of an airspace.
 abbrev pub how_many_subscriptions : Airspace → ℕ
 how_many_subscriptions a = len a.subscriptions
 
--- It is what the second airspace has less than the first.
+-- States that the counts are what the second airspace has less than the first.
 pub record IsLess (a b : Airspace) (purged : PurgeCounts) : Type 0 where
   pub intents : how_many Intent b + purged.intents ≡ how_many Intent a
   pub constraints : how_many Constraint b + purged.constraints ≡ how_many Constraint a

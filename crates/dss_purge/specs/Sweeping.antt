@@ -1,4 +1,4 @@
--- What a sweep leaves of a space, and what it tells.
+-- What a purge leaves of a space, and what it returns.
 use Rattle.std.specs.Prelude.{◌≡◌, ℕ, IsErr, MatchResult, Result, true}
 use Rattle.entity_core.specs.Airspace.{Airspace}
 use Rattle.entity_purge.specs.Purge.{IsPartlyPurged, purged}
@@ -8,9 +8,9 @@ use Rattle.space_core.specs.declared.space.SpaceFault.{SpaceFault}
 use Rattle.dss_purge.specs.PurgeCounts.{IsLess}
 use Rattle.dss_purge.specs.declared.purged.PurgeCounts.{PurgeCounts}
 
--- What a sweep until a moment, which ended so, leaves where the airspace was this one. After `Ok`
--- that airspace, swept, and no other, and what is told is what it has less than before; after a
--- fault nothing but one that is swept in part, or not at all.
+-- What a purge with this result leaves of the airspace. After `Ok` the space holds exactly the
+-- purged airspace, and the counts are the difference. After a fault it holds only a partly purged
+-- state, or the unchanged airspace.
 abbrev pub LeavesPurged : {S : Type 0} → (S → Airspace → Type 0) → ℕ → Airspace → S
     → Result PurgeCounts SpaceFault → Type 0
 LeavesPurged Holds until a new result =
@@ -18,8 +18,8 @@ LeavesPurged Holds until a new result =
     (λ told. IsContent Holds new (purged until a) × IsLess a (purged until a) told)
     (λ _. (b : Airspace) → Holds new b → IsPartlyPurged until a b)
 
--- A space was swept until a moment, or in part. Of one that was broken nothing went, and there was
--- a fault.
+-- States that a space was purged up to a time, completely or partly. Nothing was purged from a
+-- broken space, and the result is a fault.
 pub record PurgesSpace {S : Type 0} (g : Ghosts S) (until : ℕ) (old new : S)
     (result : Result PurgeCounts SpaceFault) : Type 0 where
   pub sound : g.is_sound new → g.is_sound old

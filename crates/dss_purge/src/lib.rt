@@ -1,4 +1,4 @@
-//! A sweep of a space, piece by piece, and how much it let go of.
+//! A purge of a space, chunk by chunk, and how much it removed.
 #![tactic(auto)]
 
 pub mod purge;

@@ -1,4 +1,4 @@
-//! A sweep of a space.
+//! The purge of a space.
 ghost use Rattle.std.specs.Prelude.{◌≡◌};
 ghost use Rattle.dss_purge.specs.Sweeping.{PurgesSpace};
 
@@ -7,14 +7,15 @@ use entity_purge::laws::{chunks_make_purges, purged_items_are_partly_purged};
 use space_core::space::SpaceFault;
 use space_purge::purge_ended::PurgeEnded;
 
-// How many things are let go of at once.
+// The maximum number of items purged at once.
 const CHUNK: usize = 256;
 
-// More pieces than come of any space.
+// More chunks than any space has.
 const MOST_CHUNKS: u64 = 4_294_967_296;
 
-/// Lets go of all that a sweep until a moment takes, piece by piece, and tells how much that was.
-/// After a fault the pieces before it stand.
+/// Purges what ended at or before `until`, chunk by chunk, and returns how much that was.
+///
+/// Keeps subscriptions that an intent still references. After a fault, the chunks before it stand.
 pub fn purge_space<S: PurgeEnded + Drop>(
     space: &mut S,
     until: u64,

@@ -1,23 +1,23 @@
-//! How much a sweep let go of.
+//! The counts of a purge.
 ghost use Rattle.std.specs.Prelude.{◌≡◌, fold};
 ghost use Rattle.dss_purge.specs.PurgeCounts.{nothing, with_one};
 
 use entity_core::nature::Kind;
 use entity_purge::purge_item::PurgeItem;
 
-/// How much a sweep let go of, of each kind.
+/// The number of purged items, by kind.
 #[derive(Clone, Copy, Debug, PartialEq, Eq)]
 pub struct PurgeCounts {
-    /// How many intents.
+    /// The number of intents.
     pub intents: u64,
-    /// How many constraints.
+    /// The number of constraints.
     pub constraints: u64,
-    /// How many subscriptions.
+    /// The number of subscriptions.
     pub subscriptions: u64,
 }
 
 impl PurgeCounts {
-    /// None of each.
+    /// Returns counts of zero.
     pub fn zero() -> PurgeCounts
         ensures { result ≡ nothing }
     {
@@ -28,7 +28,7 @@ impl PurgeCounts {
         }
     }
 
-    // With one thing more.
+    // Returns the counts plus one more item.
     fn with_one(self, gone: PurgeItem) -> PurgeCounts
         ensures { result ≡ with_one self gone }
     {
@@ -48,7 +48,7 @@ impl PurgeCounts {
         }
     }
 
-    /// With these things more. A count stays at the greatest 64-bit number.
+    /// Returns the counts plus these items. A count saturates at the maximum 64-bit number.
     pub fn with(self, gone: &[PurgeItem]) -> PurgeCounts
         ensures { result ≡ fold with_one self gone.now }
     {

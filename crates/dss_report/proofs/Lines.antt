@@ -1,4 +1,4 @@
--- The lines of entities, one after the other.
+-- The concatenated lines of entities.
 use Rattle.std.proofs.Common.{◌≡◌, ◌++◌, ◌∷◌, [], List, ℕ, ap, sym, ◌∙◌}
 use Rattle.std.proofs.lemmas.List.{append_assoc, append-nil}
 use Rattle.entity_core.specs.declared.entity.Entity.{Entity}

@@ -1,4 +1,4 @@
--- A report of what was read.
+-- The report of what was read.
 use Rattle.std.specs.Prelude.{◌≡◌, Ok}
 use Rattle.std.proofs.Common.{inr, ap, ap₂, subst, ◌∙◌, ◌++◌, List, ℕ, Vec, Global}
 use Rattle.entity_core.specs.Airspace.{Airspace}
@@ -9,12 +9,12 @@ use Rattle.dss_report.specs.Reading.{AreContentsOf, Reports}
 use Rattle.dss_report.specs.Report.{lines_of, report_of, serial_line, text_of}
 use Rattle.dss_report.specs.declared.contents.Contents.{Contents}
 
--- the text of what was read is the airspace's report
+-- The text of what was read is the report of the airspace.
 text_is : (a : Airspace) (kept : Contents) → AreContentsOf a kept → text_of kept ≡ report_of a
 text_is a kept is =
     ap₂ (λ (x y : List ℕ). x ++ y) (ap lines_of is.0) (ap₂ (λ (x y : List ℕ). x ++ y) (ap lines_of is.1) (ap serial_line is.2))
 
--- what was read tells of the airspace what it tells of itself
+-- A property of what was read is a property of the airspace.
 pub reports_as : {S : Type 0} (g : Ghosts S) (old new : S) (kept : Contents) (text : Vec ℕ Global) (P : Airspace → Vec ℕ Global → Type 0)
     → ReportsFault (g.refusals old) (g.refusals new) (g.is_broken old) (g.is_broken new) (Ok kept)
     → Reads g.holds g.is_sound g.is_whole old new (Ok kept) AreContentsOf
@@ -37,7 +37,7 @@ pub reports_of : {S : Type 0} (g : Ghosts S) (old new : S) (kept : Contents) (te
 reports_of g old new kept text tells reads is =
     reports_as g old new kept text (λ a text. text.items ≡ report_of a) tells reads (λ a read. is ∙ text_is a kept read)
 
--- the places of what was read are the airspace's
+-- The cells of what was read are the cells of the airspace.
 places_are : (a : Airspace) (kept : Contents) (text : List ℕ) → AreContentsOf a kept → IsPlacesIn kept text → IsPlacesOf a text
 places_are a kept text is has =
     subst (λ (ps : List Place). HasPlaces ps text) (ap₂ (λ (x y : List Place). x ++ y) (ap places_of is.0) (ap places_of is.1)) has

@@ -5,7 +5,7 @@ use Rattle.grid_core.specs.Token.{IsShortest, IsTokenOf, Parses}
 use Rattle.dss_report.specs.declared.fault.CellFault.{CellFault}
 use Rattle.dss_report.specs.declared.fault.CellFault.TheVariants.{Token, Memory}
 
--- the line of a cell whose token is printed so
+-- The line of a cell with this token.
 abbrev pub cell_text : List ℕ → Cell → List ℕ
 cell_text name c =
     name
@@ -15,15 +15,15 @@ cell_text name c =
     ++ (codes " hi=" ++ (decimal (hi_of c)
     ++ codes "\n"))))))))
 
--- the text is the line of the cell, with its shortest token
+-- Holds if the text is the line of the cell, with its shortest token.
 abbrev pub IsLineOf : Cell → List ℕ → Type 0
 IsLineOf c line = (name : List ℕ) × IsShortest name c × (line ≡ cell_text name c)
 
--- the text is the line of the token's cell
+-- Holds if the text is the line of the token's cell.
 abbrev pub IsLineOfToken : List ℕ → List ℕ → Type 0
 IsLineOfToken token line = (c : Cell) × IsCell c × IsTokenOf token c × IsLineOf c line
 
--- why there is no line of a token: it is none, or memory ran out
+-- Why a token has no line: it is invalid, or memory ran out.
 abbrev pub IsFaultOfToken : List ℕ → CellFault → Type 0
 IsFaultOfToken token (Token why) = Parses token (Err why)
 IsFaultOfToken token Memory = Unit {0}

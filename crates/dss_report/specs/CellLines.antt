@@ -1,4 +1,4 @@
--- The cells of the references of an airspace, a line each.
+-- The cells of the references of an airspace, one per line.
 use Rattle.std.specs.Prelude.{◌≡◌, ℕ, List, ◌++◌, codes, decimal, map}
 use Rattle.std.specs.Fmt.{signed_decimal}
 use Rattle.std.specs.List.{AllZip, concat, flat_map}
@@ -14,7 +14,7 @@ use Rattle.entity_core.specs.declared.nature.Kind.TheVariants.{Constraint, Inten
 use Rattle.dss_report.specs.Report.{kind_word, state_word}
 use Rattle.dss_report.specs.declared.contents.Contents.{Contents}
 
--- a cell of a volume of an entity
+-- A cell of a volume of an entity.
 pub record Place : Type 0 where
   pub entity : Entity
   pub volume : Extent
@@ -23,7 +23,7 @@ pub record Place : Type 0 where
 abbrev pub place_in : Entity → Extent → Cell → Place
 place_in e v c = record { entity = e; volume = v; cell = c }
 
--- the cells of a volume, of an entity, and of entities, as they stand there
+-- The cells of a volume, of an entity, and of entities, in their order.
 abbrev pub places_of_volume : Entity → Extent → List Place
 places_of_volume e v = map (place_in e v) v.cells
 
@@ -33,7 +33,7 @@ places_of_entity e = flat_map (places_of_volume e) e.volumes
 abbrev pub places_of : List Entity → List Place
 places_of es = flat_map places_of_entity es
 
--- kind, id, manager and state of an entity, with a space between
+-- The kind, id, manager and state of an entity, separated by spaces.
 abbrev pub place_front : Entity → List ℕ
 place_front e =
     kind_word (kind_of e.nature)
@@ -41,7 +41,7 @@ place_front e =
     ++ (codes " " ++ (e.manager
     ++ (codes " " ++ state_word e.nature)))))
 
--- lower and upper altitude of a volume in decimetres, its first and last time, and a line end
+-- The lower and upper altitude of a volume in decimetres, its first and last time, and a line end.
 abbrev pub place_bounds : Extent → List ℕ
 place_bounds v =
     signed_decimal v.altitude.0
@@ -49,31 +49,32 @@ place_bounds v =
     ++ (codes " " ++ (decimal v.time.0
     ++ (codes " " ++ (decimal v.time.1 ++ codes "\n"))))))
 
--- these with the token of a cell between
+-- Both, with the token of a cell between them.
 abbrev pub place_text : List ℕ → Entity → Extent → List ℕ
 place_text token e v =
     place_front e ++ (codes " " ++ (token ++ (codes " " ++ place_bounds v)))
 
--- the line of a place has its cell's shortest token
+-- Holds if the text is the line of the cell, with its shortest token.
 abbrev pub IsPlaceLine : List ℕ → Place → Type 0
 IsPlaceLine line p = (token : List ℕ) × IsShortest token p.cell
     × (line ≡ place_text token p.entity p.volume)
 
--- the text has the lines of these places, and nothing else
+-- Holds if the text consists of the lines of these cells.
 abbrev pub HasPlaces : List Place → List ℕ → Type 0
 HasPlaces ps text = (lines : List (List ℕ)) × AllZip IsPlaceLine lines ps × (text ≡ concat lines)
 
--- the text got the lines of these places, and nothing else
+-- Holds if exactly the lines of these cells were appended to the text.
 abbrev pub AddsPlaces : List Place → (old new : List ℕ) → Type 0
 AddsPlaces ps old new = (more : List ℕ) × HasPlaces ps more × (new ≡ old ++ more)
 
--- a line for each cell of each volume of each intent by rising ids, and then of each constraint
+-- Holds if the text has a line for each cell of each volume of each intent by ascending id, and
+-- then of each constraint.
 abbrev pub IsPlacesOf : Airspace → List ℕ → Type 0
 IsPlacesOf a text =
     HasPlaces (places_of (all_in a.entities Intent) ++ places_of (all_in a.entities Constraint))
     text
 
--- the same of what was read for it
+-- Holds if the text has the same lines for what was read.
 abbrev pub IsPlacesIn : Contents → List ℕ → Type 0
 IsPlacesIn kept text =
     HasPlaces (places_of kept.intents.items ++ places_of kept.constraints.items) text

@@ -1,4 +1,4 @@
--- Why there is no report.
+-- Why a report failed.
 use Rattle.std.specs.Prelude.{◌≡◌, ◌<◌, ◌⊎◌, ℕ, Bool, true, List, codes}
 use Rattle.space_core.specs.Space.{max_count}
 use Rattle.dss_report.specs.declared.fault.ReportFault.{ReportFault}
@@ -12,14 +12,14 @@ abbrev pub name_of : ReportFault → List ℕ
 name_of Space = codes "Space"
 name_of Memory = codes "Memory"
 
--- The space answered a fault: it has counted a refusal more (the count stays at its greatest
--- value), or it is broken.
+-- Holds if the space returned a fault: it counted one more failure (the count saturates), or it is
+-- broken.
 abbrev pub HasFailed : ℕ → ℕ → Bool → Bool → Type 0
 HasFailed refusals refusals' broken broken' =
     (((refusals < refusals') ⊎ (refusals' ≡ max_count)) × (broken' ≡ broken))
     ⊎ (broken' ≡ true)
 
--- what a fault says of the space's answers
+-- What a fault of a report means for the space.
 abbrev pub IsReportFaultOf : ReportFault → ℕ → ℕ → Bool → Bool → Type 0
 IsReportFaultOf Space refusals refusals' broken broken' = HasFailed refusals refusals' broken broken'
 IsReportFaultOf Memory refusals refusals' broken broken' = (refusals' ≡ refusals) × (broken' ≡ broken)

@@ -1,4 +1,4 @@
--- What a report leaves of a space, and tells of it.
+-- What a report leaves of a space, and returns of it.
 use Rattle.std.specs.Prelude.{◌≡◌, ◌⊎◌, true, Result, IfOk, MatchResult}
 use Rattle.entity_core.specs.Airspace.{Airspace}
 use Rattle.entity_core.specs.Search.{all_in}
@@ -8,16 +8,16 @@ use Rattle.dss_report.specs.Fault.{IsReportFaultOf}
 use Rattle.dss_report.specs.declared.fault.ReportFault.{ReportFault}
 use Rattle.dss_report.specs.declared.contents.Contents.{Contents}
 
--- what was read is all that the airspace has for its report
+-- Holds if these contents are all that a report needs of the airspace.
 abbrev pub AreContentsOf : Airspace → Contents → Type 0
 AreContentsOf a kept =
     (kept.intents.items ≡ all_in a.entities Intent)
     × (kept.constraints.items ≡ all_in a.entities Constraint)
     × (kept.serial ≡ a.serial)
 
--- A report has P of each airspace that was held. The space holds what it held before; once it is
--- broken, nothing else. A space that was whole stays so. A fault of the space comes only where the
--- space answered one.
+-- States that the result has the property P for each airspace that the space may hold. The space
+-- holds the same airspace as before, and a broken space holds no other. A whole space stays whole.
+-- A fault of the space is returned only if the space returned one.
 pub record Reports {S T : Type 0} (g : Ghosts S) (old new : S) (result : Result T ReportFault)
     (P : Airspace → T → Type 0) : Type 0 where
   pub sound : g.is_sound new → g.is_sound old

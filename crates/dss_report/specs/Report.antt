@@ -1,4 +1,4 @@
--- The report of an airspace, as a text.
+-- The report of an airspace, as text.
 use Rattle.std.specs.Prelude.{ℕ, ◌-◌, List, ◌++◌, codes, decimal, length, map}
 use Rattle.std.specs.List.{concat, repeat}
 use Rattle.grid_core.specs.Volumes.{span_of}
@@ -18,11 +18,11 @@ use Rattle.dss_report.specs.declared.contents.Contents.{Contents}
 abbrev pub spaces : ℕ → List ℕ
 spaces n = repeat n (codes " ")
 
--- a text at the left of a column of that width, where it fits
+-- A text at the left of a column of that width, if it fits.
 abbrev pub left_in : ℕ → List ℕ → List ℕ
 left_in width text = text ++ spaces (width - length text)
 
--- a text at the right of it
+-- A text at the right of a column of that width, if it fits.
 abbrev pub right_in : ℕ → List ℕ → List ℕ
 right_in width text = spaces (width - length text) ++ text
 
@@ -32,12 +32,12 @@ abbrev pub kind_word : Kind → List ℕ
 kind_word kind.Intent = codes "intent"
 kind_word kind.Constraint = codes "constraint"
 
--- the state of an intent; a constraint has none
+-- The state of an intent; `-` for a constraint.
 abbrev pub state_word : Nature → List ℕ
 state_word (nature.Intent state named) = state_name state
 state_word nature.Constraint = codes "-"
 
--- kind, id, version and state, with a space between
+-- The kind, id, version and state, separated by spaces.
 abbrev pub front_of : Entity → List ℕ
 front_of e =
     left_in 10 (kind_word (kind_of e.nature))
@@ -45,7 +45,7 @@ front_of e =
     ++ (codes " " ++ (right_in 10 (decimal e.version)
     ++ (codes " " ++ left_in 13 (state_word e.nature))))))
 
--- and after them first and last time, manager, and a line end
+-- The line of an entity: those columns, the first and last time, the manager, and a line end.
 abbrev pub line_of : Entity → List ℕ
 line_of e =
     front_of e
@@ -61,14 +61,15 @@ lines_of es = concat (map line_of es)
 abbrev pub serial_line : ℕ → List ℕ
 serial_line serial = codes "serial " ++ (decimal serial ++ codes "\n")
 
--- a line for each intent by rising ids, then for each constraint by rising ids, and last the serial
+-- A line for each intent by ascending id, then for each constraint by ascending id, and the serial
+-- last.
 abbrev pub report_of : Airspace → List ℕ
 report_of a =
     lines_of (all_in a.entities kind.Intent)
     ++ (lines_of (all_in a.entities kind.Constraint)
     ++ serial_line a.serial)
 
--- the report of what was read for it
+-- The report of what was read.
 abbrev pub text_of : Contents → List ℕ
 text_of kept =
     lines_of kept.intents.items ++ (lines_of kept.constraints.items ++ serial_line kept.serial)

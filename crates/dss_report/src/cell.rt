@@ -7,8 +7,8 @@ use grid_core::cell::CellId;
 use grid_core::token::{parse_token, token};
 use std::alloc::{AllocError, Global};
 
-// The line of a cell, its line end included: the token as it is printed, the face, the level, and
-// the first and the last cell of level 13 inside it.
+// Returns the line of a cell with its line end: the shortest token, the face, the level, and the
+// first and last cell of level 13 inside it.
 fn cell_line(alloc: Global, cell: CellId) -> Result<String, AllocError>
     ensures { IfOk result (λ line. IsLineOf cell (string_bytes line)) }
 {
@@ -20,7 +20,7 @@ fn cell_line(alloc: Global, cell: CellId) -> Result<String, AllocError>
     format!(in alloc; "{name} face={face} level={level} lo={lo} hi={hi}\n")
 }
 
-/// The line of a token's cell, or why the text is no token.
+/// Returns the line of a token's cell. Returns a fault if the text is no token.
 pub fn token_line(alloc: Global, text: &str) -> Result<String, CellFault>
     ensures { MatchResult result (λ line. IsLineOfToken text.now (string_bytes line))
         (IsFaultOfToken text.now) }

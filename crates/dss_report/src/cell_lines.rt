@@ -24,7 +24,7 @@ use grid_core::volume::Volume;
 use space_core::space::Space;
 use std::alloc::{AllocError, Global};
 
-// What the lines of an entity begin with.
+// Returns the first columns of the lines of an entity.
 fn place_front(alloc: Global, entity: &Entity) -> Result<String, AllocError>
     ensures { IfOk result (λ front. string_bytes front ≡ place_front entity.now) }
 {
@@ -35,7 +35,7 @@ fn place_front(alloc: Global, entity: &Entity) -> Result<String, AllocError>
     format!(in alloc; "{kind} {id} {manager} {state}")
 }
 
-// What the lines of a volume end with.
+// Returns the last columns of the lines of a volume.
 fn place_bounds(alloc: Global, volume: &Volume) -> Result<String, AllocError>
     ensures { IfOk result (λ bounds. string_bytes bounds ≡ place_bounds volume.now) }
 {
@@ -46,7 +46,7 @@ fn place_bounds(alloc: Global, volume: &Volume) -> Result<String, AllocError>
     format!(in alloc; "{lower} {upper} {start} {end}\n")
 }
 
-// The line of a cell with this token.
+// Returns the line of a cell with this token.
 fn place_line(
     alloc: Global,
     entity: &Entity,
@@ -61,7 +61,7 @@ fn place_line(
     format!(in alloc; "{front} {token} {bounds}")
 }
 
-// Adds the line of a cell of a volume of an entity.
+// Appends the line of a cell of a volume of an entity.
 fn put_cell(
     alloc: Global,
     text: &mut Vec<u8>,
@@ -78,7 +78,7 @@ fn put_cell(
     Ok(())
 }
 
-// Adds the lines of the cells of a volume of an entity.
+// Appends the lines of the cells of a volume of an entity.
 fn put_volume(
     alloc: Global,
     text: &mut Vec<u8>,
@@ -94,7 +94,7 @@ fn put_volume(
     Ok(())
 }
 
-// Adds the lines of the cells of an entity.
+// Appends the lines of the cells of an entity.
 fn put_entity(alloc: Global, text: &mut Vec<u8>, entity: &Entity) -> Result<(), AllocError>
     ensures { OnOk result (AddsPlaces (places_of_entity entity.now)
         text.old.items text.new.items) }
@@ -105,7 +105,7 @@ fn put_entity(alloc: Global, text: &mut Vec<u8>, entity: &Entity) -> Result<(), 
     Ok(())
 }
 
-// Adds the lines of the cells of entities.
+// Appends the lines of the cells of entities.
 fn put_entities(alloc: Global, text: &mut Vec<u8>, entities: &[Entity]) -> Result<(), AllocError>
     ensures { OnOk result (AddsPlaces (places_of entities.now) text.old.items text.new.items) }
 {
@@ -115,7 +115,7 @@ fn put_entities(alloc: Global, text: &mut Vec<u8>, entities: &[Entity]) -> Resul
     Ok(())
 }
 
-// The text of what a space keeps.
+// Returns the text of what a space stores.
 fn text_of_places(alloc: Global, kept: &Contents) -> Result<Vec<u8>, AllocError>
     ensures { IfOk result (λ text. IsPlacesIn kept.now text.items) }
 {
@@ -125,12 +125,12 @@ fn text_of_places(alloc: Global, kept: &Contents) -> Result<Vec<u8>, AllocError>
     Ok(text)
 }
 
-/// The cells of the references of a space: a line for each cell of each volume of each intent by
-/// rising ids, then of each constraint by rising ids.
+/// Returns the cells of the references of a space: a line for each cell of each volume of each
+/// intent by ascending id, then of each constraint by ascending id.
 ///
-/// A line has the kind, the id, the manager, the state (`-` for a constraint), the cell's token,
-/// the volume's lower and upper altitude in decimetres, and its first and last time in seconds
-/// since 1970, with one space between. The space is only read.
+/// A line has the kind, the id, the manager, the state (`-` for a constraint), the token of the
+/// cell, the lower and upper altitude of the volume in decimetres, and its first and last time in
+/// Unix seconds, separated by single spaces. The space is only read.
 pub fn cells_text<S: Space + Drop>(alloc: Global, space: &mut S) -> Result<Vec<u8>, ReportFault>
     ensures { Reports S.Space space.old space.new result (λ a text. IsPlacesOf a text.items) }
 {

@@ -1,4 +1,4 @@
-//! What a report needs of a space.
+//! The contents of a space that a report needs.
 ghost use Rattle.space_core.specs.Calls.{CallReads, CallReportsFault};
 ghost use Rattle.dss_report.specs.Reading.{AreContentsOf};
 
@@ -14,7 +14,7 @@ pub(crate) struct Contents {
     pub(crate) serial: u64,
 }
 
-/// Reads it: each kind by rising ids.
+/// Reads the contents: each kind by ascending id.
 pub(crate) fn read_contents<S: Space>(space: &mut S) -> Result<Contents, SpaceFault>
     ensures tells { CallReportsFault S.Space space.old space.new result }
     ensures reads { CallReads S.Space space.old space.new result AreContentsOf }

@@ -1,11 +1,11 @@
-//! Why there is no report, and no line of a cell.
+//! The reasons why a report, or the line of a cell, failed.
 use grid_core::token::TokenFault;
 use std::alloc::AllocError;
 
-/// Why there is no report.
+/// The reason why a report failed.
 #[derive(Clone, Copy, Debug, PartialEq, Eq)]
 pub enum ReportFault {
-    /// The space answered a fault.
+    /// The space returned a fault.
     Space,
     /// Memory ran out.
     Memory,
@@ -15,7 +15,7 @@ impl ReportFault {
     ghost use Rattle.std.specs.Prelude.{◌≡◌};
     ghost use Rattle.dss_report.specs.Fault.{name_of, number_of};
 
-    /// Its number, 1 or 2.
+    /// Returns its number, 1 or 2.
     pub fn number(self) -> u8
         ensures { result ≡ number_of self }
     {
@@ -25,7 +25,7 @@ impl ReportFault {
         }
     }
 
-    /// Its name, as it is spelled here.
+    /// Returns its name, as written here.
     pub fn name(self) -> &'static str
         ensures { result.now ≡ name_of self }
     {
@@ -47,7 +47,7 @@ impl From<AllocError> for ReportFault {
     }
 }
 
-/// Why there is no line of a cell.
+/// The reason why the line of a cell failed.
 #[derive(Clone, Copy, Debug, PartialEq, Eq)]
 pub enum CellFault {
     /// The text is no token.

@@ -1,5 +1,5 @@
-//! What the program prints of an airspace and of the grid: a report, which has a line for each
-//! reference that a space keeps, and its serial; the cells of references; and the line of a cell.
+//! What the program prints of an airspace and of the grid: a report with a line for each stored
+//! reference and the serial, the cells of references, and the line of a cell.
 #![tactic(auto)]
 
 pub mod cell;

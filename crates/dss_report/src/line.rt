@@ -16,7 +16,7 @@ use entity_core::entity::Entity;
 use entity_core::nature::{Kind, Nature};
 use std::alloc::{AllocError, Global};
 
-/// The word of a kind.
+/// Returns the word of a kind.
 pub(crate) fn kind_word(kind: Kind) -> &'static str
     ensures { result.now ≡ kind_word kind }
 {
@@ -26,7 +26,7 @@ pub(crate) fn kind_word(kind: Kind) -> &'static str
     }
 }
 
-/// The word of a state: its name, and of a constraint a dash.
+/// Returns the word of a state: its name, or `-` for a constraint.
 pub(crate) fn state_word(nature: Nature) -> &'static str
     ensures { result.now ≡ state_word nature }
 {
@@ -36,14 +36,14 @@ pub(crate) fn state_word(nature: Nature) -> &'static str
     }
 }
 
-// So many spaces as a text of that length is short of a column.
+// Returns the spaces that fill a column after a text of that length.
 fn gap(alloc: Global, width: usize, length: usize) -> Result<String, AllocError>
     ensures { IfOk result (λ gap. string_bytes gap ≡ spaces (width - length)) }
 {
     " ".repeat(alloc, width.saturating_sub(length))
 }
 
-// A text at the left of a column.
+// Returns a text at the left of a column.
 fn left_in(alloc: Global, width: usize, text: &str) -> Result<String, AllocError>
     ensures { IfOk result (λ column. string_bytes column ≡ left_in width text.now) }
 {
@@ -51,7 +51,7 @@ fn left_in(alloc: Global, width: usize, text: &str) -> Result<String, AllocError
     format!(in alloc; "{text}{gap}")
 }
 
-// A number at the right of a column.
+// Returns a number at the right of a column.
 fn right_in(alloc: Global, width: usize, number: u64) -> Result<String, AllocError>
     ensures { IfOk result (λ column. string_bytes column ≡ right_in width (decimal number)) }
 {
@@ -60,7 +60,7 @@ fn right_in(alloc: Global, width: usize, number: u64) -> Result<String, AllocErr
     format!(in alloc; "{gap}{text}")
 }
 
-// What the line of an entity has before its times.
+// Returns the columns of an entity's line before its times.
 fn front(alloc: Global, entity: &Entity) -> Result<String, AllocError>
     ensures { IfOk result (λ front. string_bytes front ≡ front_of entity.now) }
 {
@@ -71,7 +71,7 @@ fn front(alloc: Global, entity: &Entity) -> Result<String, AllocError>
     format!(in alloc; "{kind} {id} {version} {state}")
 }
 
-// The line of an entity.
+// Returns the line of an entity.
 fn line(alloc: Global, entity: &Entity) -> Result<String, AllocError>
     ensures { IfOk result (λ line. string_bytes line ≡ line_of entity.now) }
 {
@@ -83,7 +83,7 @@ fn line(alloc: Global, entity: &Entity) -> Result<String, AllocError>
     format!(in alloc; "{front} {start} {end} {manager}\n")
 }
 
-/// Adds the lines of entities to a text.
+/// Appends the lines of entities to a text.
 pub(crate) fn put_lines(
     alloc: Global,
     text: &mut Vec<u8>,
@@ -98,7 +98,7 @@ pub(crate) fn put_lines(
     Ok(())
 }
 
-/// Adds the line of a serial.
+/// Appends the line of a serial to a text.
 pub(crate) fn put_serial(alloc: Global, text: &mut Vec<u8>, serial: u64) -> Result<(), AllocError>
     ensures { OnOk result (text.new.items ≡ text.old.items ++ serial_line serial) }
 {

@@ -9,7 +9,7 @@ use crate::line::{put_lines, put_serial};
 use space_core::space::Space;
 use std::alloc::{AllocError, Global};
 
-// The text of what a space keeps.
+// Returns the text of what a space stores.
 fn text_of(alloc: Global, kept: &Contents) -> Result<Vec<u8>, AllocError>
     ensures { IfOk result (λ text. text.items ≡ text_of kept.now) }
 {
@@ -20,12 +20,12 @@ fn text_of(alloc: Global, kept: &Contents) -> Result<Vec<u8>, AllocError>
     Ok(text)
 }
 
-/// The report of a space: a line for each intent by rising ids, then for each constraint by rising
-/// ids, and last the serial.
+/// Returns the report of a space: a line for each intent by ascending id, then for each constraint
+/// by ascending id, and the serial last.
 ///
-/// A line has the kind left in 10, the id, the version right in 10, the state left in 13 (`-` for a
-/// constraint), the first and the last time right in 12, and the manager, with one space between.
-/// The space is only read.
+/// A line has the kind (left-aligned, 10 wide), the id, the version (right-aligned, 10), the state
+/// (left-aligned, 13; `-` for a constraint), the first and last time (right-aligned, 12 each), and
+/// the manager, separated by single spaces. The space is only read.
 pub fn report_text<S: Space + Drop>(alloc: Global, space: &mut S) -> Result<Vec<u8>, ReportFault>
     ensures { Reports S.Space space.old space.new result (λ a text. text.items ≡ report_of a) }
 {

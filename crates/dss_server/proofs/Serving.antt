@@ -1,4 +1,4 @@
--- How what was asked goes on, call by call and round by round.
+-- How the record of requests, calls and batches grows step by step.
 use Rattle.std.proofs.Common.{◌≡◌, ℕ, List, [], ◌∷◌, ◌++◌, map, refl, sym, ap, subst, ◌∙◌, ◌⊎◌, inl, inr, append_assoc, Option, Some, None, Result, Ok, Err}
 use Rattle.std.specs.Prelude.{◌-◌, ◌||◌, All, IfErr, IfOk, IfSome, unwrap_or}
 use Rattle.std.specs.Option.{option_or}
@@ -54,7 +54,7 @@ among_before [] told more h = tt
 among_before (moment ∷ ms) told more h =
     (h.0, h.1 ++ more, ap (λ (x : List (Option ℕ)). x ++ more) h.2 ∙ append_assoc h.0 (Some moment ∷ h.1) more, among_before ms h.1 more h.3)
 
--- ---- calls and rounds
+-- ---- calls and batches
 
 module _ {S : Type 0} (g : spaces.Ghosts S) (k : settles.Ghosts S) where
   made_then : (xs ys : List CallRecord) (old mid new : Service S) → CalledInOrder g k old xs mid → CalledInOrder g k mid ys new → CalledInOrder g k old (xs ++ ys) new
@@ -65,21 +65,21 @@ module _ {S : Type 0} (g : spaces.Ghosts S) (k : settles.Ghosts S) where
   batches_then [] ys old mid new p q = subst (λ (s : Service S). MadeBatches g k s ys new) p q
   batches_then (x ∷ xs) ys old mid new p q = (p.0, p.1, p.2, p.3, batches_then xs ys p.1 mid new p.4 q)
 
-  -- rounds, and then one piece of a sweep more
+  -- Batches, and then one purge chunk more.
   segments_more : (segments : List Segment) (batches : List Batch) (until : ℕ) (old last mid new : Service S) → MadeSegments g k old segments last → MadeBatches g k last batches mid
       → PurgesOnce g k until mid new → MadeSegments g k old (segments ++ record { batches = batches; until = until } ∷ []) new
   segments_more [] batches until old last mid new p made purged = (mid, new, subst (λ (s : Service S). MadeBatches g k s batches mid) p made, purged, refl)
   segments_more (segment ∷ segments) batches until old last mid new p made purged =
       (p.0, p.1, p.2, p.3, segments_more segments batches until p.1 last mid new p.4 made purged)
 
--- the calls of a segment
+-- The calls of a segment.
 abbrev timed_of : Segment → List TimedCall
 timed_of segment = all_timed segment.batches
 
--- ---- what was asked
+-- ---- requests
 
 module _ {S M : Type 0} (g : spaces.Ghosts S) (k : settles.Ghosts S) (m : moments.Ghosts M) (callers : Callers) where
-  -- no call was made, whatever the clock told
+  -- No call was made, whatever the clock returned.
   pub goes_nowhere : (old new : Service S) (told : List (Option ℕ)) (clock clock' : M) → new ≡ old → ClockReadings m told clock clock' → GoesOn g k m callers old new clock clock'
   goes_nowhere old new told clock clock' same h = record {
     all = [];
@@ -110,7 +110,7 @@ module _ {S M : Type 0} (g : spaces.Ghosts S) (k : settles.Ghosts S) (m : moment
         (among_then (moments_of p.all) (moments_of q.all) p.told q.told p.moments q.moments);
   }
 
-  -- one call of a request was made, at the moment that the clock told
+  -- One call of a request was made, at the time that the clock returned.
   pub goes_by_call : (old new : Service S) (clock clock' : M) (asked : RequestCall) (reply : Reply) → IsAskedBy callers asked → IsReplyTo g old new asked.moment asked.call reply
       → m.gives clock asked.moment clock' → GoesOn g k m callers old new clock clock'
   goes_by_call old new clock clock' asked reply is_asked is_reply gives = record {
@@ -151,7 +151,7 @@ module _ {S M : Type 0} (g : spaces.Ghosts S) (k : settles.Ghosts S) (m : moment
         (among_then (moments_of p.all) (moments_of q.all) p.told q.told p.moments q.moments);
   }
 
-  -- a round of calls is settled
+  -- A batch of calls is committed.
   pub serves_batch : (old mid new : Service S) (clock clock' : M) (settled : Result (Unit {0}) SpaceFault) → GoesOn g k m callers old mid clock clock'
       → IsCommitted g k mid new settled → ServesBy g k m callers old new clock clock'
   serves_batch old mid new clock clock' settled h is_settled = record {
@@ -173,7 +173,7 @@ module _ {S M : Type 0} (g : spaces.Ghosts S) (k : settles.Ghosts S) (m : moment
   so_far_settled old mid new clock clock' settled p is_settled =
       serves_then old p.0 new clock p.1 clock' p.2 (serves_batch p.0 mid new p.1 clock' settled p.3 is_settled)
 
-  -- a turn, after which the round may have been settled
+  -- A client's turn, after which the batch may have been committed.
   pub so_far_goes_on : (old mid next new : Service S) (clock between clock' : M) → ServesSoFar g k m callers old mid clock between
       → GoesOn g k m callers mid next between clock' → (new ≡ next) ⊎ ((settled : Result (Unit {0}) SpaceFault) × IsCommitted g k next new settled)
       → ServesSoFar g k m callers old new clock clock'
@@ -184,7 +184,7 @@ module _ {S M : Type 0} (g : spaces.Ghosts S) (k : settles.Ghosts S) (m : moment
         | inr settled ↦ (new, clock', so_far_settled old next new clock clock' settled.0 far settled.1, goes_still new clock')
       ]
 
-  -- nothing went, whatever the clock told
+  -- Nothing was purged, whatever the clock returned.
   pub serves_nothing : (old new : Service S) (clock clock' : M) → PurgesNothing g k m old new clock clock' → ServesBy g k m callers old new clock clock'
   serves_nothing old new clock clock' h = record {
     all = [];
@@ -197,10 +197,10 @@ module _ {S M : Type 0} (g : spaces.Ghosts S) (k : settles.Ghosts S) (m : moment
     moments = tt;
   }
 
--- ---- what a connection asks
+-- ---- requests of a connection
 
 module _ {S M : Type 0} (g : spaces.Ghosts S) (k : settles.Ghosts S) (m : moments.Ghosts M) (callers : Callers) (old new : Service S) (clock clock' : M) where
-  -- before the next request was asked the clock told a moment, or that it failed, or nothing
+  -- Before the next request the clock returned a time, or failed, or was not read.
   unasked_goes_on : (fault : StreamFault) (left : List ℕ) → new ≡ old → (fault ≡ faults.Clock → m.failures clock' ≡ one_more (m.failures clock))
       → ClockAfter m.gives callers fault left clock clock' → GoesOn g k m callers old new clock clock'
   unasked_goes_on faults.Memory left same failed h =
@@ -238,9 +238,9 @@ module _ {S M : Type 0} (g : spaces.Ghosts S) (k : settles.Ghosts S) (m : moment
     asked_goes_on (Ok step) ok err failed = step_goes_on step ok
     asked_goes_on (Err fault) ok err failed = part_goes_on fault (λ is. failed (ap (λ (x : StreamFault). Err x) is)) err
 
--- ---- what was asked under one table after the other
+-- ---- requests under successive token tables
 
--- the last of some tables
+-- The last of some token tables.
 abbrev pub last_of : TokenFile → List TokenFile → TokenFile
 last_of table [] = table
 last_of table (next ∷ tables) = last_of next tables
@@ -271,13 +271,13 @@ asked_taken : (tables : List TokenFile) (table : TokenFile) (all : List RequestC
 asked_taken [] table all p = ([], [], p, All-nil (IsAskedBy (callers_of table)), refl)
 asked_taken (first ∷ tables) table all p = (p.0, p.1, p.2, p.3, asked_taken tables table p.1 p.4)
 
--- where no table was taken, all were asked under the first
+-- If no later table was loaded, all requests were made under the first.
 pub asked_by_first : (table : TokenFile) (all : List RequestCall) → AskedUnder (table ∷ []) all → All (IsAskedBy (callers_of table)) all
 asked_by_first table all p =
     let same : all ≡ p.0 = p.2 ∙ ap (λ (v : List RequestCall). p.0 ++ v) p.4 ∙ append-nil p.0 in
     subst (λ (v : List RequestCall). All (IsAskedBy (callers_of table)) v) (sym same) p.3
 
--- ---- until when it was swept
+-- ---- times of the purges
 
 due_none : (keep : Option ℕ) → PurgesAreDue keep [] []
 due_none None = refl
@@ -296,10 +296,10 @@ due_more keep moment told segments batches h = (
       ∙ sym (map-append (λ (x : ℕ). x - keep) h.0 (moment ∷ [])),
 )
 
--- ---- all that was asked
+-- ---- all requests
 
 module _ {S M : Type 0} (g : spaces.Ghosts S) (k : settles.Ghosts S) (m : moments.Ghosts M) (gives : List ℕ → Type 0) (keep : Option ℕ) (tokens : TokenFile) where
-  -- what was served until now, when a table is in force
+  -- What was served so far, with the active token table.
   pub record ServesUpTo (current : TokenFile) (old new : Service S) (clock clock' : M) : Type 0 where
     pub serves : ServesAll g k m gives keep tokens old new clock clock'
     pub in_force : last_of tokens serves.later ≡ current
@@ -326,7 +326,7 @@ module _ {S M : Type 0} (g : spaces.Ghosts S) (k : settles.Ghosts S) (m : moment
   unfolding all_none
   up_to_none s clock = record { serves = all_none s clock; in_force = refl }
 
-  -- calls under the table that is in force
+  -- Calls under the active table.
   all_then : (old mid new : Service S) (clock between clock' : M) (p : ServesAll g k m gives keep tokens old mid clock between)
       → ServesBy g k m (callers_of (last_of tokens p.later)) mid new between clock' → ServesAll g k m gives keep tokens old new clock clock'
   all_then old mid new clock between clock' p q = record {
@@ -356,7 +356,7 @@ module _ {S M : Type 0} (g : spaces.Ghosts S) (k : settles.Ghosts S) (m : moment
       let by_last = subst (λ (t : TokenFile). ServesBy g k m (callers_of t) mid new between clock') (same ∙ sym p.in_force) q in
       record { serves = all_then old mid new clock between clock' p.serves by_last; in_force = p.in_force }
 
-  -- another table is taken
+  -- Another table is loaded.
   all_taken : (table : TokenFile) (old new : Service S) (clock clock' : M) → IsTakenAfter gives tokens table → ServesAll g k m gives keep tokens old new clock clock'
       → ServesUpTo table old new clock clock'
   all_taken table old new clock clock' is p = record {
@@ -385,7 +385,7 @@ module _ {S M : Type 0} (g : spaces.Ghosts S) (k : settles.Ghosts S) (m : moment
   up_to_taken newer (Some table) old new clock clock' p is = all_taken table old new clock clock' is p.serves
 
 module _ {S M : Type 0} (g : spaces.Ghosts S) (k : settles.Ghosts S) (m : moments.Ghosts M) (gives : List ℕ → Type 0) (tokens : TokenFile) where
-  -- a piece of a sweep after the last round
+  -- A purge chunk after the last batch.
   up_to_chunk : (keep : Option ℕ) (current : TokenFile) (old mid new : Service S) (clock between clock' : M) → ServesUpTo g k m gives keep tokens current old mid clock between
       → PurgesChunk g k m keep mid new between clock' → ServesUpTo g k m gives keep tokens current old new clock clock'
   up_to_chunk None current old mid new clock between clock' p h = absurd h
@@ -421,8 +421,9 @@ module _ {S M : Type 0} (g : spaces.Ghosts S) (k : settles.Ghosts S) (m : moment
         | inr chunk ↦ up_to_chunk keep current old mid new clock between clock' p chunk
       ]
 
-  -- it was looked at the token file, which changes nothing or takes its table, then calls were made under the table in force, and
-  -- then a piece may have gone, and the service was shown, which changes nothing
+  -- One iteration of `serve`. The token file is checked, which changes nothing or loads its table.
+  -- Then calls are made under the active table. Then a chunk may be purged. The admin port's
+  -- snapshot changes nothing.
   pub up_to_looked : (keep : Option ℕ) (newer taken newer' : Option TokenFile) (used : TokenFile) (old mid asked new shown : Service S) (clock between after clock' : M)
       → ServesUpTo g k m gives keep tokens (unwrap_or newer tokens) old mid clock between → IfSome taken (IsTakenAfter gives tokens) → newer' ≡ option_or taken newer
       → used ≡ unwrap_or newer' tokens → ServesBy g k m (callers_of used) mid asked between after → MayPurge g k m keep asked new after clock' → shown ≡ new

@@ -21,7 +21,7 @@ socket_of link = link.socket
 abbrev pub connection_of : {T : Type 0} → ClientIo T → Connection
 connection_of link = link.connection
 
--- nothing has come, and nothing was asked
+-- Holds if no bytes have arrived and no request was made.
 pub record IsFresh (c : Connection) : Type 0 where
   pub held : held_of c ≡ []
   pub output : output_of c ≡ []
@@ -30,7 +30,7 @@ pub record IsFresh (c : Connection) : Type 0 where
   pub ended : has_ended c ≡ false
   pub done : is_done c ≡ false
 
--- these bytes came, and are held behind those that were
+-- Holds if these bytes arrived and are buffered behind the earlier ones.
 pub record TakesIn (old new : Connection) (bytes : List ℕ) (ended : Bool) : Type 0 where
   pub held : held_of new ≡ held_of old ++ bytes
   pub output : output_of new ≡ output_of old
@@ -40,7 +40,7 @@ pub record TakesIn (old new : Connection) (bytes : List ℕ) (ended : Bool) : Ty
   pub ended_is : has_ended new ≡ ended
   pub done : is_done new ≡ is_done old
 
--- all that is to be sent may go, and no byte is another
+-- Holds if all output may be sent and no byte of it changed.
 pub record ReleasesDeferred (old new : Connection) : Type 0 where
   pub held : held_of new ≡ held_of old
   pub output : output_of new ≡ output_of old
@@ -50,13 +50,13 @@ pub record ReleasesDeferred (old new : Connection) : Type 0 where
   pub ended : has_ended new ≡ has_ended old
   pub done : is_done new ≡ is_done old
 
--- what was answered is held back where changes wait, and else may go
+-- Holds if the output stays deferred while changes are pending, and is released otherwise.
 abbrev pub ReleasesUnless : Bool → Connection → Connection → Type 0
 ReleasesUnless true old new = new ≡ old
 ReleasesUnless false old new = ReleasesDeferred old new
 
--- In the place of the answer that was held back the one to that reply may be sent; without memory
--- neither is.
+-- Holds if the response to that reply replaces the deferred one. If memory runs out, neither is
+-- sent.
 pub record TellsInstead {E : Type 0} (reply : Reply) (old new : Connection)
     (told : Result (Unit {0}) E) : Type 0 where
   pub held : held_of new ≡ held_of old
@@ -65,21 +65,21 @@ pub record TellsInstead {E : Type 0} (reply : Reply) (old new : Connection)
   pub ready : ready_of new ≡ output_of new
   pub slot : slot_of new ≡ None
 
--- How an answer that waited for the end of its round is told: as it was made where the changes were
--- kept, and else the reply to that fault is told in its place.
+-- How a deferred response is sent once its batch ends: unchanged if the changes were committed,
+-- otherwise replaced by the reply to that fault.
 abbrev pub IsAnsweredBy : {E : Type 0} → Result (Unit {0}) SpaceFault → Connection → Connection
     → Result (Unit {0}) E → Type 0
 IsAnsweredBy (Ok x) old new told = ReleasesDeferred old new
 IsAnsweredBy (Err fault) old new told = TellsInstead (reply_of (halts.Space fault)) old new told
 
 module _ {T : Type 0} (coming gone : T → Option (List ℕ)) (old new : ClientIo T) where
-  -- The socket gave these bytes, and no other byte of it is lost.
+  -- Holds if the socket returned these bytes and no other byte of it is lost.
   pub record Moves (bytes : List ℕ) (ended : Bool) : Type 0 where
     pub consumed : Consumes (coming (socket_of old)) (coming (socket_of new)) bytes
     pub kept : Keeps (gone (socket_of old)) (gone (socket_of new))
     pub taken : TakesIn (connection_of old) (connection_of new) bytes ended
 
-  -- What a reading did: each byte that the socket gave is held, in order.
+  -- What a read did: each byte that the socket returned is buffered, in order.
   abbrev pub Receives : ReadOutcome → Type 0
   Receives (came.Chunk n) = (bytes : List ℕ) × (length bytes ≡ n)
       × Moves bytes (has_ended (connection_of old))
@@ -88,8 +88,8 @@ module _ {T : Type 0} (coming gone : T → Option (List ℕ)) (old new : ClientI
       × Keeps (coming (socket_of old)) (coming (socket_of new))
       × Keeps (gone (socket_of old)) (gone (socket_of new))
 
-  -- The socket took the first bytes of what may be sent, and what is left of it is to be sent. No
-  -- byte of an answer that is held back is among them.
+  -- Holds if the socket took the first bytes that may be sent, and the rest is still to be sent. No
+  -- byte of a deferred response is among them.
   pub record HandsOver (count : ℕ) : Type 0 where
     pub some : 0 < count
     pub sent : Appends (gone (socket_of old)) (gone (socket_of new))
@@ -103,7 +103,7 @@ module _ {T : Type 0} (coming gone : T → Option (List ℕ)) (old new : ClientI
     pub ended : has_ended (connection_of new) ≡ has_ended (connection_of old)
     pub done : is_done (connection_of new) ≡ is_done (connection_of old)
 
-  -- What a writing did.
+  -- What a write did.
   abbrev pub Sends : WriteOutcome → Type 0
   Sends went.Some = (count : ℕ) × HandsOver count
   Sends went.Nothing = (connection_of new ≡ connection_of old)

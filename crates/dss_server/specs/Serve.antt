@@ -1,4 +1,4 @@
--- What is known of all that many clients asked.
+-- What is known of all requests of many clients.
 use Rattle.std.specs.Prelude.{◌≡◌, ◌-◌, ◌⊎◌, ℕ, List, [], ◌∷◌, ◌++◌, All, map, Option, Some, None}
 use Rattle.std.specs.List.{flat_map}
 use Rattle.space_core.specs.declared.group_commit.GroupCommit as settles
@@ -14,19 +14,19 @@ use Rattle.wire_http.specs.Wire.{RequestCall, timed}
 use Rattle.wire_http.specs.declared.moments.Moments as moments
 use Rattle.dss_server.specs.Tokens.{IsTakenAfter}
 
--- some request makes this call, of the caller whose token it bears
+-- Holds if some request makes this call, and bears the token of its caller.
 abbrev pub IsAskedBy : Callers → RequestCall → Type 0
 IsAskedBy callers asked = (body : List ℕ) × IsCallOf callers asked.head body asked.place asked.call
 
--- Calls of which each was judged by one table, where tables were taken one after the other: first
--- calls of the callers of the first table, then calls of the callers of the second, and so on.
+-- Holds if the calls were made under these tables, loaded one after the other: first calls of the
+-- callers of the first table, then calls of the callers of the second, and so on.
 abbrev pub AskedUnder : List TokenFile → List RequestCall → Type 0
 AskedUnder [] all = all ≡ []
 AskedUnder (table ∷ tables) all =
     (under : List RequestCall) × (after : List RequestCall) × (all ≡ under ++ after)
     × All (IsAskedBy (callers_of table)) under × AskedUnder tables after
 
--- What a clock told in order: a moment, or that it failed.
+-- The results of a clock, in order: a time, or a failure.
 abbrev pub ClockReadings : {M : Type 0} → moments.Ghosts M → List (Option ℕ) → M → M → Type 0
 ClockReadings m [] clock clock' = clock' ≡ clock
 ClockReadings {M} m (Some moment ∷ told) clock clock' =
@@ -34,20 +34,21 @@ ClockReadings {M} m (Some moment ∷ told) clock clock' =
 ClockReadings {M} m (None ∷ told) clock clock' =
     (mid : M) × (m.failures mid ≡ one_more (m.failures clock)) × ClockReadings m told mid clock'
 
--- These moments are among what was told, in that order.
+-- Holds if these times are among the results of the clock, in that order.
 abbrev pub AreAmong : List ℕ → List (Option ℕ) → Type 0
 AreAmong [] told = Unit {0}
 AreAmong (moment ∷ more) told = (before : List (Option ℕ)) × (after : List (Option ℕ))
     × (told ≡ before ++ Some moment ∷ after) × AreAmong more after
 
--- the moments of calls
+-- The times of calls.
 abbrev pub moments_of : List RequestCall → List ℕ
 moments_of all = map (λ asked. asked.moment) all
 
 module _ {S M : Type 0} (g : spaces.Ghosts S) (k : settles.Ghosts S) (m : moments.Ghosts M)
     (callers : Callers) where
-  -- The service was asked calls of requests, one after the other, and no other, while one table of
-  -- callers was in force. They were made in rounds, each of which was settled at its end.
+  -- States that the service executed exactly these calls of requests, in this order, under one
+  -- table of callers. The calls form batches. Each batch ended with a commit, which may have
+  -- failed.
   pub record ServesBy (old new : Service S) (clock clock' : M) : Type 0 where
     pub all : List RequestCall
     pub batches : List Batch
@@ -58,7 +59,7 @@ module _ {S M : Type 0} (g : spaces.Ghosts S) (k : settles.Ghosts S) (m : moment
     pub clock_told : ClockReadings m told clock clock'
     pub moments : AreAmong (moments_of all) told
 
-  -- It was asked calls of requests in a round that is not settled yet.
+  -- States that the service executed calls of requests in a batch that has not ended yet.
   pub record GoesOn (old new : Service S) (clock clock' : M) : Type 0 where
     pub all : List RequestCall
     pub batch : List CallRecord
@@ -69,19 +70,19 @@ module _ {S M : Type 0} (g : spaces.Ghosts S) (k : settles.Ghosts S) (m : moment
     pub clock_told : ClockReadings m told clock clock'
     pub moments : AreAmong (moments_of all) told
 
-  -- It was asked calls in rounds that are settled, and in one that is not settled yet.
+  -- Holds if calls were made in batches that have ended, and in one that has not.
   abbrev pub ServesSoFar : Service S → Service S → M → M → Type 0
   ServesSoFar old new clock clock' = (mid : Service S) × (between : M)
       × ServesBy old mid clock between × GoesOn mid new between clock'
 
 module _ {S M : Type 0} (g : spaces.Ghosts S) (k : settles.Ghosts S) (m : moments.Ghosts M) where
-  -- nothing went, whatever the clock told
+  -- Holds if nothing was purged, whatever the clock returned.
   abbrev pub PurgesNothing : Service S → Service S → M → M → Type 0
   PurgesNothing old new clock clock' =
       (new ≡ old) × (told : List (Option ℕ)) × ClockReadings m told clock clock'
 
-  -- A piece of a sweep was made until a moment that the clock told, less the seconds that what has
-  -- ended is kept. Where it is kept for good none was.
+  -- Holds if one chunk was purged, up to a time that the clock returned less the retention in
+  -- seconds. Without a retention it never holds.
   abbrev pub PurgesChunk : (keep : Option ℕ) → Service S → Service S → M → M → Type 0
   PurgesChunk None old new clock clock' = ⊥
   PurgesChunk (Some keep) old new clock clock' =
@@ -91,13 +92,13 @@ module _ {S M : Type 0} (g : spaces.Ghosts S) (k : settles.Ghosts S) (m : moment
   MayPurge keep old new clock clock' =
       PurgesNothing old new clock clock' ⊎ PurgesChunk keep old new clock clock'
 
--- the calls of rounds between which it was swept, and of those after
+-- The calls of the batches between purges, and of those after the last purge.
 abbrev pub all_timed_in : List Segment → List Batch → List TimedCall
 all_timed_in segments batches =
     flat_map (λ segment. all_timed segment.batches) segments ++ all_timed batches
 
--- Each piece was swept until a moment that the clock told, in that order, less the seconds that
--- what has ended is kept. Where it is kept for good there is none.
+-- Holds if each chunk was purged up to a time that the clock returned, in that order, less the
+-- retention in seconds. Without a retention there are no chunks.
 abbrev pub PurgesAreDue : (keep : Option ℕ) → List (Option ℕ) → List Segment → Type 0
 PurgesAreDue None told segments = segments ≡ []
 PurgesAreDue (Some keep) told segments = (moments : List ℕ) × AreAmong moments told
@@ -105,13 +106,14 @@ PurgesAreDue (Some keep) told segments = (moments : List ℕ) × AreAmong moment
 
 module _ {S M : Type 0} (g : spaces.Ghosts S) (k : settles.Ghosts S) (m : moments.Ghosts M)
     (gives : List ℕ → Type 0) (keep : Option ℕ) (tokens : TokenFile) where
-  -- The service was asked calls of requests, one after the other, and no other: one list of calls,
-  -- whoever made them. Each was judged by one table of tokens: the first is that of the start, and
-  -- each later one was read whole of the token file as it then was, with the same salt. They were
-  -- made in rounds, each of which was settled at its end: a client whose reply waited for that was
-  -- told it as it was made only where the changes were kept. Between rounds went pieces of what had
-  -- ended so long before a moment of the clock as it is kept, and nothing where it is kept for
-  -- good. Each call was made at a moment of the clock, which told no more than these.
+  -- States that the service executed exactly these calls of requests, in one order for all clients.
+  -- Each call was checked against one token table. The first table is that of the start. Each later
+  -- one was read whole from the token file as it then was, and has the same salt.
+  -- The calls form batches. Each batch ended with a commit, which may have failed. A client whose
+  -- reply was deferred received it unchanged only if the changes were committed.
+  -- Purge chunks ran between batches. They removed only what had ended at least the retention
+  -- before a time of the clock. Without a retention nothing was purged.
+  -- Each call was made at a time of the clock, which returned no more than these results.
   pub record ServesAll (old new : Service S) (clock clock' : M) : Type 0 where
     pub all : List RequestCall
     pub segments : List Segment

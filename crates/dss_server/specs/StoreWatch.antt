@@ -1,4 +1,4 @@
--- When it is told that the store fails, and that it works again.
+-- When a failure or a recovery of the store is reported.
 use Rattle.std.specs.Prelude.{◌==◌, ◌+◌, ◌-◌, ◌^◌, ℕ, zero, suc, Bool, true, false, if◌then◌else◌, Option, Some, None, Result, Ok, Err, min}
 use Rattle.std.specs.Duration.{as_nanos}
 use Rattle.dss_server.specs.declared.server_log.StoreEvent.{StoreEvent}
@@ -11,14 +11,15 @@ use Rattle.dss_server.specs.declared.purger.PurgeFault.TheVariants as purge
 use Rattle.space_core.specs.declared.space.SpaceFault.{SpaceFault}
 use Rattle.space_core.specs.declared.space.SpaceFault.TheVariants as space
 
--- what became of the changes of a round, which may have had none, by how it was settled
+-- The outcome of a batch's changes, given the result of its commit. There is none if the batch had
+-- no changes.
 abbrev pub outcome_of_batch : (waited : Bool) → Result (Unit {0}) SpaceFault → Option CommitOutcome
 outcome_of_batch true (Ok done) = Some fate.Committed
 outcome_of_batch false (Ok done) = None
 outcome_of_batch waited (Err space.Unchanged) = Some fate.RolledBack
 outcome_of_batch waited (Err space.Broken) = Some fate.Unknown
 
--- what became of a piece of a sweep, by how much went, or why nothing did
+-- The outcome of a purge chunk, given the number of purged items or the failure.
 abbrev pub outcome_of_purge : Result ℕ PurgeFault → Option CommitOutcome
 outcome_of_purge (Ok zero) = None
 outcome_of_purge (Ok (suc n)) = Some fate.Committed
@@ -26,29 +27,29 @@ outcome_of_purge (Err purge.Clock) = None
 outcome_of_purge (Err (purge.Space space.Unchanged)) = None
 outcome_of_purge (Err (purge.Space space.Broken)) = Some fate.Unknown
 
--- how often it failed since it last kept a change, and how many of these failures are not told yet
+-- Failures since the last commit, and how many of them are not reported yet
 abbrev pub failures_of : StoreWatch → ℕ
 failures_of watch = watch.failures
 
 abbrev pub untold_of : StoreWatch → ℕ
 untold_of watch = watch.untold
 
--- until when nothing more is told of them, in nanoseconds
+-- The time until which further failures are not reported, in nanoseconds.
 abbrev pub silent_until : StoreWatch → ℕ
 silent_until watch = as_nanos watch.silent_until
 
 abbrev pub is_broken : StoreWatch → Bool
 is_broken watch = watch.is_broken
 
--- one more, as far as a number goes
+-- One more, saturating at the maximum of `u64`.
 abbrev pub one_more : ℕ → ℕ
 one_more n = min (n + 1) (2 ^ 64 - 1)
 
--- what is told of a change that was kept after so many failures
+-- The event to report when a change is committed after so many failures.
 abbrev pub news_of_keeping : (failures : ℕ) → Option StoreEvent
 news_of_keeping failures = if failures == 0 then None else Some (news.Recovered failures)
 
--- what is told of a store that breaks down, and of one that has
+-- The event to report when the store stops: none if it had stopped before.
 abbrev pub news_of_breaking : (broken : Bool) → Option StoreEvent
 news_of_breaking true = None
 news_of_breaking false = Some news.Stopped

@@ -1,4 +1,5 @@
-//! One connection to the operator's port: one request, one answer, and its end. It has no service.
+//! One connection to the admin port: one request, one response, and the end. It has no access to
+//! the service.
 use crate::limits::{LAST_CHUNKS, OPERATOR_BYTES, OPERATOR_CHUNK, OPERATOR_STEPS};
 use crate::phase::Phase;
 use crate::sockets::{Socket, SocketEvent};
@@ -14,22 +15,22 @@ use std::alloc::{AllocError, Global};
 use std::io::ErrorKind;
 use std::time::Duration;
 
-/// What operators are shown.
+/// The context from which admin requests are answered.
 #[derive(Clone, Copy)]
 pub(crate) struct AdminContext<'a> {
     pub(crate) alloc: Global,
     pub(crate) figures: &'a ServiceMetrics,
     pub(crate) build: BuildInfo<'a>,
-    /// Whether there is a folder for backups.
+    /// True if there is a backup directory.
     pub(crate) backs_up: bool,
-    /// What the service keeps, or why nothing is shown of it.
+    /// The airspace of the service, or the reason why none can be shown.
     pub(crate) shown: Result<Snapshot<'a>, NoMirror>,
 }
 
-/// What becomes of a connection.
+/// What a connection does next.
 #[derive(Clone, Copy, Debug, PartialEq, Eq)]
 pub(crate) enum AdminTurnOutcome {
-    /// It may go on at once.
+    /// It can go on at once.
     Again,
     /// It waits for its socket.
     Rests,
@@ -37,7 +38,7 @@ pub(crate) enum AdminTurnOutcome {
     Gone,
 }
 
-/// A connection to the operator's port.
+/// A connection to the admin port.
 #[derive(Drop)]
 pub(crate) struct AdminConnection<T> {
     socket: T,
@@ -47,19 +48,20 @@ pub(crate) struct AdminConnection<T> {
     phase: Phase,
     until: Duration,
     last_chunks: u32,
-    // What is known of its socket: each stays so until a call finds otherwise.
+    // The state of its socket. Each flag stays set until a call finds otherwise.
     readable: bool,
     writable: bool,
     reset: bool,
-    // Whether it asked for the end of the service.
+    // True if it requested the stop of the service.
     stops: bool,
-    // The name of the backup that it asked for, until that is begun, and whether it waits for one.
+    // The name of the backup that it requested, until the backup begins, and whether it waits for
+    // one.
     wanted: Option<String>,
     waits: bool,
 }
 
 impl<T: Socket> AdminConnection<T> {
-    /// A connection from which nothing has come.
+    /// Creates a connection that has received nothing.
     pub(crate) fn new(alloc: Global, socket: T, now: Duration) -> AdminConnection<T> {
         AdminConnection {
             socket,
@@ -78,46 +80,46 @@ impl<T: Socket> AdminConnection<T> {
         }
     }
 
-    /// Notes what the system told of its socket.
+    /// Records a socket event.
     pub(crate) fn note(&mut self, told: SocketEvent) {
         self.readable = self.readable || told.readable || told.ended || told.reset;
         self.writable = self.writable || told.writable;
         self.reset = self.reset || told.reset;
     }
 
-    /// Whether it was waited for long enough.
+    /// Returns true if its timeout has passed.
     pub(crate) fn is_late(&self, now: Duration) -> bool {
         self.until < now && !self.waits
     }
 
-    /// Whether it is being waited for after its answer.
+    /// Returns true if it waits for the client to close, after its response.
     pub(crate) fn is_ending(&self) -> bool {
         self.phase == Phase::Ending
     }
 
-    /// Whether it has an answer that it may not have read, or waits for one.
+    /// Returns true if it waits for a response, or may not have read it.
     pub(crate) fn is_owed(&self) -> bool {
         self.phase == Phase::Taking || self.is_ending() || self.waits
     }
 
-    /// Whether it asked for the end of the service.
+    /// Returns true if it requested the stop of the service.
     pub(crate) fn stops(&self) -> bool {
         self.stops
     }
 
-    /// The name of a backup that it asked for, once.
+    /// Returns the name of the backup that it requested, once.
     pub(crate) fn take_wanted(&mut self) -> Option<String> {
         self.wanted.take()
     }
 
-    // Has it wait for a backup of that name.
+    // Makes it wait for a backup of that name.
     fn want(&mut self, name: String) -> AdminTurnOutcome {
         self.wanted = Some(name);
         self.waits = true;
         AdminTurnOutcome::Rests
     }
 
-    /// Tells it what became of the backup that it waits for.
+    /// Answers with the result of the backup that it waits for.
     pub(crate) fn tell(&mut self, alloc: Global, backup: BackupResult, now: Duration) {
         if self.waits {
             self.waits = false;
@@ -125,7 +127,7 @@ impl<T: Socket> AdminConnection<T> {
         }
     }
 
-    // Gives it its answer.
+    // Sets its response.
     fn give(&mut self, made: Result<Vec<u8>, AllocError>, now: Duration) -> AdminTurnOutcome {
         match made {
             Ok(text) => {
@@ -140,13 +142,13 @@ impl<T: Socket> AdminConnection<T> {
         }
     }
 
-    // It is waited for anew.
+    // Enters a phase and restarts its timeout.
     fn wait(&mut self, phase: Phase, now: Duration) {
         self.phase = phase;
         self.until = now.saturating_add(phase.patience());
     }
 
-    // Takes in bytes of the request, and makes its answer once it is whole.
+    // Buffers bytes of the request, and prepares the response once the request is complete.
     fn take_in(
         &mut self,
         bytes: &[u8],
@@ -183,7 +185,7 @@ impl<T: Socket> AdminConnection<T> {
         self.give(made, now)
     }
 
-    // Reads one piece of the request.
+    // Reads one chunk of the request.
     fn receive(&mut self, board: AdminContext<'_>, now: Duration) -> AdminTurnOutcome {
         if !self.readable {
             return AdminTurnOutcome::Rests;
@@ -199,7 +201,7 @@ impl<T: Socket> AdminConnection<T> {
         }
     }
 
-    // What becomes of it after a reading that failed.
+    // Returns the outcome of a failed read.
     fn rests_after(&mut self, kind: ErrorKind) -> AdminTurnOutcome {
         match kind {
             ErrorKind::WouldBlock => {
@@ -210,7 +212,7 @@ impl<T: Socket> AdminConnection<T> {
         }
     }
 
-    // Says that nothing more is sent: what it still sends is read, so that it gets its answer.
+    // Ends sending. The rest of the client's bytes is read, so that the client gets its response.
     fn end(&mut self, now: Duration) -> AdminTurnOutcome {
         if self.socket.end_sending().is_err() {
             return AdminTurnOutcome::Gone;
@@ -220,7 +222,7 @@ impl<T: Socket> AdminConnection<T> {
         AdminTurnOutcome::Again
     }
 
-    // Sends what can be sent of the answer.
+    // Sends as much of the response as the socket takes.
     fn send(&mut self, now: Duration) -> AdminTurnOutcome {
         if !self.writable {
             return AdminTurnOutcome::Rests;
@@ -246,7 +248,7 @@ impl<T: Socket> AdminConnection<T> {
         }
     }
 
-    // Reads and forgets one piece of what it still sends.
+    // Reads and discards one chunk of what the client still sends.
     fn skip(&mut self, now: Duration) -> AdminTurnOutcome {
         if !self.readable {
             return AdminTurnOutcome::Rests;
@@ -266,7 +268,7 @@ impl<T: Socket> AdminConnection<T> {
         }
     }
 
-    // One step: a piece is read, or the answer sent. While it waits for a backup, nothing is.
+    // Makes one step: reads a chunk or sends. Does nothing while it waits for a backup.
     fn step(&mut self, board: AdminContext<'_>, now: Duration) -> AdminTurnOutcome {
         if self.waits {
             return AdminTurnOutcome::Rests;
@@ -278,7 +280,7 @@ impl<T: Socket> AdminConnection<T> {
         }
     }
 
-    /// One turn: a few steps.
+    /// Runs one turn: a few steps.
     pub(crate) fn turn(&mut self, board: AdminContext<'_>, now: Duration) -> AdminTurnOutcome {
         if self.reset {
             return AdminTurnOutcome::Gone;

@@ -1,4 +1,4 @@
-//! All connections to the operator's port.
+//! All connections to the admin port.
 use crate::admin_connection::{AdminConnection, AdminContext, AdminTurnOutcome};
 use crate::backup_job::BackupJob;
 use crate::limits::{FULL, LOOKS, LOOKS_SOON, MOST_OPERATORS};
@@ -8,22 +8,22 @@ use slab::Slab;
 use std::alloc::{AllocError, Global};
 use std::time::Duration;
 
-/// All connections to the operator's port.
+/// All connections to the admin port.
 #[derive(Drop)]
 pub(crate) struct AdminConnections<N: Sockets> {
     alloc: Global,
     all: Slab<AdminConnection<N::Client>>,
-    // whether one may wait to be accepted, and until when the system has no room for it
+    // True if one may wait to be accepted, and the time until which the system has no room for it.
     waiting: bool,
     full_until: Duration,
-    // whether one of them may go on at once, and whether one asked for the end of the service
+    // True if one of them can go on at once, and true if one requested the stop of the service.
     again: bool,
     stops: bool,
     backing_up: BackupJob,
 }
 
 impl<N: Sockets + Drop> AdminConnections<N> {
-    /// None, who may come where there is a port for them.
+    /// Creates an empty set. Connections may come only if there is an admin port.
     pub(crate) fn new(alloc: Global, may_come: bool) -> Result<AdminConnections<N>, AllocError> {
         let room = if may_come { MOST_OPERATORS } else { 0 };
         Ok(AdminConnections {
@@ -37,12 +37,12 @@ impl<N: Sockets + Drop> AdminConnections<N> {
         })
     }
 
-    // Whether one may be taken in, if the system has room for it.
+    // Returns true if one more can be accepted, if the system has room for it.
     fn has_room(&self) -> bool {
         self.waiting && self.all.len() < MOST_OPERATORS
     }
 
-    // Whether one of them is being waited for after its answer.
+    // Returns true if one of them waits for its client to close.
     fn is_any_ending(&self) -> bool {
         for key in 0..MOST_OPERATORS {
             if let Some(operator) = self.all.get(key)
@@ -54,7 +54,7 @@ impl<N: Sockets + Drop> AdminConnections<N> {
         false
     }
 
-    /// How long the system may wait for something to tell.
+    /// Returns how long the system may wait for events.
     pub(crate) fn patience(&self, now: Duration) -> Option<Duration> {
         if self.again {
             return Some(Duration::from_millis(0));
@@ -72,7 +72,7 @@ impl<N: Sockets + Drop> AdminConnections<N> {
         }))
     }
 
-    /// Whether each that was answered has read its answer.
+    /// Returns true if each client that was answered has read its response.
     pub(crate) fn are_served(&self) -> bool {
         for key in 0..MOST_OPERATORS {
             if let Some(operator) = self.all.get(key)
@@ -84,29 +84,29 @@ impl<N: Sockets + Drop> AdminConnections<N> {
         true
     }
 
-    /// Whether there is none, and nothing goes on that one asked for.
+    /// Returns true if there is no connection, and no backup is in progress.
     pub(crate) fn is_idle(&self) -> bool {
         self.all.is_empty() && !self.backing_up.goes_on()
     }
 
-    /// Whether one asked for the end of the service.
+    /// Returns true if one requested the stop of the service.
     pub(crate) fn stops(&self) -> bool {
         self.stops
     }
 
-    /// Notes that one may wait to be accepted.
+    /// Records that one may wait to be accepted.
     pub(crate) fn note_waiting(&mut self) {
         self.waiting = true;
     }
 
-    /// Notes what the system told of one.
+    /// Records a socket event of one connection.
     pub(crate) fn note(&mut self, key: usize, told: SocketEvent) {
         if let Some(operator) = self.all.get_mut(key) {
             operator.note(told);
         }
     }
 
-    // Takes in a connection. One that cannot be watched or kept is closed.
+    // Adds a connection. Closes it if it cannot be watched or stored.
     fn take_in(&mut self, sockets: &mut N, mut socket: N::Client, now: Duration) {
         let key = self.all.vacant_key();
         if sockets
@@ -119,7 +119,7 @@ impl<N: Sockets + Drop> AdminConnections<N> {
         }
     }
 
-    /// Accepts the connections that wait, as far as there is room.
+    /// Accepts waiting connections, as far as there is room.
     pub(crate) fn accept(&mut self, sockets: &mut N, now: Duration) {
         for _ in 0..MOST_OPERATORS {
             if !self.has_room() || now < self.full_until {
@@ -136,7 +136,7 @@ impl<N: Sockets + Drop> AdminConnections<N> {
         }
     }
 
-    // Gives one its turn, and closes it where that is its end.
+    // Runs the turn of one connection, and closes the connection if it has ended.
     fn turn(&mut self, key: usize, board: AdminContext<'_>, now: Duration) {
         let Some(operator) = self.all.get_mut(key) else {
             return;
@@ -151,7 +151,7 @@ impl<N: Sockets + Drop> AdminConnections<N> {
         }
     }
 
-    /// Gives each its turn, and makes a piece of the backup that one asked for.
+    /// Runs the turn of each connection, and one step of the requested backup.
     pub(crate) fn run_once(&mut self, board: AdminContext<'_>, sockets: &mut N, now: Duration) {
         self.again = false;
         for key in 0..MOST_OPERATORS {
@@ -164,7 +164,7 @@ impl<N: Sockets + Drop> AdminConnections<N> {
         self.again = self.again || self.backing_up.goes_on();
     }
 
-    // Begins the backup that one asked for.
+    // Begins the backup that a connection requested.
     fn begin_wanted(&mut self, key: usize, sockets: &mut N, now: Duration) {
         let Some(operator) = self.all.get_mut(key) else {
             return;
@@ -178,8 +178,8 @@ impl<N: Sockets + Drop> AdminConnections<N> {
         }
     }
 
-    // Tells one what became of the backup that it waits for. One that came later under its key
-    // waits for none: it would have been told that one goes on.
+    // Answers a connection with the result of its backup. A later connection under the same key
+    // waits for none: it would have received `Busy`.
     fn tell(&mut self, key: usize, backup: BackupResult, now: Duration) {
         if let Some(operator) = self.all.get_mut(key) {
             operator.tell(self.alloc, backup, now);
@@ -187,7 +187,7 @@ impl<N: Sockets + Drop> AdminConnections<N> {
         }
     }
 
-    /// Gives up the backup that goes on, as where the service ends.
+    /// Aborts the backup in progress, because the service ends.
     pub(crate) fn give_up(&mut self, sockets: &mut N) {
         self.backing_up.give_up(sockets.backups());
     }

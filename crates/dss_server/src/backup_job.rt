@@ -1,26 +1,27 @@
-//! The backup that is being made, and the connection that waits for it.
+//! The backup in progress, and the connection that waits for it.
 use crate::backups::{MakeBackups, Progress};
 use admin_http::backup::BackupResult;
 
-/// The backup that is being made, if there is one.
+/// The backup in progress, if there is one.
 #[derive(Drop)]
 pub(crate) struct BackupJob {
-    // the key of the connection that asked for it
+    // The key of the connection that requested it.
     asked_by: Option<usize>,
 }
 
 impl BackupJob {
-    /// None goes on.
+    /// Creates a job without a backup.
     pub(crate) fn new() -> BackupJob {
         BackupJob { asked_by: None }
     }
 
-    /// Whether one goes on.
+    /// Returns true if a backup is in progress.
     pub(crate) fn goes_on(&self) -> bool {
         self.asked_by.is_some()
     }
 
-    /// Begins one for the connection under that key. What is told at once, where it does not go on.
+    /// Begins a backup for the connection under that key. Returns the result at once if the backup
+    /// does not go on.
     pub(crate) fn begin<B: MakeBackups>(
         &mut self,
         key: usize,
@@ -42,8 +43,8 @@ impl BackupJob {
         }
     }
 
-    /// Makes a piece of the one that goes on. At its end: the key of the connection that asked for
-    /// it, and what became of it.
+    /// Makes one step of the backup in progress. At its end, returns the key of the connection that
+    /// requested it, and the result.
     pub(crate) fn go_on<B: MakeBackups>(
         &mut self,
         backups: Option<&mut B>,
@@ -59,7 +60,7 @@ impl BackupJob {
         }
     }
 
-    /// Gives up the one that goes on, as where the service ends.
+    /// Aborts the backup in progress, because the service ends.
     pub(crate) fn give_up<B: MakeBackups>(&mut self, backups: Option<&mut B>) {
         if self.asked_by.is_some()
             && let Some(backups) = backups

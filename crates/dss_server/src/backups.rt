@@ -1,24 +1,25 @@
-//! What makes backups of the database beside the service.
+//! The trait that makes backups of the database while the service runs.
 use admin_http::backup::BackupResult;
 
-/// How far a backup is.
+/// The progress of a backup.
 #[derive(Clone, Copy, Debug, PartialEq, Eq)]
 pub enum Progress {
-    /// A piece more is to be made.
+    /// More steps are needed.
     GoesOn,
-    /// Nothing more is done for it.
+    /// The backup is over, with this result.
     Ended(BackupResult),
 }
 
-/// What makes backups of the database beside the service, one at a time, each by pieces. It is
-/// called between rounds, where no change is half made, and no call of it takes long.
+/// Makes backups of the database while the service runs, one at a time and in steps.
+///
+/// The service calls it between batches, when no change is half made. No call takes long.
 pub trait MakeBackups {
     /// Begins a backup of that name.
     fn begin(&mut self, name: &str) -> Progress;
 
-    /// Makes the next piece of the one that goes on.
+    /// Makes the next step of the backup in progress.
     fn go_on(&mut self) -> Progress;
 
-    /// Gives up the one that goes on: nothing of it stays.
+    /// Aborts the backup in progress and removes its partial file.
     fn give_up(&mut self);
 }

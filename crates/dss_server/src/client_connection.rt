@@ -1,4 +1,4 @@
-//! One client: what it is waited for, and what a turn of it does.
+//! One client connection: its phase, and what a turn of it does.
 ghost use Rattle.token_conf.specs.TokenFile.{callers_of};
 ghost use Rattle.dss_server.specs.Serve.{GoesOn};
 
@@ -15,24 +15,24 @@ use std::alloc::Global;
 use std::time::Duration;
 use wire_http::{Moments, RequestInfo, Step, StreamFault};
 
-/// What becomes of a client after a turn.
+/// What a client does after a turn.
 #[derive(Clone, Copy, Debug, PartialEq, Eq)]
 pub(crate) enum TurnOutcome {
     /// It may have another turn at once.
     Again,
     /// It waits for its socket.
     Rests,
-    /// Its answer is held back until the round is settled.
+    /// Its response is deferred until the batch ends.
     HeldBack,
-    /// It waits for a place among those that hold a large request.
+    /// It waits for one of the slots of large requests.
     WantsPlace,
     /// Its connection is to be closed.
     Gone,
-    /// It is given up for this reason.
+    /// It is aborted for this reason.
     Failed(StreamFault),
 }
 
-// Another turn, where its socket is known to be ready.
+// Returns `Again` if the socket is known to be ready, and `Rests` otherwise.
 fn again_if(ready: bool) -> TurnOutcome {
     if ready {
         TurnOutcome::Again
@@ -41,7 +41,7 @@ fn again_if(ready: bool) -> TurnOutcome {
     }
 }
 
-/// A client.
+/// A client connection.
 #[derive(Drop)]
 pub(crate) struct ClientConnection<T> {
     link: ClientIo<T>,
@@ -50,25 +50,26 @@ pub(crate) struct ClientConnection<T> {
     phase: Phase,
     until: Duration,
     last_chunks: u32,
-    // What is known of its socket: each stays so until a call finds otherwise.
+    // The state of its socket. Each flag stays set until a call finds otherwise.
     readable: bool,
     writable: bool,
     ended: bool,
     reset: bool,
-    // Whether no whole request is held, so that it is read before it is asked again.
+    // True if no complete request is buffered, so that the socket is read before the next request.
     lacks: bool,
-    // Whether it may hold a large request, and whether it waits until it may.
+    // True if it has a slot for a large request, and true if it waits for one.
     has_place: bool,
     wants_place: bool,
-    // Whether it stands among those that have a turn next.
+    // True if it is queued for its next turn.
     queued: bool,
-    // The answer that was made in its turn, and when the turn began, where the clock told.
+    // The response prepared in its turn, and the time when the turn began, if the clock returned
+    // one.
     answer: Option<ResponseInfo>,
     asked: Option<Duration>,
 }
 
 impl<T: Socket> ClientConnection<T> {
-    /// A client of which nothing has come.
+    /// Creates a client that has sent nothing.
     pub(crate) fn new(alloc: Global, socket: T, number: u64, now: Duration) -> ClientConnection<T> {
         ClientConnection {
             link: ClientIo::new(alloc, socket),
@@ -89,7 +90,7 @@ impl<T: Socket> ClientConnection<T> {
         }
     }
 
-    /// It, as one that is given up.
+    /// Returns its description for the log, as an aborted connection.
     pub(crate) fn given_up(&self) -> AbortedConnection {
         AbortedConnection {
             client: self.link.client(),
@@ -98,17 +99,17 @@ impl<T: Socket> ClientConnection<T> {
         }
     }
 
-    /// The number of its connection.
+    /// Returns the number of its connection.
     pub(crate) fn number(&self) -> u64 {
         self.number
     }
 
-    /// What its last answer was to.
+    /// Returns the request of its last response.
     pub(crate) fn noted(&self) -> Option<&RequestInfo> {
         self.link.noted()
     }
 
-    /// Notes what the system told of its socket.
+    /// Records a socket event.
     pub(crate) fn note(&mut self, told: SocketEvent) {
         self.readable = self.readable || told.readable || told.ended || told.reset;
         self.writable = self.writable || told.writable;
@@ -116,60 +117,61 @@ impl<T: Socket> ClientConnection<T> {
         self.reset = self.reset || told.reset;
     }
 
-    /// Whether it stands among those that have a turn next.
+    /// Returns true if it is queued for its next turn.
     pub(crate) fn is_queued(&self) -> bool {
         self.queued
     }
 
-    /// Notes whether it stands among those that have a turn next.
+    /// Sets whether it is queued for its next turn.
     pub(crate) fn set_queued(&mut self, queued: bool) {
         self.queued = queued;
     }
 
-    /// Whether it was waited for long enough. A client that waits for its turn, or for a place, is
-    /// not late: it is the service that keeps it waiting.
+    /// Returns true if its timeout has passed. A client that waits for its turn, or for a slot, is
+    /// never late, because the service keeps it waiting.
     pub(crate) fn is_late(&self, now: Duration) -> bool {
         !self.queued && !self.wants_place && self.until < now
     }
 
-    /// Whether it is being waited for after its last answer.
+    /// Returns true if it waits for the client to close, after its last response.
     pub(crate) fn is_ending(&self) -> bool {
         self.phase == Phase::Ending
     }
 
-    /// Whether it waits for a place.
+    /// Returns true if it waits for a slot.
     pub(crate) fn wants_place(&self) -> bool {
         self.wants_place
     }
 
-    /// Whether it has a place.
+    /// Returns true if it has a slot.
     pub(crate) fn has_place(&self) -> bool {
         self.has_place
     }
 
-    /// Whether it has a place and no large request.
+    /// Returns true if it has a slot and no large request.
     pub(crate) fn can_leave_place(&self) -> bool {
         self.has_place && self.link.bytes_held() <= SMALL
     }
 
-    /// It waits for a place.
+    /// Makes it wait for a slot.
     pub(crate) fn ask_for_place(&mut self) {
         self.wants_place = true;
     }
 
-    /// It has a place, and the time for its request begins anew.
+    /// Gives it a slot, and restarts the timeout of its request.
     pub(crate) fn take_place(&mut self, now: Duration) {
         self.has_place = true;
         self.wants_place = false;
         self.wait(Phase::Sending, now);
     }
 
-    /// It has no place any more.
+    /// Takes its slot away.
     pub(crate) fn leave_place(&mut self) {
         self.has_place = false;
     }
 
-    /// The fault of a client that was waited for in vain. One that owes nothing has none.
+    /// Returns the fault of a client whose timeout has passed. Returns `None` if the client is idle
+    /// or closing.
     pub(crate) fn late_fault(&self) -> Option<StreamFault> {
         match self.phase {
             Phase::Idle | Phase::Ending => None,
@@ -178,13 +180,13 @@ impl<T: Socket> ClientConnection<T> {
         }
     }
 
-    // It is waited for anew.
+    // Enters a phase and restarts its timeout.
     fn wait(&mut self, phase: Phase, now: Duration) {
         self.phase = phase;
         self.until = now.saturating_add(phase.patience());
     }
 
-    // It is waited for until its next request.
+    // Waits for the next request.
     fn wait_for_request(&mut self, now: Duration) {
         if self.link.holds_any() {
             self.wait(Phase::Sending, now);
@@ -193,8 +195,10 @@ impl<T: Socket> ClientConnection<T> {
         }
     }
 
-    /// Ends the connection, with nothing left to send. A socket that is closed before all its bytes
-    /// were read resets the connection, which takes away the answers that the client has not read.
+    /// Ends the connection, with nothing left to send.
+    ///
+    /// A socket that is closed before all its bytes were read resets the connection. The client
+    /// then loses responses that it has not read.
     pub(crate) fn end(&mut self, now: Duration) -> TurnOutcome {
         if self.reset || !self.link.end_sending() {
             return TurnOutcome::Gone;
@@ -205,7 +209,7 @@ impl<T: Socket> ClientConnection<T> {
         TurnOutcome::Again
     }
 
-    /// What becomes of it where the service ends: it is closed, once it has all its answers.
+    /// Returns its outcome while the service ends: it is closed once it has all its responses.
     pub(crate) fn end_after(&mut self, turned: TurnOutcome, now: Duration) -> TurnOutcome {
         if self.is_ending() || self.link.wants_write() {
             return turned;
@@ -213,29 +217,29 @@ impl<T: Socket> ClientConnection<T> {
         self.end(now)
     }
 
-    /// The answer that was made in its turn, where it is not told yet.
+    /// Returns the response prepared in its turn, if it is not logged yet.
     pub(crate) fn answer(&self) -> Option<ResponseInfo> {
         self.answer
     }
 
-    /// The answer that was made in its turn, which is told once.
+    /// Takes the response prepared in its turn, so that it is logged once.
     pub(crate) fn take_answer(&mut self) -> Option<ResponseInfo> {
         let answer = self.answer;
         self.answer = None;
         answer
     }
 
-    /// When the turn began in which its last request was answered, where the clock told.
+    /// Returns the time when the turn of its last response began, if the clock returned one.
     pub(crate) fn asked(&self) -> Option<Duration> {
         self.asked
     }
 
-    /// Notes when a turn of it begins.
+    /// Sets the time when a turn of it begins.
     pub(crate) fn set_asked(&mut self, asked: Option<Duration>) {
         self.asked = asked;
     }
 
-    // Reads and forgets one piece of what it still sends.
+    // Reads and discards one chunk of what the client still sends.
     fn skip(&mut self, now: Duration) -> TurnOutcome {
         if !self.readable {
             return TurnOutcome::Rests;
@@ -257,7 +261,7 @@ impl<T: Socket> ClientConnection<T> {
         }
     }
 
-    // How many bytes may be read now.
+    // Returns how many bytes may be read now.
     fn most(&self) -> usize {
         let room = self.link.room().min(CHUNK);
         if self.has_place {
@@ -266,7 +270,7 @@ impl<T: Socket> ClientConnection<T> {
         room.min(SMALL.saturating_sub(self.link.bytes_held()))
     }
 
-    // Sends what can be sent of the answers. Each byte that is taken begins the time anew.
+    // Sends as much of the responses as the socket takes. Each byte taken restarts the timeout.
     fn send(&mut self, now: Duration) -> Result<(), StreamFault> {
         match self.link.send()? {
             WriteOutcome::Some => {
@@ -284,7 +288,7 @@ impl<T: Socket> ClientConnection<T> {
         Ok(())
     }
 
-    // Reads one piece of a request. Answers what becomes of the client where nothing came.
+    // Reads one chunk of a request. Returns the outcome of the turn if nothing arrived.
     fn receive(&mut self, now: Duration) -> Result<Option<TurnOutcome>, StreamFault> {
         if !self.readable {
             return Ok(Some(TurnOutcome::Rests));
@@ -302,7 +306,7 @@ impl<T: Socket> ClientConnection<T> {
                 if self.phase == Phase::Idle {
                     self.wait(Phase::Sending, now);
                 }
-                // where it sends nothing more, no word of the system follows
+                // if the client sends nothing more, no further event follows
                 self.readable = count == most || self.ended;
             }
             ReadOutcome::End => {}
@@ -310,8 +314,8 @@ impl<T: Socket> ClientConnection<T> {
         Ok(None)
     }
 
-    // Sends what waits, and reads where no whole request is held. Answers what becomes of the
-    // client where it is not to be asked yet.
+    // Sends pending output, and reads if no complete request is buffered. Returns the outcome of
+    // the turn if no request is to be answered yet.
     fn prepare(&mut self, now: Duration) -> Result<Option<TurnOutcome>, StreamFault> {
         if self.link.wants_write() {
             if !self.writable {
@@ -329,7 +333,7 @@ impl<T: Socket> ClientConnection<T> {
         self.receive(now)
     }
 
-    // What becomes of the client, whose answer is sent as far as it can be.
+    // Returns the outcome of a client whose response is sent as far as possible.
     fn answered(&mut self, now: Duration) -> Result<TurnOutcome, StreamFault> {
         self.answer = self.link.answer();
         if self.link.wants_write() {
@@ -346,7 +350,7 @@ impl<T: Socket> ClientConnection<T> {
         Ok(again_if(self.readable || !self.lacks || self.link.is_done()))
     }
 
-    // Answers the next request, for which one piece is read where it is not held.
+    // Answers the next request. Reads one chunk for it if it is not buffered.
     fn serve<S: GroupCommit + Drop, M: Moments>(
         &mut self,
         desk: RequestContext<'_>,
@@ -381,8 +385,8 @@ impl<T: Socket> ClientConnection<T> {
         self.answered(now)
     }
 
-    /// One turn: at most one piece is read, one request answered, and two pieces sent. Of a client
-    /// that is known to be gone no request is answered any more.
+    /// Runs one turn: reads at most one chunk, answers one request and sends twice. Answers no
+    /// request of a client that is known to be gone.
     pub(crate) fn turn<S: GroupCommit + Drop, M: Moments>(
         &mut self,
         desk: RequestContext<'_>,
@@ -405,12 +409,12 @@ impl<T: Socket> ClientConnection<T> {
         }
     }
 
-    /// How many bytes the answer has that is held back.
+    /// Returns the size of the deferred response in bytes.
     pub(crate) fn bytes_held_back(&self) -> usize {
         self.link.bytes_held_back()
     }
 
-    /// The rest of its turn, once the round is settled: it is told its answer.
+    /// Completes its turn once the batch has ended: sends its response.
     pub(crate) fn tell(
         &mut self,
         alloc: Global,

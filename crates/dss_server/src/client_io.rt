@@ -1,4 +1,4 @@
-//! A client's socket with its connection, and the bytes that move between the two.
+//! A client's socket with its HTTP connection, and the bytes that move between the two.
 ghost use Rattle.std.specs.Prelude.{◌≡◌};
 ghost use Rattle.service_calls.specs.Service.{reply_of};
 ghost use Rattle.service_step.specs.declared.call_fault.CallFault.TheVariants as halts;
@@ -18,39 +18,39 @@ use std::io::ErrorKind;
 use std::net::SocketAddrV4;
 use wire_http::{Connection, Moments, Outcome, RequestInfo, Step, StreamFault};
 
-/// What a reading did.
+/// What a read did.
 #[derive(Clone, Copy, Debug, PartialEq, Eq)]
 pub(crate) enum ReadOutcome {
-    /// So many bytes came.
+    /// So many bytes arrived.
     Chunk(usize),
-    /// Nothing more comes.
+    /// No more bytes follow.
     End,
-    /// Nothing is there yet.
+    /// Nothing has arrived yet.
     Nothing,
 }
 
-/// What a writing did.
+/// What a write did.
 #[derive(Clone, Copy, Debug, PartialEq, Eq)]
 pub(crate) enum WriteOutcome {
-    /// Bytes were taken.
+    /// The socket took bytes.
     Some,
-    /// None can be taken yet.
+    /// The socket takes no bytes yet.
     Nothing,
 }
 
-/// An answer, and what it was to.
+/// A response, and the request that it answers.
 #[derive(Clone, Copy, Debug, PartialEq, Eq)]
 pub(crate) struct ResponseInfo {
-    /// What was asked for, where that is an operation.
+    /// The requested operation, if the request names one.
     pub(crate) operation: Option<OpKind>,
-    /// How it ended.
+    /// The outcome of the request.
     pub(crate) outcome: Outcome,
-    /// How many bytes the answer has.
+    /// The size of the response in bytes.
     pub(crate) size: usize,
 }
 
 impl ResponseInfo {
-    /// Its status.
+    /// Returns its status.
     pub(crate) fn status(&self) -> u16 {
         match self.outcome {
             Outcome::Done => match self.operation {
@@ -64,7 +64,7 @@ impl ResponseInfo {
         }
     }
 
-    /// The rule by which the request was refused, if it was.
+    /// Returns the rule that denied the request, if any.
     pub(crate) fn denial(&self) -> Option<Denial> {
         match self.outcome {
             Outcome::Denied(rule) => Some(Denial::Policy(rule)),
@@ -73,7 +73,7 @@ impl ResponseInfo {
         }
     }
 
-    /// Whether a change was asked for.
+    /// Returns true if the request was for a change.
     pub(crate) fn is_to_change(&self) -> bool {
         match self.operation {
             Some(
@@ -97,7 +97,7 @@ impl ResponseInfo {
     }
 }
 
-// What is told in the place of an answer whose changes were not kept.
+// Returns the reply that replaces one whose changes were not committed.
 fn reply_to(fault: SpaceFault) -> Reply
     ensures { result ≡ reply_of (halts.Space fault) }
 {
@@ -107,7 +107,7 @@ fn reply_to(fault: SpaceFault) -> Reply
     }
 }
 
-/// A client's socket with its connection.
+/// A client's socket with its HTTP connection.
 #[derive(Drop)]
 pub(crate) struct ClientIo<T> {
     socket: T,
@@ -123,7 +123,7 @@ impl<T: Socket> ClientIo<T> {
     ghost use Rattle.wire_http.specs.BufferState.{max_buffered};
     ghost use Rattle.dss_server.specs.Serve.{GoesOn};
 
-    /// A client of which nothing has come.
+    /// Creates a client that has sent nothing.
     pub(crate) fn new(alloc: Global, socket: T) -> ClientIo<T>
         ensures socket { socket_of result ≡ socket }
         ensures fresh { IsFresh (connection_of result) }
@@ -134,54 +134,54 @@ impl<T: Socket> ClientIo<T> {
         }
     }
 
-    /// The address and the port of the client, where the system told them.
+    /// Returns the address and port of the client, if the system returned them.
     pub(crate) fn client(&self) -> Option<SocketAddrV4> {
         self.socket.client()
     }
 
-    /// How many bytes of requests are held.
+    /// Returns the number of buffered bytes of requests.
     pub(crate) fn bytes_held(&self) -> usize
         ensures { result ≡ length (held_of (connection_of self.now)) }
     {
         self.connection.buffered_len()
     }
 
-    /// How many bytes more of requests may be held.
+    /// Returns how many more bytes of requests fit the buffer.
     pub(crate) fn room(&self) -> usize
         ensures { result ≡ max_buffered - length (held_of (connection_of self.now)) }
     {
         self.connection.remaining_capacity()
     }
 
-    /// Whether bytes are held that belong to no earlier request.
+    /// Returns true if bytes are buffered that belong to no earlier request.
     pub(crate) fn holds_any(&self) -> bool
         ensures { IsTrue result ↔ (0 < length (held_of (connection_of self.now))) }
     {
         self.connection.has_buffered()
     }
 
-    /// Whether bytes of answers are to be sent, beside those that are held back.
+    /// Returns true if there are bytes to send, apart from deferred ones.
     pub(crate) fn wants_write(&self) -> bool
         ensures { IsTrue result ↔ (0 < length (ready_of (connection_of self.now))) }
     {
         self.connection.wants_write()
     }
 
-    /// Whether an answer is held back.
+    /// Returns true if a response is deferred.
     pub(crate) fn holds_back(&self) -> bool
         ensures { result ≡ holds_back (connection_of self.now) }
     {
         self.connection.has_deferred()
     }
 
-    /// How many bytes of it there are.
+    /// Returns the size of the deferred response in bytes.
     pub(crate) fn bytes_held_back(&self) -> usize
         ensures { result ≡ length (held_back_of (connection_of self.now)) }
     {
         self.connection.deferred().len()
     }
 
-    /// The answer that is to be sent, where there is just one and it is not held back.
+    /// Returns the response that is to be sent, if there is exactly one and it is not deferred.
     pub(crate) fn answer(&self) -> Option<ResponseInfo> {
         let size = self.connection.output().len();
         if size == 0 {
@@ -195,21 +195,21 @@ impl<T: Socket> ClientIo<T> {
         })
     }
 
-    /// What the last answer was to.
+    /// Returns the request of the last response.
     pub(crate) fn noted(&self) -> Option<&RequestInfo>
         ensures { option_map (λ noted. noted.now) result ≡ noted_of (connection_of self.now) }
     {
         self.connection.last_request()
     }
 
-    /// Whether no request more is answered.
+    /// Returns true if no more requests are answered.
     pub(crate) fn is_done(&self) -> bool
         ensures { result ≡ is_done (connection_of self.now) }
     {
         self.connection.is_done()
     }
 
-    /// Reads at most so many bytes of requests, and no more than there is room for.
+    /// Reads at most `most` bytes of requests, and no more than there is room for.
     pub(crate) fn receive(&mut self, most: usize) -> Result<ReadOutcome, StreamFault>
         ensures { IfOk result (Receives T.coming T.gone self.old self.new) }
     {
@@ -234,7 +234,7 @@ impl<T: Socket> ClientIo<T> {
         }
     }
 
-    /// Sends what it can of the answers.
+    /// Sends as much of the responses as the socket takes.
     pub(crate) fn send(&mut self) -> Result<WriteOutcome, StreamFault>
         ensures { IfOk result (Sends T.coming T.gone self.old self.new) }
     {
@@ -251,7 +251,7 @@ impl<T: Socket> ClientIo<T> {
         }
     }
 
-    // Lets the last answer go, unless changes waited before it or wait after it.
+    // Releases the last response, unless changes were pending before it or are pending after it.
     fn let_go_unless(&mut self, waited: bool, waits: bool)
         ensures goes { ReleasesUnless (waited || waits)
             (connection_of self.old) (connection_of self.new) }
@@ -266,8 +266,8 @@ impl<T: Socket> ClientIo<T> {
         self.connection.release_deferred();
     }
 
-    /// Answers the next request, if it is held whole, or ends the connection's requests. An answer
-    /// is held back where changes wait to be kept, before the call or after it.
+    /// Answers the next request if it is complete, or ends the requests of the connection. Defers
+    /// the response if changes are pending before the call or after it.
     pub(crate) fn ask<S: GroupCommit + Drop, M: Moments>(
         &mut self,
         desk: RequestContext<'_>,
@@ -298,8 +298,8 @@ impl<T: Socket> ClientIo<T> {
         Ok(step)
     }
 
-    /// Tells the answer that is held back, by how its round was settled. Without memory nothing of
-    /// it is told.
+    /// Releases or replaces the deferred response, given the result of its commit. If memory runs
+    /// out, nothing of it is sent.
     pub(crate) fn tell(
         &mut self,
         alloc: Global,
@@ -317,12 +317,12 @@ impl<T: Socket> ClientIo<T> {
         }
     }
 
-    /// Says that no answer more is sent. `false`: nobody is there to be told.
+    /// Ends sending. Returns false if the client is gone.
     pub(crate) fn end_sending(&mut self) -> bool {
         self.socket.end_sending().is_ok()
     }
 
-    /// Reads one piece and forgets it.
+    /// Reads and discards one chunk.
     pub(crate) fn skip(&mut self) -> Result<ReadOutcome, StreamFault> {
         let mut chunk = [0; CHUNK];
         match self.socket.receive(&mut chunk) {

@@ -1,9 +1,9 @@
-//! The clients whose answers are held back until the round is settled.
+//! The clients whose responses are deferred until the batch ends.
 use crate::limits::{HELD_BACK_BYTES, MOST_HELD_BACK};
 use std::alloc::{AllocError, Global};
 use std::collections::VecDeque;
 
-/// The keys of those clients, in the order in which they were answered.
+/// The keys of those clients, in the order of their responses.
 #[derive(Drop)]
 pub(crate) struct DeferredClients {
     keys: VecDeque<usize>,
@@ -11,7 +11,7 @@ pub(crate) struct DeferredClients {
 }
 
 impl DeferredClients {
-    /// None, with room for as many as wait at most.
+    /// Creates an empty queue with room for the maximum number of clients.
     pub(crate) fn new(alloc: Global) -> Result<DeferredClients, AllocError> {
         Ok(DeferredClients {
             keys: VecDeque::with_capacity(alloc, MOST_HELD_BACK)?,
@@ -19,18 +19,19 @@ impl DeferredClients {
         })
     }
 
-    /// Puts a client behind them, whose answer has so many bytes. `false`: there is no room for it.
+    /// Appends a client whose response has so many bytes. Returns false if the queue is full.
     pub(crate) fn push(&mut self, key: usize, bytes: usize) -> bool {
         self.bytes = self.bytes.saturating_add(bytes);
         self.keys.push_back(key).is_ok()
     }
 
-    /// Whether as many wait as may, or their answers have as many bytes.
+    /// Returns true if the maximum number of clients waits, or their responses reach the maximum
+    /// size.
     pub(crate) fn are_enough(&self) -> bool {
         self.keys.len() >= MOST_HELD_BACK || self.bytes >= HELD_BACK_BYTES
     }
 
-    /// Takes the first of them away.
+    /// Removes and returns the first client.
     pub(crate) fn pop(&mut self) -> Option<usize> {
         let key = self.keys.pop_front();
         if self.keys.is_empty() {

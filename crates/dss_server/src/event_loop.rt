@@ -1,4 +1,4 @@
-//! All clients of a port, and whose turn it is.
+//! The event loop over all clients of a port.
 ghost use Rattle.std.specs.Prelude.{◌≡◌, ◌⊎◌, IsSome, IsTrue, Result};
 ghost use Rattle.token_conf.specs.TokenFile.{callers_of};
 ghost use Rattle.service_calls.specs.Batches.{IsCommitted};
@@ -35,7 +35,7 @@ use std::time::Duration;
 use std::{io, mem};
 use wire_http::{Moments, StreamFault};
 
-// What is counted of a fault.
+// Returns the metric under which a fault counts.
 fn cause_of(fault: StreamFault) -> ConnectionFailure {
     match fault {
         StreamFault::Read => ConnectionFailure::Read,
@@ -53,25 +53,25 @@ pub(crate) struct EventLoop<N: Sockets> {
     sockets: N,
     peers: Slab<ClientConnection<N::Client>>,
     clients: usize,
-    // the keys of those that have a turn next, an empty list for those after them, and the keys of
-    // those that wait for a place
+    // The keys of the clients that have a turn next, a spare vector for the next turns, and the
+    // keys of the clients that wait for a slot.
     next: Vec<usize>,
     spare: Vec<usize>,
     wanting: VecDeque<usize>,
     places: usize,
-    // those whose answers are held back in a round: none after it
+    // The clients whose responses are deferred in a batch. Empty after it.
     held_back: DeferredClients,
-    // how many connections may still be accepted, if they are counted, how many were, whether one
-    // may wait, and until when the system has no room for it
+    // How many connections may still be accepted (if limited), how many were accepted, whether one
+    // may wait, and until when the system has no room for it.
     left: Option<u64>,
     accepted: u64,
     waiting: bool,
     full_until: Duration,
-    // how many clients have their last answer, and when it was last looked for late ones
+    // How many clients have their last response, and when late clients were last looked for.
     ending: usize,
     looked: Duration,
-    // what operators are told, and until when clients are waited for, where one told the service to
-    // end
+    // The metrics, the store watch, the purger, the admin port, and the deadline of a requested
+    // stop.
     figures: ServiceMetrics,
     store: StoreWatch,
     purger: Purger,
@@ -80,8 +80,8 @@ pub(crate) struct EventLoop<N: Sockets> {
 }
 
 impl<N: Sockets + Drop> EventLoop<N> {
-    /// A port without clients. What it needs of memory for the most of them is taken here, so that
-    /// no client is forgotten later for want of it.
+    /// Creates an event loop without clients. Allocates the memory for the maximum number of
+    /// clients here, so that no client is dropped later for lack of it.
     pub(crate) fn new(
         alloc: Global,
         sockets: N,
@@ -119,17 +119,17 @@ impl<N: Sockets + Drop> EventLoop<N> {
         })
     }
 
-    /// Whether no connection may come and none is left.
+    /// Returns true if no connection may come and none is left.
     pub(crate) fn is_done(&self) -> bool {
         self.left == Some(0) && self.peers.is_empty()
     }
 
-    /// The time since some start.
+    /// Returns the monotonic time.
     pub(crate) fn time(&self) -> io::Result<Duration> {
         self.sockets.monotonic_time()
     }
 
-    // Whether a client may be taken in, if the system has room for it.
+    // Returns true if a client can be accepted, if the system has room for it.
     fn has_room(&self) -> bool {
         self.waiting
             && self.stopping.is_none()
@@ -137,8 +137,8 @@ impl<N: Sockets + Drop> EventLoop<N> {
             && self.peers.len() < self.clients
     }
 
-    // How long the system may wait for something to tell: at most until the token file is looked
-    // at, and not at all while there may be more that has ended.
+    // Returns how long the system may wait for events: at most until the token file is checked, and
+    // not at all while a purge is in progress.
     fn patience(&self, now: Duration) -> Duration {
         if self.purger.goes_on() {
             return Duration::from_millis(0);
@@ -150,7 +150,7 @@ impl<N: Sockets + Drop> EventLoop<N> {
         }
     }
 
-    // How long it may do so for the clients.
+    // Returns how long it may wait for the clients.
     fn patience_for_clients(&self, now: Duration) -> Duration {
         if !self.next.is_empty() {
             return Duration::from_millis(0);
@@ -165,7 +165,7 @@ impl<N: Sockets + Drop> EventLoop<N> {
         })
     }
 
-    // Gives a client a turn next.
+    // Queues a client for its next turn.
     fn queue(&mut self, key: usize) {
         if let Some(peer) = self.peers.get_mut(key)
             && !peer.is_queued()
@@ -174,7 +174,7 @@ impl<N: Sockets + Drop> EventLoop<N> {
         }
     }
 
-    // Notes what the system told.
+    // Records a socket event.
     fn note(&mut self, told: SocketEvent) {
         match told.which {
             EventSource::Port => self.waiting = true,
@@ -189,7 +189,7 @@ impl<N: Sockets + Drop> EventLoop<N> {
         }
     }
 
-    /// Waits until a client or the system has something to tell, and notes it.
+    /// Waits until the system reports events, and records them.
     pub(crate) fn wait(&mut self, now: Duration) -> io::Result<()> {
         let patience = self.patience(now);
         self.sockets.wait(Some(patience))?;
@@ -202,7 +202,7 @@ impl<N: Sockets + Drop> EventLoop<N> {
         Ok(())
     }
 
-    // Takes in a client. One that cannot be watched, or kept for want of memory, is closed.
+    // Adds a client. Closes it if it cannot be watched, or if memory runs out.
     fn take_in(&mut self, mut socket: N::Client, now: Duration) {
         if let Some(left) = self.left {
             self.left = Some(left.saturating_sub(1));
@@ -221,8 +221,8 @@ impl<N: Sockets + Drop> EventLoop<N> {
         }
     }
 
-    /// Accepts the connections that wait, as far as there is room. Where the system has none, it is
-    /// tried again a little later.
+    /// Accepts waiting connections, as far as there is room. If the system has none, it tries again
+    /// a little later.
     pub(crate) fn accept(&mut self, now: Duration) -> io::Result<()> {
         self.operators.accept(&mut self.sockets, now);
         for _ in 0..MAX_CONNECTIONS {
@@ -242,7 +242,7 @@ impl<N: Sockets + Drop> EventLoop<N> {
         Ok(())
     }
 
-    // Gives the places that are free to those that wait for one, in the order in which they came.
+    // Gives free slots to the clients that wait for one, in the order of their arrival.
     fn give_places(&mut self, now: Duration) {
         for _ in 0..usize::MAX {
             if self.places == 0 {
@@ -261,7 +261,7 @@ impl<N: Sockets + Drop> EventLoop<N> {
         }
     }
 
-    // Lets a client wait for a place. For want of memory it is late some time.
+    // Makes a client wait for a slot. If memory runs out, the client times out.
     fn ask_for_place(&mut self, key: usize, now: Duration) {
         if let Some(peer) = self.peers.get_mut(key)
             && !peer.wants_place()
@@ -272,7 +272,7 @@ impl<N: Sockets + Drop> EventLoop<N> {
         self.give_places(now);
     }
 
-    // Takes the place from a client that needs it no more.
+    // Frees the slot of a client that no longer needs it.
     fn free_place(&mut self, key: usize, now: Duration) {
         if let Some(peer) = self.peers.get_mut(key)
             && peer.can_leave_place()
@@ -297,7 +297,7 @@ impl<N: Sockets + Drop> EventLoop<N> {
         }
     }
 
-    // Gives up a client: what was sent before is still to be read by it.
+    // Aborts a client. It can still read what was sent before.
     fn give_up(&mut self, key: usize, now: Duration) -> TurnOutcome {
         match self.peers.get_mut(key) {
             Some(peer) => peer.end(now),
@@ -305,7 +305,7 @@ impl<N: Sockets + Drop> EventLoop<N> {
         }
     }
 
-    // Closes a client of a service that ends, once it has all its answers.
+    // Closes a client while the service ends, once it has all its responses.
     fn end_after(&mut self, key: usize, turned: TurnOutcome, now: Duration) -> TurnOutcome {
         match self.peers.get_mut(key) {
             Some(peer) => peer.end_after(turned, now),
@@ -313,7 +313,7 @@ impl<N: Sockets + Drop> EventLoop<N> {
         }
     }
 
-    // Has a client wait until the round is settled.
+    // Makes a client wait for the end of the batch.
     fn hold_back(&mut self, key: usize) -> TurnOutcome {
         let Some(peer) = self.peers.get(key) else {
             return TurnOutcome::Gone;
@@ -325,7 +325,7 @@ impl<N: Sockets + Drop> EventLoop<N> {
         }
     }
 
-    // Does with a client what its turn has shown.
+    // Acts on the outcome of a client's turn.
     fn act_on<J: ServerLog>(
         &mut self,
         key: usize,
@@ -359,7 +359,7 @@ impl<N: Sockets + Drop> EventLoop<N> {
         self.free_place(key, now);
     }
 
-    // Whether a client has its last answer.
+    // Returns true if a client has its last response.
     fn is_ending(&self, key: usize) -> bool {
         match self.peers.get(key) {
             Some(peer) => peer.is_ending(),
@@ -367,14 +367,14 @@ impl<N: Sockets + Drop> EventLoop<N> {
         }
     }
 
-    // Counts a client that has its last answer now.
+    // Counts a client that got its last response in this turn.
     fn count_ending(&mut self, key: usize, was_ending: bool) {
         if !was_ending && self.is_ending(key) {
             self.ending = self.ending.saturating_add(1);
         }
     }
 
-    // Counts what a client was told in its turn, and does what that has shown.
+    // Records and logs the response of a client's turn, and acts on the outcome of the turn.
     fn conclude<J: ServerLog>(
         &mut self,
         key: usize,
@@ -410,7 +410,7 @@ impl<N: Sockets + Drop> EventLoop<N> {
         self.act_on(key, turned, now, journal);
     }
 
-    // Gives a client its turn.
+    // Runs the turn of a client.
     fn turn<S: GroupCommit + Drop, M: Moments, J: ServerLog>(
         &mut self,
         key: usize,
@@ -438,7 +438,7 @@ impl<N: Sockets + Drop> EventLoop<N> {
         self.count_ending(key, was_ending);
     }
 
-    // Tells a client the answer that was held back, by how its round was settled.
+    // Sends a client its deferred response, given the result of the commit.
     fn tell<J: ServerLog>(
         &mut self,
         key: usize,
@@ -455,7 +455,7 @@ impl<N: Sockets + Drop> EventLoop<N> {
         self.count_ending(key, was_ending);
     }
 
-    // Counts what became of changes, and tells what there is to tell of the store.
+    // Counts the outcome of a commit, and logs a change of the store's state.
     fn record_commit<J: ServerLog>(
         &mut self,
         fate: Option<CommitOutcome>,
@@ -484,7 +484,7 @@ impl<N: Sockets + Drop> EventLoop<N> {
         }
     }
 
-    // Settles what the clients were answered, and has each be told that waits for it.
+    // Commits the batch, and sends each deferred response.
     fn commit_batch<S: GroupCommit + Drop, J: ServerLog>(
         &mut self,
         service: &mut Service<S>,
@@ -505,7 +505,7 @@ impl<N: Sockets + Drop> EventLoop<N> {
         }
     }
 
-    // Settles it where enough clients wait for that.
+    // Commits the batch if enough clients wait for it.
     fn commit_if_full<S: GroupCommit + Drop, J: ServerLog>(
         &mut self,
         service: &mut Service<S>,
@@ -521,9 +521,10 @@ impl<N: Sockets + Drop> EventLoop<N> {
         self.commit_batch(service, now, journal);
     }
 
-    /// Gives each client that has one its turn, and settles what they were answered. Each answer
-    /// that waits for that is told then: before the changes are kept, no answer to one, nor one
-    /// that has seen it, is sent. Where many wait, the round is settled more than once.
+    /// Runs the turn of each queued client, and commits their batch.
+    ///
+    /// No response to a change, nor one that reflects it, is sent before the commit. If many
+    /// clients wait, it commits more than once.
     pub(crate) fn run_once<S: GroupCommit + Drop, M: Moments, J: ServerLog>(
         &mut self,
         desk: RequestContext<'_>,
@@ -549,13 +550,13 @@ impl<N: Sockets + Drop> EventLoop<N> {
         self.spare = keys;
     }
 
-    /// Has what was told of a round's requests written.
+    /// Flushes the log lines of the iteration.
     pub(crate) fn flush_log<J: ServerLog>(&mut self, journal: &mut J) {
         self.figures.faults.lost_lines = journal.flush();
     }
 
-    /// Lets go of a piece of what had ended so many seconds ago, where that is due. Without a
-    /// number nothing goes.
+    /// Purges a chunk of what ended at least `keep` seconds ago, if a purge is due. Without a
+    /// retention it purges nothing.
     pub(crate) fn purge<S: PurgeEnded + Drop, M: Moments, J: ServerLog>(
         &mut self,
         keep: Option<u64>,
@@ -580,7 +581,7 @@ impl<N: Sockets + Drop> EventLoop<N> {
         self.record_commit(outcome_of_purge(purged), now, journal);
     }
 
-    // Ends a client that was waited for long enough.
+    // Ends a client whose timeout has passed.
     fn end_late<J: ServerLog>(&mut self, key: usize, now: Duration, journal: &mut J) {
         let Some(peer) = self.peers.get(key) else {
             return;
@@ -597,7 +598,7 @@ impl<N: Sockets + Drop> EventLoop<N> {
         self.count_ending(key, was_ending);
     }
 
-    /// Ends those that were waited for long enough.
+    /// Ends all clients whose timeout has passed.
     pub(crate) fn look<J: ServerLog>(&mut self, now: Duration, journal: &mut J) {
         let gap = if self.ending > 0 { LOOKS_SOON } else { LOOKS };
         if now.saturating_sub(self.looked) < Duration::from_millis(gap) {
@@ -609,7 +610,7 @@ impl<N: Sockets + Drop> EventLoop<N> {
         }
     }
 
-    // How many clients wait for a place.
+    // Returns how many clients wait for a slot.
     fn waiting_for_places(&self) -> usize {
         let mut count = 0_usize;
         for key in &self.wanting {
@@ -622,7 +623,7 @@ impl<N: Sockets + Drop> EventLoop<N> {
         count
     }
 
-    // Begins to end: none is accepted any more, and each client has a turn.
+    // Begins the stop: accepts no more clients, and queues a turn for each.
     fn stop(&mut self, now: Duration) {
         self.stopping = Some(now.saturating_add(Duration::from_millis(STOPPING)));
         self.figures.stop();
@@ -631,9 +632,9 @@ impl<N: Sockets + Drop> EventLoop<N> {
         }
     }
 
-    /// Answers operators, where there may be any, shows them what the service keeps, which stays as
-    /// it is, and makes a piece of a backup that one asked for. `true`: one told the service to
-    /// end, and it has ended.
+    /// Answers the admin port, if there is one, from a snapshot that does not change the service,
+    /// and makes a step of a requested backup. Returns true if an operator requested the stop and
+    /// it is complete.
     pub(crate) fn serve_operators<S: GroupCommit + SnapshotSource + Drop>(
         &mut self,
         operated: Option<BuildInfo<'_>>,
@@ -649,12 +650,12 @@ impl<N: Sockets + Drop> EventLoop<N> {
         }
     }
 
-    /// Shows operators what was counted of the token file.
+    /// Sets the metrics of the token file.
     pub(crate) fn show_tokens(&mut self, tokens: TokenMetrics) {
         self.figures.tokens = tokens;
     }
 
-    // Answers operators.
+    // Answers the admin port.
     fn answer_operators(
         &mut self,
         build: BuildInfo<'_>,
@@ -677,7 +678,7 @@ impl<N: Sockets + Drop> EventLoop<N> {
         self.operators.run_once(board, &mut self.sockets, now);
     }
 
-    // Answers operators. Whether the service has ended, where one told it to.
+    // Answers the admin port. Returns true if a requested stop is complete.
     fn has_ended(
         &mut self,
         build: BuildInfo<'_>,

@@ -1,4 +1,5 @@
-//! The command `serve`, below the system: the requests of many clients, answered on one thread.
+//! The command `serve` above the operating system: answers the requests of many clients on one
+//! thread.
 #![tactic(auto)]
 
 mod admin_connection;

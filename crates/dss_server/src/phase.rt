@@ -1,22 +1,22 @@
-//! What a connection is waited for.
+//! The phases of a connection.
 use crate::limits::{ENDING, IDLE, SENDING, TAKING};
 use std::time::Duration;
 
-/// What a connection is waited for.
+/// The event that a connection waits for.
 #[derive(Clone, Copy, Debug, PartialEq, Eq)]
 pub enum Phase {
     /// The first byte of a request.
     Idle,
     /// The rest of a request.
     Sending,
-    /// That it takes its answers.
+    /// The client's read of its responses.
     Taking,
-    /// The end of what it sends, after its last answer.
+    /// The client's close, after the last response.
     Ending,
 }
 
 impl Phase {
-    /// How long it is waited for.
+    /// Returns the timeout of the phase.
     pub(crate) fn patience(self) -> Duration {
         Duration::from_millis(match self {
             Phase::Idle => IDLE,

@@ -1,4 +1,4 @@
-//! When what has ended is let go of, and how much of it at once.
+//! When ended entities are purged, and how many at once.
 ghost use Rattle.std.specs.Prelude.{Some};
 ghost use Rattle.dss_server.specs.Serve.{MayPurge};
 
@@ -9,23 +9,23 @@ use std::mem;
 use std::time::Duration;
 use wire_http::Moments;
 
-// How many intents, constraints and subscriptions go between two rounds, at most: so few that no
-// client waits much longer for that than for a round of others.
+// The maximum number of intents, constraints and subscriptions that one chunk purges. A client
+// waits hardly longer for a chunk than for a batch of other clients.
 const CHUNK: usize = 16;
 
-// How often it is looked for what has ended, in seconds.
+// The interval between purges, in seconds.
 const GAP: u64 = 60;
 
-/// Why nothing went.
+/// The reason why nothing was purged.
 #[derive(Clone, Copy, Debug, PartialEq, Eq)]
 pub(crate) enum PurgeFault {
-    /// The clock told no moment.
+    /// The clock failed.
     Clock,
-    /// The service could not let go of it.
+    /// The service failed.
     Space(SpaceFault),
 }
 
-// Lets go of a piece of what had ended so many seconds before the moment that the clock tells.
+// Purges a chunk of what ended at least `keep` seconds before the time of the clock.
 fn chunk<S: PurgeEnded + Drop, M: Moments>(
     keep: u64,
     service: &mut Service<S>,
@@ -44,19 +44,21 @@ fn chunk<S: PurgeEnded + Drop, M: Moments>(
     }
 }
 
-/// When what has ended is let go of: once a minute a piece, and, while there was some, one more
-/// after each second round. An answer to a change is written in the round after the one that kept
-/// it, so nobody waits for two pieces.
+/// The schedule of purges: one chunk a minute and, while chunks find something, one more after
+/// every second batch.
+///
+/// The response to a change is written in the iteration after its commit, so no client waits for
+/// two chunks.
 #[derive(Clone, Copy, Debug)]
 pub(crate) struct Purger {
     due: Duration,
     goes_on: bool,
-    // whether the next round goes by without a piece
+    // True if the next iteration runs no chunk.
     rests: bool,
 }
 
 impl Purger {
-    /// It is due at once.
+    /// Creates a schedule whose first purge is due at once.
     pub(crate) fn new() -> Purger {
         Purger {
             due: Duration::from_secs(0),
@@ -65,13 +67,13 @@ impl Purger {
         }
     }
 
-    /// Whether there may be more that has ended than went last.
+    /// Returns true if the last chunk purged something, so that there may be more.
     pub(crate) fn goes_on(&self) -> bool {
         self.goes_on
     }
 
-    /// Lets go of a piece of what had ended so many seconds ago, where that is due, and tells how
-    /// many intents, constraints and subscriptions went.
+    /// Purges a chunk of what ended at least `keep` seconds ago, if one is due. Returns how many
+    /// intents, constraints and subscriptions were purged.
     pub(crate) fn purge<S: PurgeEnded + Drop, M: Moments>(
         &mut self,
         keep: u64,

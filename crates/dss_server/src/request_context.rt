@@ -1,9 +1,9 @@
-//! What each request is answered with, whoever asks.
+//! The request context, the same for all clients.
 use std::alloc::Global;
 use token_conf::token_table::TokenTable;
 use wire_route::routes::Routes;
 
-/// What each request is answered with.
+/// The routes and tokens from which requests are answered.
 #[derive(Clone, Copy)]
 pub(crate) struct RequestContext<'a> {
     pub(crate) alloc: Global,

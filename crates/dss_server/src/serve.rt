@@ -19,7 +19,7 @@ use token_conf::token_table::TokenTable;
 use wire_http::Moments;
 use wire_route::routes::Routes;
 
-// The table in force: the one that was taken last, or else the first.
+// Returns the active table: the one loaded last, or the first.
 fn in_force<'a>(first: &'a TokenTable, newer: &'a Option<TokenTable>) -> &'a TokenTable
     ensures { result.now ≡ unwrap_or newer.now first.now }
 {
@@ -29,38 +29,37 @@ fn in_force<'a>(first: &'a TokenTable, newer: &'a Option<TokenTable>) -> &'a Tok
     }
 }
 
-/// Answers the requests of the clients that are accepted, until so many connections were accepted
-/// as the limits tell and the last of them is closed; without such a number it goes on.
+/// Answers the requests of the accepted clients, until the number of connections in `limits` was
+/// accepted and the last of them is closed. Without such a number it runs on.
 ///
-/// Calls are made one after the other: whatever the clients do, and in whatever order, the service
-/// was asked one list of calls, each made by a request that bears the token of its caller. Each
-/// client that has something to do has a turn before any has its second.
+/// Calls are executed one after the other, in one order for all clients. Each is made by a request
+/// that bears the token of its caller. Each client that has something to do has a turn before any
+/// client has its second.
 ///
-/// Calls are made in rounds, of one turn of each client. The changes of a round are kept at its
-/// end, all of them or none, and no answer to a change, nor one that has seen it, is sent before
-/// that. Where they are not kept, each of those answers is told as a fault: several clients have
-/// status 500 then, or 503 where the service has stopped. When the function returns, every round
-/// has ended so.
+/// Calls are made in batches, of one turn of each client. The changes of a batch are committed at
+/// its end, all or none. No response to a change, nor one that reflects it, is sent before that. If
+/// the commit fails, each of those responses is replaced by a fault: several clients then get
+/// status 500, or 503 if the service has stopped. When the function returns, every batch has ended
+/// in this way.
 ///
-/// Each call is made at a moment of the clock, which tells one for each request: only where it
-/// fails, or memory lacks, is a request not asked.
+/// Each call is made at a time of the clock, which is read once for each request. A request is not
+/// executed only if the clock fails or memory runs out.
 ///
-/// Each call is judged by one table of tokens. The token file is looked at each second, between two
-/// rounds: where it has changed and reads whole, with the same salt, its table is in force from
-/// then on, and else it is told to the journal why not.
+/// Each call is checked against one token table. The token file is checked each second, between two
+/// batches. If it has changed and is valid, with the same salt, its table becomes active. Otherwise
+/// the reason is logged.
 ///
-/// What had ended so many seconds before a moment that the clock told may go, where a number of
-/// them is given to keep: of intents, constraints and subscriptions a piece at a time, between two
-/// rounds. Without such a number nothing goes.
+/// With a retention, what ended at least that many seconds before a time of the clock is purged:
+/// intents, constraints and subscriptions, a chunk at a time, between two batches. Without a
+/// retention nothing is purged.
 ///
-/// With a build there is an operator's port, whose connections are answered in the same rounds;
-/// nothing that is asked there is a call of the service. What it keeps is shown there by `&`, so
-/// that it is the same before and after. Backups that are asked for there are made between rounds,
-/// piece by piece.
+/// With a build there is an admin port, whose connections are answered in the same iterations. An
+/// admin request is no call of the service. It reads the service by `&`, so the service is the same
+/// before and after. Backups are made between batches, step by step.
 ///
-/// It is done only where a number of connections is given, or an operator may tell it to end. An
-/// error is one of the system that ends the service; the calls before it stand. A fault of a client
-/// is told to the journal, and ends that client's connection alone.
+/// Returns `Ok` only if the number of connections is limited, or an operator can stop the service.
+/// Returns an error of the system that ends the service; the calls before it stand. A fault of a
+/// client is logged, and ends only the connection of that client.
 pub fn serve_clients<
     S: PurgeEnded + SnapshotSource + Drop,
     M: Moments,
@@ -110,6 +109,6 @@ pub fn serve_clients<
             return Ok(());
         }
     }
-    // nobody waits for so many rounds
+    // more iterations than can ever run
     Err(io::Error::from(ErrorKind::TimedOut))
 }

@@ -1,68 +1,67 @@
-//! Where requests, and the faults of clients, of the token file and of the store, are told.
+//! The log of requests, and of faults of clients, of the token file and of the store.
 use crate::phase::Phase;
 use crate::token_watch::TokenReloadFault;
 use std::net::SocketAddrV4;
 use std::time::Duration;
 use wire_http::{RequestInfo, StreamFault};
 
-/// What there is to tell of the store.
+/// A change of the store's state.
 #[derive(Clone, Copy, Debug, PartialEq, Eq)]
 pub enum StoreEvent {
-    /// It did not keep changes that it was given, for the first time since it kept one.
+    /// A commit failed, for the first time since the last successful commit.
     CommitFailed,
-    /// So many failures more came since that was told last.
+    /// So many more commits failed since the last report.
     StillFailing(u64),
-    /// It kept a change, after so many failures.
+    /// A commit succeeded after so many failures.
     Recovered(u64),
-    /// It failed so that no call is answered any more.
+    /// The store failed for good, so that no call is answered any more.
     Stopped,
 }
 
-/// A request that was answered, as a log tells it.
+/// An answered request, as the log prints it.
 #[derive(Clone, Copy, Debug)]
 pub struct LoggedRequest<'a> {
-    /// The number of its connection, which count up from 1 since the start.
+    /// The number of its connection. Connections count up from 1 since the start.
     pub connection: u64,
-    /// What the answer was to.
+    /// The request that was answered.
     pub noted: &'a RequestInfo,
-    /// The status of the answer.
+    /// The status of the response.
     pub status: u16,
-    /// How many bytes the answer has.
+    /// The size of the response in bytes.
     pub size: usize,
-    /// How long it took from when the request was held whole to when its answer may be sent, where
-    /// the clock told.
+    /// The time from the complete request until the response may be sent, if the clock returned it.
     pub took: Option<Duration>,
 }
 
-/// A connection that was given up.
+/// A connection that was aborted.
 #[derive(Clone, Copy, Debug)]
 pub struct AbortedConnection {
-    /// The address and the port of its client, where the system told them.
+    /// The address and port of its client, if the system returned them.
     pub client: Option<SocketAddrV4>,
-    /// Its number, which count up from 1 since the start.
+    /// Its number. Connections count up from 1 since the start.
     pub connection: u64,
-    /// What it was waited for.
+    /// The phase in which it was aborted.
     pub phase: Phase,
 }
 
-/// Where requests, and the faults of clients, of a token file that changed and of the store, are
-/// told. None of them ends the service.
+/// A log of requests, and of faults of clients, of a changed token file and of the store.
+///
+/// No such fault ends the service.
 pub trait ServerLog {
-    /// A connection was given up for that reason.
+    /// Logs a connection that was aborted for that reason.
     fn connection_failed(&mut self, fault: StreamFault, given_up: AbortedConnection);
 
-    /// A token file that changed was not taken, for that reason: the tokens before it stay in
-    /// force.
+    /// Logs a changed token file that was rejected for that reason. The tokens before it stay
+    /// active.
     fn tokens_rejected(&mut self, fault: TokenReloadFault);
 
-    /// There is something to tell of the store. By itself it tells nothing.
+    /// Logs a change of the store's state. The default logs nothing.
     fn store_event(&mut self, _news: StoreEvent) {}
 
-    /// A request was answered. By itself it tells nothing.
+    /// Logs an answered request. The default logs nothing.
     fn request_answered(&mut self, _request: &LoggedRequest<'_>) {}
 
-    /// A round has ended: what is told of its requests may be written. How many of them could not
-    /// be told of since the start.
+    /// Flushes the lines of an iteration. Returns how many lines were dropped since the start.
     fn flush(&mut self) -> u64 {
         0
     }

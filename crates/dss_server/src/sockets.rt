@@ -1,13 +1,13 @@
-//! What the service needs of the system: sockets that do not block, and what is told of them.
+//! What the service requires of the system: non-blocking sockets, and their events.
 use crate::backups::MakeBackups;
 use std::io;
 use std::net::SocketAddrV4;
 use std::time::Duration;
 
-/// The socket of a client. No call of it waits.
+/// The socket of a client. No call blocks.
 ///
-/// `coming`: the bytes that it will give from here on, `gone`: those that it took, where they are
-/// known.
+/// `coming` is the bytes that it will return from here on, and `gone` those that it took, if they
+/// are known.
 pub trait Socket: Drop {
     ghost use Rattle.std.specs.Prelude.{ℕ, List, Option};
     ghost use Rattle.std.specs.Io.{ReadsAtMost, WritesAtMost};
@@ -17,92 +17,93 @@ pub trait Socket: Drop {
 
     ghost gone: { Self → Option (List ℕ) };
 
-    /// The address and the port of the client, where the system told them.
+    /// Returns the address and port of the client, if the system returned them.
     fn client(&self) -> Option<SocketAddrV4>;
 
-    /// Reads bytes that came into the piece. 0: the client sends nothing more.
+    /// Reads bytes that arrived into `chunk`. Returns 0 if the client sends nothing more.
     fn receive(&mut self, chunk: &mut [u8]) -> io::Result<usize>
         ensures bound { ReadsAtMost result chunk.new }
         ensures bytes { ReadConsumes (coming self.old) (coming self.new) result chunk.new }
         ensures kept { Keeps (gone self.old) (gone self.new) };
 
-    /// Takes the first of these bytes, to be sent.
+    /// Takes the first of these bytes for sending, and returns how many.
     fn send(&mut self, bytes: &[u8]) -> io::Result<usize>
         ensures bound { WritesAtMost result bytes.now }
         ensures bytes { WriteAppends (gone self.old) (gone self.new) result bytes.now }
         ensures kept { Keeps (coming self.old) (coming self.new) };
 
-    /// Says that nothing more is sent.
+    /// Ends sending.
     fn end_sending(&mut self) -> io::Result<()>
         ensures gone { Keeps (gone self.old) (gone self.new) }
         ensures coming { Keeps (coming self.old) (coming self.new) };
 }
 
-/// What the system watches.
+/// A source of events.
 #[derive(Clone, Copy, Debug, PartialEq, Eq)]
 pub enum EventSource {
-    /// The port, where a client may be accepted.
+    /// The port, where a client may wait to be accepted.
     Port,
-    /// The operator's port, where a connection may be accepted.
+    /// The admin port, where a connection may wait to be accepted.
     OperatorsPort,
     /// The client under that key.
     Client(usize),
-    /// The connection to the operator's port under that key.
+    /// The admin connection under that key.
     Operator(usize),
 }
 
-/// What the system tells of a socket.
+/// An event of a socket.
 #[derive(Clone, Copy, Debug)]
 pub struct SocketEvent {
-    /// Which it is.
+    /// The source of the event.
     pub which: EventSource,
-    /// Whether it may be read.
+    /// True if the socket can be read.
     pub readable: bool,
-    /// Whether it may be written.
+    /// True if the socket can be written.
     pub writable: bool,
-    /// Whether the client sends nothing more.
+    /// True if the client sends nothing more.
     pub ended: bool,
-    /// Whether the connection is gone, so that nobody takes an answer any more.
+    /// True if the connection is gone, so that no response can reach the client.
     pub reset: bool,
 }
 
-/// Why no client was accepted.
+/// The reason why no client was accepted.
 #[derive(Debug)]
 pub enum AcceptFault {
-    /// None waits.
+    /// No client waits.
     NoneWaits,
-    /// The one that waited is gone.
+    /// The client that waited is gone.
     Gone,
     /// The system has no descriptor or no memory for one more, for now.
     Full,
-    /// It cannot be done.
+    /// The port failed.
     Failed(io::Error),
 }
 
-/// The sockets of a service, watched together, and what else the system does for it between rounds.
+/// The sockets of a service, watched together, and the other things that the system does for it
+/// between batches.
 pub trait Sockets {
     type Client: Socket;
 
     type Backups: MakeBackups;
 
-    /// What makes backups, where there is a folder for them.
+    /// Returns the maker of backups, if there is a backup directory.
     fn backups(&mut self) -> Option<&mut Self::Backups>;
 
     /// Accepts the next client.
     fn accept(&mut self) -> Result<Self::Client, AcceptFault>;
 
-    /// Accepts the next connection to the operator's port.
+    /// Accepts the next admin connection.
     fn accept_operator(&mut self) -> Result<Self::Client, AcceptFault>;
 
-    /// Has the system tell of that client as of this.
+    /// Registers a client for events under that source.
     fn watch(&mut self, client: &mut Self::Client, which: EventSource) -> io::Result<()>;
 
-    /// Waits until there is something to tell, for at most so long where a time is given.
+    /// Waits for events, for at most `patience` if a time is given.
     fn wait(&mut self, patience: Option<Duration>) -> io::Result<()>;
 
-    /// What was told, one after the other.
+    /// Returns the next event, until there is none left.
     fn next_event(&mut self) -> Option<SocketEvent>;
 
-    /// The time since some start, which never falls.
+    /// Returns the time since some fixed start. It never decreases.
     fn monotonic_time(&self) -> io::Result<Duration>;
 }

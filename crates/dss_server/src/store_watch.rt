@@ -1,4 +1,4 @@
-//! Whether the store keeps what it is given, and when that is to be told.
+//! The state of the store, and when to report it.
 ghost use Rattle.std.specs.Prelude.{◌≡◌, ◌<◌, ◌↔◌, Some, IfSome, IfNone, IsNone, IsTrue, true};
 ghost use Rattle.std.specs.Duration.{as_nanos};
 ghost use Rattle.dss_server.specs.StoreWatch.{failures_of, outcome_of_batch, outcome_of_purge, is_broken, news_of_breaking, news_of_keeping, one_more, silent_until, untold_of};
@@ -11,19 +11,19 @@ use space_core::space::SpaceFault;
 use std::time::Duration;
 use wire_http::Outcome;
 
-/// What became of changes that the store was given.
+/// The outcome of a commit.
 #[derive(Clone, Copy, Debug, PartialEq, Eq)]
 pub(crate) enum CommitOutcome {
-    /// They are kept.
+    /// The changes are committed.
     Committed,
-    /// None of them is, and the store goes on.
+    /// None of the changes is committed, and the store goes on.
     RolledBack,
-    /// Nobody knows, and no call is answered any more.
+    /// The outcome is unknown, and no call is answered any more.
     Unknown,
 }
 
-/// What became of the changes of a round, by how it was settled. Nothing is known where none
-/// waited.
+/// Returns the outcome of a batch's changes, given the result of its commit. Returns `None` if no
+/// changes were pending.
 pub(crate) fn outcome_of_batch(
     waited: bool,
     settled: Result<(), SpaceFault>,
@@ -38,9 +38,10 @@ pub(crate) fn outcome_of_batch(
     }
 }
 
-/// What became of the change of an answer that no round held back. A fault alone tells nothing of
-/// the store: it may be one of memory, or a bound. But a store that is failing makes each change by
-/// itself.
+/// Returns the outcome of a change whose response was not deferred.
+///
+/// A fault does not prove that the store fails: it can be a lack of memory, or a quota. But a store
+/// that is failing commits each change separately.
 pub(crate) fn outcome_of_change(answer: ResponseInfo, is_failing: bool) -> Option<CommitOutcome> {
     match answer.outcome {
         Outcome::Stopped => Some(CommitOutcome::Unknown),
@@ -50,9 +51,10 @@ pub(crate) fn outcome_of_change(answer: ResponseInfo, is_failing: bool) -> Optio
     }
 }
 
-/// What became of a piece of a sweep. Where nothing went, and the service goes on, that tells
-/// nothing of the store: memory may have lacked, or a copy in it of what is kept. The next change
-/// tells.
+/// Returns the outcome of a purge chunk.
+///
+/// If nothing was purged and the service goes on, nothing is known of the store: memory may have
+/// run out, or the mirror may have been dropped. The next change shows it.
 pub(crate) fn outcome_of_purge(purged: Result<usize, PurgeFault>) -> Option<CommitOutcome>
     ensures { result ≡ outcome_of_purge purged }
 {
@@ -64,21 +66,21 @@ pub(crate) fn outcome_of_purge(purged: Result<usize, PurgeFault>) -> Option<Comm
     }
 }
 
-// How long nothing more is told of a store that goes on failing, in seconds.
+// How long further failures of the store are not reported, in seconds.
 const SILENCE: u64 = 60;
 
-/// How often the store failed since it last kept a change.
+/// The number of store failures since the last commit.
 #[derive(Clone, Copy, Debug)]
 pub(crate) struct StoreWatch {
     failures: u64,
-    // how many of them are not told yet, and until when none is told
+    // The number of failures not reported yet, and the time until which none is reported.
     untold: u64,
     silent_until: Duration,
     is_broken: bool,
 }
 
 impl StoreWatch {
-    /// It has not failed.
+    /// Creates a watch without failures.
     pub(crate) fn new() -> StoreWatch
         ensures { failures_of result ≡ 0 }
     {
@@ -90,14 +92,14 @@ impl StoreWatch {
         }
     }
 
-    /// Whether it has failed since it last kept a change.
+    /// Returns true if the store has failed since the last commit.
     pub(crate) fn is_failing(&self) -> bool
         ensures { IsTrue result ↔ (0 < failures_of self.now) }
     {
         self.failures > 0
     }
 
-    // Says no more for a while.
+    // Suppresses reports for a while.
     fn tell(&mut self, now: Duration)
         ensures failures { failures_of self.new ≡ failures_of self.old }
         ensures untold { untold_of self.new ≡ 0 }
@@ -106,8 +108,8 @@ impl StoreWatch {
         self.silent_until = now.saturating_add(Duration::from_secs(SILENCE));
     }
 
-    /// It did not keep what it was given, and goes on. The first failure is told, and then, once a
-    /// minute has passed, how many more came.
+    /// Records a failed commit after which the store goes on. Reports the first failure, and then
+    /// once a minute how many more came.
     pub(crate) fn fail(&mut self, now: Duration) -> Option<StoreEvent>
         ensures counted { failures_of self.new ≡ one_more (failures_of self.old) }
         ensures first { failures_of self.old ≡ 0 → result ≡ Some news.CommitFailed }
@@ -133,7 +135,7 @@ impl StoreWatch {
         Some(StoreEvent::StillFailing(count))
     }
 
-    /// It kept a change, which is told where it had failed.
+    /// Records a successful commit. Reports it if commits had failed.
     pub(crate) fn keep(&mut self) -> Option<StoreEvent>
         ensures works { failures_of self.new ≡ 0 }
         ensures told { result ≡ news_of_keeping (failures_of self.old) }
@@ -147,7 +149,7 @@ impl StoreWatch {
         Some(StoreEvent::Recovered(failures))
     }
 
-    /// It failed so that no call is answered any more, which is told once.
+    /// Records that the store failed for good. Reports it once.
     pub(crate) fn break_down(&mut self) -> Option<StoreEvent>
         ensures broken { is_broken self.new ≡ true }
         ensures told { result ≡ news_of_breaking (is_broken self.old) }

@@ -1,4 +1,4 @@
-//! The token file of a service, which is looked at while it runs.
+//! The token file of a service, checked while the service runs.
 ghost use Rattle.std.specs.Prelude.{IfOk, IfSome};
 ghost use Rattle.dss_server.specs.Tokens.{ComesOf, IsTakenAfter};
 
@@ -12,36 +12,36 @@ use std::time::Duration;
 use token_conf::conf_fault::ConfFault;
 use token_conf::token_table::TokenTable;
 
-/// Why a token file that changed was not taken.
+/// The reason why a changed token file was not loaded.
 #[derive(Clone, Copy, Debug, PartialEq, Eq)]
 pub enum TokenReloadFault {
     /// It does not open, fails to read or is not UTF-8.
     Unread,
-    /// It is wrong, or memory lacked for it.
+    /// It is invalid, or memory ran out for it.
     Wrong(ConfFault),
-    /// It has another salt than the one that the service started with.
+    /// It has another salt than the one with which the service started.
     OtherSalt,
 }
 
-/// Where the bytes of the token file come from.
+/// The source of the token file's bytes.
 ///
-/// `gives`: which bytes it may have.
+/// `gives` holds of the bytes that it may have.
 pub trait TokenSource {
     ghost use Rattle.std.specs.Prelude.{ℕ, List, IfOk};
 
     ghost gives: { List ℕ → Type 0 };
 
-    /// All bytes of the file, as they are now.
+    /// Reads all bytes of the file as they are now.
     fn read(&mut self) -> io::Result<Vec<u8>>
         ensures { IfOk result (λ bytes. gives bytes.items) };
 }
 
-// Whether that is want of memory, after which the file is read again.
+// Returns true if memory ran out, after which the file is read again.
 fn is_memory(fault: TokenReloadFault) -> bool {
     fault == TokenReloadFault::Wrong(ConfFault::Memory)
 }
 
-// The table of a text of the file, which is taken only with the salt of the first one.
+// Returns the table of a text of the file. Rejects a table with another salt than the first one.
 fn table_of(alloc: Global, text: &str, first: &TokenTable) -> Result<TokenTable, TokenReloadFault>
     ensures { ComesOf first.now text.now result }
 {
@@ -55,22 +55,23 @@ fn table_of(alloc: Global, text: &str, first: &TokenTable) -> Result<TokenTable,
     Err(TokenReloadFault::OtherSalt)
 }
 
-/// The token file of a service, which is looked at while it runs.
+/// The token file of a service, checked while the service runs.
 #[derive(Drop)]
 pub struct TokenWatch<T: TokenSource> {
     source: T,
-    // the bytes that were last judged
+    // The bytes that were last checked.
     judged: Vec<u8>,
     looked: Duration,
-    // at how many looks in a row it could not be read, and whether memory lacked at the last one
+    // How many times in a row the file could not be read, and whether memory ran out at the last
+    // check.
     misses: u32,
     is_lacking: bool,
-    // what is counted
+    // The metrics of the file.
     tokens: TokenMetrics,
 }
 
 impl<T: TokenSource> TokenWatch<T> {
-    /// A file that had this text as the service started.
+    /// Creates a watch on a file that had this text when the service started.
     pub fn new(source: T, text: String) -> TokenWatch<T> {
         TokenWatch {
             source,
@@ -82,13 +83,13 @@ impl<T: TokenSource> TokenWatch<T> {
         }
     }
 
-    /// What was counted of it.
+    /// Returns the metrics of the file.
     pub(crate) fn tokens(&self) -> TokenMetrics {
         self.tokens
     }
 
-    // The file could not be read: it is told at the second look, for one that is written anew may
-    // be gone for a moment.
+    // Records that the file could not be read. Reports it the second time, because a file that is
+    // being replaced may not exist for a short time.
     fn miss(&mut self, cause: &io::Error) -> Option<TokenReloadFault> {
         if cause.kind() == ErrorKind::OutOfMemory {
             return Some(TokenReloadFault::Wrong(ConfFault::Memory));
@@ -101,7 +102,7 @@ impl<T: TokenSource> TokenWatch<T> {
         }
     }
 
-    // What comes of the file, if it has other bytes than those that were last judged.
+    // Checks the file if its bytes differ from those that were last checked.
     fn judge(
         &mut self,
         alloc: Global,
@@ -140,9 +141,8 @@ impl<T: TokenSource> TokenWatch<T> {
         }
     }
 
-    /// Looks at the file, each second. Where it has other bytes than those that were last judged,
-    /// and says a table with the salt of the first one, that is to be taken. Else it is told once
-    /// why not.
+    /// Checks the file, each second. If its bytes have changed, and represent a table with the salt
+    /// of the first one, returns the table to load. Otherwise logs the reason once.
     pub(crate) fn look<J: ServerLog>(
         &mut self,
         alloc: Global,

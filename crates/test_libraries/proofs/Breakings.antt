@@ -1,4 +1,4 @@
--- What the calls of a space that breaks tell and leave.
+-- What the calls of a space that breaks return and leave.
 use Rattle.std.proofs.Common.{◌≡◌, ◌||◌, Bool, true, false, Result, Ok, Err, refl, sym, ap, subst, inl}
 use Rattle.std.specs.Prelude.{OnOk}
 use Rattle.entity_core.specs.Airspace.{Airspace}
@@ -18,7 +18,7 @@ module _ {S : Type 0} (g : Ghosts S) where
   abbrev pub IsWhole : Breaking S → Type 0
   IsWhole s = g.is_whole s.space
 
-  -- a call at which it is broken
+  -- A call at which the space is broken.
   pub tells_broken : {T : Type 0} (s t : S) (b c : Bool) → t ≡ s → c ≡ true
       → ReportsFault {T = T} (g.refusals s) (g.refusals t) (b || g.is_broken s) (c || g.is_broken t) (Err Broken)
   tells_broken s t b c same broke = record {
@@ -48,7 +48,7 @@ module _ {S : Type 0} (g : Ghosts S) where
     frozen = λ k e b h. subst (λ (s : S). g.holds s b) same h;
   }
 
-  -- a call that goes to the space
+  -- A call that is passed on to the inner space.
   pub tells_inside : {T : Type 0} (s m t : S) (b c : Bool) (r : Result T SpaceFault) → m ≡ s → b ≡ false → c ≡ false
       → ReportsFault (g.refusals m) (g.refusals t) (g.is_broken m) (g.is_broken t) r
       → ReportsFault (g.refusals s) (g.refusals t) (b || g.is_broken s) (c || g.is_broken t) r

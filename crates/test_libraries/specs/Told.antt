@@ -1,4 +1,4 @@
--- What is told after a list of calls from an empty airspace on.
+-- The replies to a list of calls, beginning with an empty airspace.
 use Rattle.std.specs.Prelude.{ℕ, List, Contains}
 use Rattle.std.specs.List.{AllByRecursion}
 use Rattle.entity_core.specs.Airspace.{Airspace, empty_at}
@@ -11,12 +11,13 @@ use Rattle.service_calls.specs.Aware.{Aware}
 use Rattle.service_calls.specs.Run.{TimedCall, airspace_after, answered_calls}
 use Rattle.service_calls.specs.Stale.{DifferUpTo, FailsOrIsRefused, IsOfAnother}
 
--- the airspace that calls with these replies leave
+-- The airspace after calls with these replies.
 abbrev pub airspace_told : List ℕ → List TimedCall → List Reply → Airspace
 airspace_told salt cs rs = airspace_after salt (empty_at 0) (answered_calls cs rs)
 
--- The calls leave an airspace in which each later intent knew the earlier ones; and one more put
--- there, whose key has OVNs of other serials alone, is refused for what it needs to know.
+-- States that the calls leave an airspace in which each later intent knew the earlier ones. It also
+-- states that one more put there is denied or fails, if its key has only OVNs of other serials for
+-- an entity that it needs.
 pub record ToldAfter (salt : List ℕ) (cs : List TimedCall) (c : Call) (rs : List Reply) (r : Reply)
     : Type 0 where
   pub aware : Aware salt (empty_at 0) cs rs (airspace_told salt cs rs)

@@ -1,4 +1,4 @@
-//! Bodies and words that no route gives.
+//! Bodies and path parameters that no route gives.
 use entity_core::nature::Kind;
 use policy_core::call::OpKind;
 use std::alloc::Global;

@@ -1,4 +1,4 @@
-//! A space that breaks at one of its calls, as no space in memory does by itself.
+//! A space that breaks at one of its calls, unlike a space in memory.
 ghost use Rattle.std.specs.Prelude.{◌≡◌, ◌||◌, false};
 
 use entity_core::availability::Availability;
@@ -12,7 +12,7 @@ use grid_core::volume::Area;
 use space_core::met::Met;
 use space_core::space::{Change, Space, SpaceFault};
 
-/// A space of which so many calls are answered: the next one is answered `Broken`, and so is each
+/// A space that answers a number of calls. It returns `Broken` from the next call and from each
 /// after it.
 #[derive(Drop)]
 pub struct Breaking<S: Space> {
@@ -22,7 +22,7 @@ pub struct Breaking<S: Space> {
 }
 
 impl<S: Space + Drop> Breaking<S> {
-    /// One that answers so many calls.
+    /// Creates a space that answers so many calls.
     pub fn after(space: S, left: u64) -> Self {
         Breaking {
             space,
@@ -31,7 +31,7 @@ impl<S: Space + Drop> Breaking<S> {
         }
     }
 
-    /// The space, as it was left.
+    /// Returns the inner space.
     pub fn into_space(self) -> S {
         let Breaking {
             space,
@@ -41,7 +41,7 @@ impl<S: Space + Drop> Breaking<S> {
         space
     }
 
-    // Whether the space is broken at this call.
+    // Returns true if the space is broken at this call.
     fn breaks(&mut self) -> bool
         ensures space { self.new.space ≡ self.old.space }
         ensures broken { self.new.broken ≡ result }

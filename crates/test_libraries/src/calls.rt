@@ -1,4 +1,4 @@
-//! Calls to a service and to the rules where no stream reaches them.
+//! Calls to a service and to the rules that no stream reaches.
 use entity_core::availability::Availability;
 use entity_core::entity::Entity;
 use entity_core::nature::Kind;
@@ -20,7 +20,7 @@ use wire_body::body::{PathWords, read_body};
 const PUT: &str =
     r#"{"extents":[{"cells":["89c25904"],"altitude_lower":0,"altitude_upper":1200,"time_start":900,"time_end":2000}],"state":"Accepted","uss_base_url":"https://a.example"}"#;
 
-// A supplier that may plan and set availabilities.
+// Returns a USS that may plan and set availabilities.
 fn caller(alloc: Global, uss: &str) -> Option<Caller> {
     let uss = UssId::read(alloc, uss).ok()?;
     let scopes = ScopeSet::empty().with(Scope::StrategicCoordination);
@@ -30,7 +30,7 @@ fn caller(alloc: Global, uss: &str) -> Option<Caller> {
     })
 }
 
-// A call of that supplier.
+// Returns a call of that USS.
 pub(crate) fn call(
     alloc: Global,
     uss: &str,
@@ -45,7 +45,7 @@ pub(crate) fn call(
     })
 }
 
-// An entity as an update puts it, of that version.
+// Returns an entity as an update puts it, with that version.
 fn kept(alloc: Global, op: &Operation, number: u32) -> Option<Entity> {
     let Operation::Update(id, ovn, put) = op else {
         return None;
@@ -66,7 +66,7 @@ fn kept(alloc: Global, op: &Operation, number: u32) -> Option<Entity> {
     })
 }
 
-// An update of an intent.
+// Returns an update of an intent.
 fn update(alloc: Global) -> Option<Call> {
     let words = PathWords {
         first: "00000000-0000-4000-8000-0000000000a1",
@@ -75,7 +75,7 @@ fn update(alloc: Global) -> Option<Call> {
     call(alloc, "uss-a", OpKind::Update(Kind::Intent), &words, PUT)
 }
 
-// What it breaks where the intent is there at that version, at a serial that is not the greatest.
+// Evaluates an update of an intent that exists at that version, at a serial below the maximum.
 fn found_at(alloc: Global, update: &Call, number: u32) -> Option<Findings> {
     let entity = kept(alloc, &update.op, number)?;
     let facts = FactsRef {
@@ -88,7 +88,8 @@ fn found_at(alloc: Global, update: &Call, number: u32) -> Option<Findings> {
     Some(standing(1000, update, &facts))
 }
 
-// Whether an update of the intent at that version breaks no rule, and meets a limit or none.
+// Returns true if an update of the intent at that version breaks no rule, and the limit is met as
+// expected.
 fn is_limit(alloc: Global, update: &Call, number: u32, limit: bool) -> bool {
     match found_at(alloc, update, number) {
         Some(found) => found.first.is_none() && found.limit == limit,
@@ -96,7 +97,7 @@ fn is_limit(alloc: Global, update: &Call, number: u32, limit: bool) -> bool {
     }
 }
 
-// Whether the greatest version is the first that meets the limit.
+// Returns true if the maximum version is the first that meets the limit.
 fn is_limit_met(alloc: Global) -> bool {
     match update(alloc) {
         Some(update) => {
@@ -112,7 +113,7 @@ fn the_greatest_version(rt: HostRuntime) {
     assert!(rt; is_limit_met(rt.alloc()));
 }
 
-// Two settings, of which the second names no present version, and a reading.
+// Returns two availability settings, of which the second names no current version, and a read.
 fn three(alloc: Global) -> Option<Vec<(u64, Call)>> {
     let words = PathWords {
         first: "uss-b",
@@ -131,7 +132,7 @@ fn three(alloc: Global) -> Option<Vec<(u64, Call)>> {
     Some(calls)
 }
 
-// Whether it tells that uss-b is Down under the OVN of serial 1.
+// Returns true if the reply says that uss-b is Down, with the OVN of serial 1.
 fn tells_down(reply: &Reply) -> bool {
     let Reply::Done(Answer::Avail(uss, availability, version)) = reply else {
         return false;
@@ -140,7 +141,7 @@ fn tells_down(reply: &Reply) -> bool {
     uss.text() == "uss-b" && *availability == Availability::Down && version.text() == first
 }
 
-// Whether these are the replies to the three.
+// Returns true if these are the expected replies to the three calls.
 fn are_due(replies: &[Reply]) -> bool {
     replies.len() == 3
         && matches!(&replies[1], Reply::Denied(Rule::Version, _))

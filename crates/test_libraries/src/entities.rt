@@ -1,4 +1,4 @@
-//! The types of entities: what they take on both sides of each limit.
+//! The types of entities: the values that they accept at each limit.
 use entity_core::base_url::BaseUrl;
 use entity_core::entity_id::EntityId;
 use entity_core::id_fault::IdFault;
@@ -13,7 +13,7 @@ const LONG: &str = "abcdefghijklmnopqrstuvwxyz-ABCDEFGHIJKLMNOPQRSTUVWXYZ_012345
 
 const LONGER: &str = "abcdefghijklmnopqrstuvwxyz-ABCDEFGHIJKLMNOPQRSTUVWXYZ_0123456789.";
 
-// Whether a text is read as the id of a number, which is printed so.
+// Returns true if a text is parsed as the id of a number, which is printed so.
 fn is_id(alloc: Global, text: &str, number: u128, printed: &str) -> bool {
     let Ok(id) = EntityId::read(text) else {
         return false;
@@ -74,7 +74,7 @@ fn texts_that_are_no_ids(rt: HostRuntime) {
     }
 }
 
-// Whether a name of a supplier, and a salt, has that fault.
+// Returns true if the name of a USS, and a salt, has that fault.
 fn has_fault(alloc: Global, text: &str, fault: Option<IdFault>) -> bool {
     UssId::read(alloc, text).err() == fault && Salt::read(alloc, text).err() == fault
 }

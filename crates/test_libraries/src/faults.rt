@@ -6,7 +6,7 @@ use grid_core::volume_fault::VolumeFault;
 use std::alloc::Global;
 use token_conf::conf_fault::ConfFault;
 
-// So many times the same cell.
+// Returns the same cell so many times.
 fn cells(alloc: Global, count: u32) -> Option<Vec<CellId>> {
     let cell = parse_token("89c25904").ok()?;
     let mut cells = Vec::new(alloc);
@@ -16,7 +16,8 @@ fn cells(alloc: Global, count: u32) -> Option<Vec<CellId>> {
     Some(cells)
 }
 
-// Whether that is the first fault of so many cells between such bounds, of an area and of a volume.
+// Returns true if that is the first fault of so many cells with these bounds, for an area and for a
+// volume.
 fn is_first(
     alloc: Global,
     count: u32,

@@ -1,4 +1,4 @@
-//! What is missing from a key, beside the plain search that defines it.
+//! The OVNs missing from a key, compared with the plain search that defines them.
 use entity_core::base_url::BaseUrl;
 use entity_core::entity::Entity;
 use entity_core::entity_id::EntityId;
@@ -13,13 +13,13 @@ use grid_core::volumes::Volumes;
 use policy_core::missing::missing;
 use std::alloc::Global;
 
-// The OVN of a number: that of 1 begins those of 10 and of 100.
+// Returns the OVN of a number. The OVN of 1 is a prefix of those of 10 and of 100.
 fn ovn(alloc: Global, number: u64) -> Option<Ovn> {
     let text = format!(in alloc; "0123456789abcdef{number}").ok()?;
     Ovn::read(alloc, text.as_str()).ok()
 }
 
-// The OVNs of numbers.
+// Returns the OVNs of numbers.
 fn key(alloc: Global, numbers: &[u64]) -> Option<Vec<Ovn>> {
     let mut key = Vec::new(alloc);
     for number in numbers {
@@ -28,7 +28,7 @@ fn key(alloc: Global, numbers: &[u64]) -> Option<Vec<Ovn>> {
     Some(key)
 }
 
-// One volume of one cell.
+// Returns one volume of one cell.
 fn volumes(alloc: Global) -> Option<Volumes> {
     let mut cells = Vec::new(alloc);
     cells.push(parse_token("89c25904").ok()?).ok()?;
@@ -39,7 +39,7 @@ fn volumes(alloc: Global) -> Option<Volumes> {
     Volumes::from_vec(alloc, items).ok()?
 }
 
-// An entity with the OVN of a number.
+// Returns an entity with the OVN of a number.
 fn entity(alloc: Global, number: u64) -> Option<Entity> {
     let id = EntityId::read("00000000-0000-4000-8000-0000000000a1").ok()?;
     let serial = Serial::next_after(0)?;
@@ -55,7 +55,7 @@ fn entity(alloc: Global, number: u64) -> Option<Entity> {
     })
 }
 
-// Entities with the OVNs of numbers.
+// Returns entities with the OVNs of numbers.
 fn entities(alloc: Global, numbers: &[u64]) -> Option<Vec<Entity>> {
     let mut entities = Vec::new(alloc);
     for number in numbers {
@@ -64,14 +64,14 @@ fn entities(alloc: Global, numbers: &[u64]) -> Option<Vec<Entity>> {
     Some(entities)
 }
 
-// The places of the numbers whose entities' OVNs are missing from the key of some.
+// Returns the indexes of the needed numbers whose OVNs are missing from the key of `own`.
 fn missed(alloc: Global, own: &[u64], needed: &[u64]) -> Option<Vec<usize>> {
     let key = key(alloc, own)?;
     let entities = entities(alloc, needed)?;
     missing(alloc, key.as_slice(), entities.as_slice()).ok()
 }
 
-// The places of the numbers that are not among some, by a plain search.
+// Returns the indexes of the needed numbers that are not among `own`, by a plain search.
 fn plainly_missed(alloc: Global, own: &[u64], needed: &[u64]) -> Option<Vec<usize>> {
     let mut places = Vec::new(alloc);
     for (place, number) in needed.iter().enumerate() {
@@ -90,7 +90,7 @@ fn is_known(own: &[u64], sought: u64) -> bool {
     is_known
 }
 
-// So many of the numbers below one, every 14th, and again from the first when all are used.
+// Returns `count` of the numbers less than `below`: every 14th, modulo `below`.
 fn numbers(alloc: Global, count: u64, below: u64) -> Option<Vec<u64>> {
     let mut numbers = Vec::new(alloc);
     let mut number = 0u64;
@@ -101,8 +101,8 @@ fn numbers(alloc: Global, count: u64, below: u64) -> Option<Vec<u64>> {
     Some(numbers)
 }
 
-// Whether so many are missing from a key of so many numbers below one, and those that the plain
-// search finds.
+// Returns true if so many are missing from a key of `count` numbers less than `below`, and they are
+// those that the plain search finds.
 fn is_missing(alloc: Global, count: u64, below: u64, missing: usize) -> bool {
     let (Some(needed), Some(own)) = (numbers(alloc, 401, 401), numbers(alloc, count, below)) else {
         return false;

@@ -1,6 +1,6 @@
-//! Tests of libraries, of what bytes do not show: faults by their numbers, limits that no stream
-//! reaches, keys of some thousands, digests of another program, a space that breaks at a call, and
-//! calls, bodies and replies that no stream gives.
+//! Tests of libraries for what the byte-exact tests do not show. They cover the numbers of faults,
+//! limits that no stream reaches, keys of thousands of OVNs, digests of another program, a space
+//! that breaks at a call, and calls, bodies and replies that no stream gives.
 #![tactic(auto)]
 
 #[cfg(test)]

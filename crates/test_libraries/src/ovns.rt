@@ -1,4 +1,4 @@
-//! OVNs and digests, as another program computed them.
+//! OVNs and digests, compared with those that another program computed.
 use entity_core::ovn::ovn_of;
 use entity_core::salt::Salt;
 use sha2::{Digest, Sha256};

@@ -1,4 +1,4 @@
-//! The texts of replies that no stream over a list space gives.
+//! The texts of replies that no stream over a space in memory gives.
 use entity_core::availability::Availability;
 use entity_core::base_url::BaseUrl;
 use entity_core::entity_id::EntityId;
@@ -15,7 +15,7 @@ use service_step::reply::{Answer, Reply};
 use std::alloc::Global;
 use wire_reply::answer::{reply_text, status};
 
-// What others see of an intent that ends at the greatest number.
+// Returns what others see of an intent that ends at the maximum number.
 fn endless(alloc: Global) -> Option<Reply> {
     Some(Reply::Done(Answer::Found(Reference {
         nature: Nature::Intent(State::Activated, None),
@@ -43,7 +43,7 @@ fn is_told(alloc: Global, reply: &Reply, code: u16, text: &str) -> bool {
     status(reply) == code && found.as_slice() == text.as_bytes()
 }
 
-// What its manager sees of a subscription that was told as often as one can be.
+// Returns what its manager sees of a subscription with the maximum number of notifications.
 fn most_told(alloc: Global) -> Option<Reply> {
     Some(Reply::Done(Answer::SubFound(SubView {
         id: EntityId::read("F81D4FAE-7DEC-11D0-A765-00A0C91E6BF6").ok()?,

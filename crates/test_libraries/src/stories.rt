@@ -1,5 +1,5 @@
-//! A list of calls in which an answer is lost and an OVN grows old, and a space that breaks among
-//! them.
+//! A list of calls in which a response is lost and an OVN becomes outdated, and a space that breaks
+//! among them.
 use crate::breaking::Breaking;
 use crate::calls::call;
 use crate::told::told_after;
@@ -18,7 +18,7 @@ const PLAN: PathWords<'static> = PathWords {
     first: "00000000-0000-4000-8000-0000000000a1",
     second: None,
 };
-// the plan under the OVN of serial 1
+// the plan with the OVN of serial 1
 const FIRST_PLAN: PathWords<'static> = PathWords {
     first: "00000000-0000-4000-8000-0000000000a1",
     second: Some(FIRST),
@@ -36,7 +36,7 @@ const THIRD: &str = "bf5cb828bbf7e8b093f86a9fa7d1afb732b484fe5604d03890c3307fce1
 
 const FOURTH: &str = "03e3ee156df8232c33493b4417edb57f8c466be3e105477716755007aaf5ae41";
 
-// Puts in one volume, without a key and with each of two OVNs as theirs.
+// The bodies of puts in one volume: without a key, and with each of two OVNs as the key.
 const PUT: &str =
     r#"{"extents":[{"cells":["89c25904"],"altitude_lower":0,"altitude_upper":1200,"time_start":900,"time_end":2000}],"state":"Accepted","uss_base_url":"https://a.example"}"#;
 
@@ -46,8 +46,8 @@ const WITH_FIRST: &str =
 const WITH_THIRD: &str =
     r#"{"extents":[{"cells":["89c25904"],"altitude_lower":0,"altitude_upper":1200,"time_start":900,"time_end":2000}],"key":["bf5cb828bbf7e8b093f86a9fa7d1afb732b484fe5604d03890c3307fce15ece2"],"state":"Accepted","uss_base_url":"https://a.example"}"#;
 
-// A plan is made and deleted; the answer is lost, so it is deleted once more, and made anew;
-// another supplier's put shows the OVN of before.
+// Returns the calls. A plan is created and deleted. The response is lost, so the plan is deleted
+// once more and created again. A put of another USS then has the outdated OVN in its key.
 fn story(alloc: Global) -> Option<Vec<(u64, Call)>> {
     let mut calls = Vec::new(alloc);
     for (uss, kind, words, body) in [
@@ -64,7 +64,7 @@ fn story(alloc: Global) -> Option<Vec<(u64, Call)>> {
     Some(calls)
 }
 
-// Whether an entity was created with that OVN.
+// Returns true if an entity was created with that OVN.
 fn is_created(reply: &Reply, ovn: &str) -> bool {
     let Reply::Done(Answer::Created(seen, _)) = reply else {
         return false;
@@ -75,7 +75,7 @@ fn is_created(reply: &Reply, ovn: &str) -> bool {
     }
 }
 
-// Whether one intent is missing from a key.
+// Returns true if one intent is missing from a key.
 fn lacks_an_intent(reply: &Reply) -> bool {
     match reply {
         Reply::Denied(Rule::Key, missing) => missing.intents.items().len() == 1,
@@ -83,7 +83,7 @@ fn lacks_an_intent(reply: &Reply) -> bool {
     }
 }
 
-// Whether that is the reply to the call of the story at an index.
+// Returns true if that is the expected reply to the call at an index.
 fn is_due(index: usize, reply: &Reply) -> bool {
     match index {
         0 => is_created(reply, FIRST),
@@ -95,8 +95,8 @@ fn is_due(index: usize, reply: &Reply) -> bool {
     }
 }
 
-// How many replies stand before the first `Stopped`, if each of them is due and all after it are
-// `Stopped`.
+// Returns how many replies come before the first `Stopped`, if each of them is as expected and all
+// after it are `Stopped`.
 fn before_the_stop(replies: &[Reply]) -> Option<usize> {
     let mut answered: usize = 0;
     let mut has_stopped = false;
@@ -112,7 +112,8 @@ fn before_the_stop(replies: &[Reply]) -> Option<usize> {
     Some(answered)
 }
 
-// Whether the story is told as it is due, and a put with the present OVN after it is done.
+// Returns true if the replies to the calls are as expected, and a put with the current OVN succeeds
+// after them.
 fn is_story_told(alloc: Global) -> Option<bool> {
     let salt = Salt::read(alloc, "demo").ok()?;
     let calls = story(alloc)?;
@@ -132,8 +133,8 @@ fn an_old_ovn_is_no_key(rt: HostRuntime) {
     assert!(rt; is_story_told(rt.alloc()) == Some(true));
 }
 
-// How many calls of the story a service answers over a space of which so many calls are answered,
-// and the serial that the space is left with.
+// Returns how many of the calls a service answers over a space that answers so many calls itself,
+// and the serial of the space afterwards.
 fn answered_over(alloc: Global, left: u64) -> Option<(usize, u64)> {
     let salt = Salt::read(alloc, "demo").ok()?;
     let calls = story(alloc)?;
@@ -147,7 +148,7 @@ fn answered_over(alloc: Global, left: u64) -> Option<(usize, u64)> {
     Some((answered, space.serial().ok()?))
 }
 
-// The serial after so many calls of the story.
+// Returns the serial after so many of the calls.
 fn serial_after(answered: usize) -> u64 {
     match answered {
         0 => 0,
@@ -157,9 +158,8 @@ fn serial_after(answered: usize) -> u64 {
     }
 }
 
-// Whether a service over a space that breaks at its first call stops at the first of the story, and
-// over spaces that break one call later each time at each call after it, until none is stopped; and
-// leaves what was acknowledged.
+// Returns true if a service stops at each of the calls in turn, as its space breaks one call later
+// each time, until it no longer stops. The space must keep what was acknowledged.
 fn each_call_stops(alloc: Global) -> bool {
     let mut reached: usize = 0;
     for left in 0..50 {

@@ -1,4 +1,4 @@
-//! What a service in memory tells after a list of calls.
+//! The replies of a service in memory to a list of calls.
 ghost use Rattle.std.specs.Prelude.{IfOk};
 ghost use Rattle.test_libraries.specs.Told.{ToldAfter};
 
@@ -9,8 +9,8 @@ use service_step::reply::Reply;
 use space_memory::memory::MemorySpace;
 use std::alloc::{AllocError, Global};
 
-/// The replies to a list of calls from an empty airspace on, each with its moment, and to one more
-/// call after them.
+/// Returns the replies to a list of calls from an empty airspace on, each with its time, and to one
+/// more call after them.
 pub fn told_after(
     alloc: Global,
     salt: Salt,

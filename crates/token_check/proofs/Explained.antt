@@ -1,4 +1,4 @@
--- The mistakes of a file explain what its reader says.
+-- The errors of a file explain what its reader returns.
 use Rattle.std.proofs.Common.{◌≡◌, ℕ, ◌+◌, Bool, true, false, cond, List, [], ◌∷◌, ◌++◌, codes, length, Option, Some, None, Result, Ok, Err, refl, sym, ap, subst, ◌∙◌}
 use Rattle.std.specs.Prelude.{◌||◌, if◌then◌else◌, is_some, nat_eq}
 use Rattle.std.specs.Cmp.Lexicographic.{pointwise, texts_ties, nat_list_cmp_total}
@@ -19,7 +19,7 @@ use Rattle.token_check.specs.TokenFileErrors.{Explain, has_text, holder_of, mist
 use Rattle.token_check.specs.declared.token_file_error.TokenFileError.{TokenFileError}
 use Rattle.token_check.specs.declared.token_file_error.TokenFileError.TheVariants as mistake
 
--- ---- which texts are known
+-- ---- known texts
 
 or-true : (b : Bool) → (b || true) ≡ true
 or-true true = refl
@@ -37,12 +37,12 @@ some_more : (b q : Bool) (n : ℕ) (o later : Option ℕ) → is_some later ≡ 
 some_more true q n o later h = refl
 some_more false q n o later h = h
 
--- a table more at the end
+-- One more table at the end.
 position-push : (p : Data → Bool) (n : ℕ) (ds : List Data) (d : Data) → is_some (position_from p n (ds ++ d ∷ [])) ≡ (is_some (position_from p n ds) || p d)
 position-push p n [] d = some_if (p d) n
 position-push p n (x ∷ ds) d = some_more (p x) (p d) n (position_from p (n + 1) ds) (position_from p (n + 1) (ds ++ d ∷ [])) (position-push p (n + 1) ds d)
 
--- the texts that are known are those of some tables
+-- The known texts are those of some tables.
 KnowsTexts : Callers → List Data → Type 0
 KnowsTexts known before = (text : List ℕ) → contains_key known text ≡ is_some (holder_of text before)
 
@@ -69,14 +69,14 @@ bind-assoc : {A B C : Type 0} (r : Result A ConfFault) (f : A → Result B ConfF
 bind-assoc (Ok x) f g = refl
 bind-assoc (Err e) f g = refl
 
--- a text that stood before, and one that did not
+-- A text that occurred before, and one that did not.
 explains_holder : (n : ℕ) (held : Option ℕ) (has : Bool) → has ≡ is_some held → (token : List ℕ × Caller) (rest : List TokenFileError) (next : List ℕ × Caller → Result TokenFile ConfFault) → Explain rest (next token) → Explain (repeated_at n held ++ rest) ((if has then Err fault.Repeated else Ok token) >>= next)
 explains_holder n None true same token rest next goes = let bad : true ≡ false = same in cc
 explains_holder n None false same token rest next goes = goes
 explains_holder n (Some m) true same token rest next goes = refl
 explains_holder n (Some m) false same token rest next goes = let bad : false ≡ true = same in cc
 
--- a table by what is right of it: its text, its supplier, its scopes
+-- A table, given which of its text, USS and scopes are valid.
 explains_parts : (n : ℕ) (text uss : Option (List ℕ)) (scopes : Option Scopes) (holder : List ℕ → Option ℕ) (has : List ℕ → Bool) → ((t : List ℕ) → has t ≡ is_some (holder t)) → (rest : List TokenFileError) (next : List ℕ × Caller → Result TokenFile ConfFault) → ((t : List ℕ) (c : Caller) → text ≡ Some t → Explain rest (next (t, c))) → Explain ((unless (is_some text) (mistake.Token n) ++ (unless (is_some uss) (mistake.Uss n) ++ (unless (is_some scopes) (mistake.Scopes n) ++ option_map_or (λ t. repeated_at n (holder t)) text []))) ++ rest) ((or_fault fault.Token text >>= (λ t. or_fault fault.Uss uss >>= (λ u. or_fault fault.Scopes scopes >>= (λ s. if has t then Err fault.Repeated else Ok (t, record { uss = u; scopes = s }))))) >>= next)
 explains_parts n None uss scopes holder has same rest next goes = refl
 explains_parts n (Some t) None scopes holder has same rest next goes = refl
@@ -117,7 +117,8 @@ explains_parse : (parsed : Option Members) → Explain (option_map_or (λ member
 explains_parse None = refl
 explains_parse (Some members) = explains_salt (text_at (codes "salt") name_fault (table members)) (data_of.get (codes "token") (table members))
 
--- the reader takes a file exactly where it has no mistake, and else tells the fault of the first
+-- The reader accepts a file exactly if it has no error; otherwise it returns the fault of the
+-- first.
 pub explains : (text : List ℕ) → Explain (mistakes_in text) (file_of text)
 unfolding file_of
 explains text = explains_parse (parse_document text)

@@ -1,4 +1,4 @@
--- What is found in tables of values.
+-- Lookups in tables of values.
 use Rattle.std.proofs.Common.{◌≡◌, ℕ, ◌+◌, ◌<◌, true, false, List, [], ◌∷◌, ◌++◌, length, get_or, drop, map, Option, Some, None, refl, sym, ap, ◌∙◌}
 use Rattle.std.specs.Prelude.{Bool, Vec, MatchOption, ◌||◌, is_some, option_and_then, option_map}
 use Rattle.std.specs.Borrow.{Bor}
@@ -18,12 +18,12 @@ use Rattle.token_check.specs.TokenFileErrors.{mistakes_of_list, mistakes_of_tabl
 use Rattle.token_check.specs.declared.token_file_error.TokenFileError.TheVariants as mistake
 use Rattle.token_check.specs.Warnings.{is_scope, scopes, warnings_of_list, warnings_of_member}
 
--- the tables of some values
+-- The tables of some values.
 pub tables_of_items : (ds : List Data) → tables_of (items_of ds) ≡ ds
 tables_of_items [] = refl
 tables_of_items (d ∷ ds) = ap (λ (rest : List Data). d ∷ rest) (tables_of_items ds)
 
--- the member `token` that is a list
+-- The member `token` if it is a list.
 pub list_mistakes : (member : Option (Bor Value)) (value : Bor Value) (tables : Vec Value Global) → member ≡ Some value → Some (array_view tables) ≡ as_array (view value.now) → mistakes_of_list (option_map (λ v. view v.now) member) ≡ mistakes_of_tables [] (map view tables.items)
 list_mistakes member value tables is array =
     ap (λ (m : Option (Bor Value)). mistakes_of_list (option_map (λ v. view v.now) m)) is
@@ -42,11 +42,11 @@ is_some-map : {A B : Type 0} (f : A → B) (o : Option A) → is_some (option_ma
 is_some-map f None = refl
 is_some-map f (Some x) = refl
 
--- whether a text was read tells whether there is one
+-- A text exists exactly if one was read.
 pub is_some-read : (o : Option (Bor (List ℕ))) (read : Option (List ℕ)) (b : Bool) → option_map (λ s. s.now) o ≡ read → is_some o ≡ b → is_some read ≡ b
 is_some-read o read b is some = ap is_some (sym is) ∙ is_some-map (λ s. s.now) o ∙ some
 
--- one text more at the front
+-- One more text at the front.
 cons-some : (o : Option (List ℕ)) (rest : Option (List (List ℕ))) → is_some o ≡ true → is_some (option_and_then (λ text. option_map (λ texts. text ∷ texts) rest) o) ≡ is_some rest
 cons-some None rest h = let bad : false ≡ true = h in cc
 cons-some (Some text) rest h = is_some-map (λ texts. text ∷ texts) rest
@@ -58,7 +58,8 @@ cons-none (Some text) rest h = let bad : true ≡ false = h in cc
 texts-turn : (values : List Value) (i : ℕ) (value : Value) → i < length values → value ≡ get_or values i value → texts_of (items_view (drop i values)) ≡ option_and_then (λ text. option_map (λ texts. text ∷ texts) (texts_of (items_view (drop (i + 1) values)))) (as_str (view value))
 texts-turn values i value within at = ap texts_of (items_view-drop values i value within ∙ ap (λ (v : Value). item (view v) (items_view (drop (i + 1) values))) (sym at))
 
--- the values from a place on are texts as those after it are, or are not
+-- If the value at an index is a text, the values from there on are all texts exactly if those after
+-- it are.
 pub texts-go_on : (values : List Value) (i : ℕ) (value : Value) → i < length values → value ≡ get_or values i value → is_some (as_str (view value)) ≡ true → is_some (texts_of (items_view (drop i values))) ≡ is_some (texts_of (items_view (drop (i + 1) values)))
 texts-go_on values i value within at some = ap is_some (texts-turn values i value within at) ∙ cons-some (as_str (view value)) _ some
 
@@ -90,13 +91,13 @@ any-scope p ConstraintProcessing is = any-at p (StrategicCoordination ∷ Confor
 any-scope p ConstraintManagement is = any-at p (StrategicCoordination ∷ ConformanceMonitoring ∷ ConstraintProcessing ∷ []) ConstraintManagement (AvailabilityArbitration ∷ []) is
 any-scope p AvailabilityArbitration is = any-at p (StrategicCoordination ∷ ConformanceMonitoring ∷ ConstraintProcessing ∷ ConstraintManagement ∷ []) AvailabilityArbitration [] is
 
--- what a look for a scope by its name tells
+-- The result of a lookup of a scope by its name.
 pub is_scope-named : (o : Option Scope) (name : List ℕ) → MatchOption o ((s : Scope) → scope_name s ≡ name → ⊥) (λ s. scope_name s ≡ name) → is_some o ≡ is_scope name
 is_scope-named None name none =
     sym (any-none (λ s. is_name_of s name) scopes (λ s. is_false (is_name_of s name) (λ h. none s ((bytes_decides (scope_name s) name).0 h))))
 is_scope-named (Some s) name is = sym (any-scope (λ t. is_name_of t name) s ((bytes_decides (scope_name s) name).1 is))
 
--- what is not there is none
+-- An option without a value is `None`.
 pub none_of : {A : Type 0} (o : Option A) → is_some o ≡ false → o ≡ None
 none_of None h = refl
 none_of (Some x) h = let bad : true ≡ false = h in cc

@@ -1,4 +1,4 @@
--- Where statements of a document are written.
+-- The positions of the statements of a document.
 use Rattle.std.specs.Prelude.{◌≡◌, ℕ, ◌+◌, ◌==◌, List, [], ◌∷◌, Some, count_by, length, slice_range, string_bytes, take}
 use Rattle.toml_parser.specs.Lexical.{skip_ws}
 use Rattle.toml_parser.specs.Strings.{Key, key}
@@ -6,21 +6,21 @@ use Rattle.token_check.specs.declared.statement.Form.{Form}
 use Rattle.token_check.specs.declared.statement.Form.TheVariants as form
 use Rattle.token_check.specs.declared.statement.Statement.{Statement}
 
--- the line of a byte, from 1
+-- The line of a byte, from 1.
 abbrev pub line_at : List ℕ → ℕ → ℕ
 line_at text at = 1 + count_by (λ byte. byte == 10) (take at text)
 
--- how many bytes of a statement stand before its key
+-- The number of bytes of a statement before its key.
 abbrev pub width_of : Form → ℕ
 width_of form.Pair = 0
 width_of form.Table = 1
 width_of form.Item = 2
 
--- the text from a byte on
+-- The text from a byte on.
 abbrev pub from : ℕ → List ℕ → List ℕ
 from at text = slice_range text at (length text)
 
--- the first word of a key, which has all but its last word in a list
+-- The first word of a key that has all but its last word in a list.
 abbrev pub first_of : List (List ℕ) → List ℕ → List ℕ
 first_of [] last = last
 first_of (word ∷ words) last = word
@@ -28,7 +28,8 @@ first_of (word ∷ words) last = word
 abbrev pub first_word : Key → List ℕ
 first_word k = first_of k.0 k.1
 
--- at the byte of a statement its brackets and then a key are written, whose first word is its name
+-- Holds if the statement's brackets and a key are written at its byte, and the first word of the
+-- key is its name.
 abbrev pub IsWrittenIn : List ℕ → Statement → Type 0
 IsWrittenIn text statement =
     (k : Key) × (rest : List ℕ)

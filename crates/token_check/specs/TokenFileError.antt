@@ -1,10 +1,10 @@
--- Mistakes, and the faults that the reader of token files tells of them.
+-- Errors, and the faults that the reader of token files returns for them.
 use Rattle.token_conf.specs.declared.conf_fault.ConfFault.{ConfFault}
 use Rattle.token_conf.specs.declared.conf_fault.ConfFault.TheVariants as fault
 use Rattle.token_check.specs.declared.token_file_error.TokenFileError.{TokenFileError}
 use Rattle.token_check.specs.declared.token_file_error.TokenFileError.TheVariants as mistake
 
--- the fault of a mistake
+-- The fault of an error.
 abbrev pub fault_of : TokenFileError → ConfFault
 fault_of mistake.Toml = fault.Toml
 fault_of mistake.Salt = fault.Salt

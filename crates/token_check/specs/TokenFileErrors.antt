@@ -1,4 +1,4 @@
--- Which mistakes a token file has, and how they stand to its reading.
+-- The errors of a token file, and their relation to its reader.
 use Rattle.std.specs.Prelude.{◌≡◌, ℕ, Bool, false, List, [], ◌∷◌, ◌++◌, codes, length, is_some, nat_eq, Option, Some, None, if◌then◌else◌, Result, Err, IsOk}
 use Rattle.std.specs.Cmp.Lexicographic.{pointwise}
 use Rattle.std.specs.List.{position_from}
@@ -12,33 +12,33 @@ use Rattle.token_check.specs.TokenFileError.{fault_of}
 use Rattle.token_check.specs.declared.token_file_error.TokenFileError.{TokenFileError}
 use Rattle.token_check.specs.declared.token_file_error.TokenFileError.TheVariants as mistake
 
--- the tables of a list, in its order
+-- The tables of a list, in its order.
 abbrev pub tables_of : Items → List Data
 tables_of no_items = []
 tables_of (item d ds) = d ∷ tables_of ds
 
--- the mistake, where something is not right
+-- The error, if something is invalid.
 abbrev pub unless : Bool → TokenFileError → List TokenFileError
 unless is_right m = if is_right then [] else m ∷ []
 
--- the text of a table's token, where it is right
+-- The text of a table's token, if it is valid.
 abbrev pub token_text : Data → Option (List ℕ)
 token_text d = text_at (codes "text") token_fault d
 
--- whether the token of a table has that text
+-- True if the token of a table has that text.
 abbrev pub has_text : List ℕ → Data → Bool
 has_text text d = option_map_or (λ t. pointwise nat_eq text t) (token_text d) false
 
--- the number of the first of some tables whose token has that text
+-- The index of the first of some tables whose token has that text.
 abbrev pub holder_of : List ℕ → List Data → Option ℕ
 holder_of text ds = position_from (has_text text) 0 ds
 
--- the text of a token stood before, in a table of this number
+-- The error that the text of a token occurred before, in a table with this index.
 abbrev pub repeated_at : ℕ → Option ℕ → List TokenFileError
 repeated_at n earlier = option_map_or (λ m. mistake.Repeated n m ∷ []) earlier []
 
--- the mistakes of a table that comes after these: of its text, its supplier, its scopes, and that
--- its text stood before
+-- The errors of a table after these: of its text, its USS and its scopes, and of a text that
+-- occurred before.
 abbrev pub mistakes_of_table : List Data → Data → List TokenFileError
 mistakes_of_table before d =
     let n = length before in
@@ -47,30 +47,30 @@ mistakes_of_table before d =
     ++ (unless (is_some (scopes_at d)) (mistake.Scopes n)
     ++ option_map_or (λ text. repeated_at n (holder_of text before)) (token_text d) []))
 
--- the mistakes of some tables, table by table, that come after these
+-- The errors of some tables after these, table by table.
 abbrev pub mistakes_of_tables : List Data → List Data → List TokenFileError
 mistakes_of_tables before [] = []
 mistakes_of_tables before (d ∷ ds) =
     mistakes_of_table before d ++ mistakes_of_tables (before ++ d ∷ []) ds
 
--- the mistakes of the member `token`; without it there are none
+-- The errors of the member `token`; none if it does not exist.
 abbrev pub mistakes_of_list : Option Data → List TokenFileError
 mistakes_of_list None = []
 mistakes_of_list (Some d) =
     option_map_or (λ ds. mistakes_of_tables [] (tables_of ds)) (as_array d) (mistake.List ∷ [])
 
--- the mistakes of a document: that of its salt, and then those of its tables
+-- The errors of a document: that of its salt, and then those of its tables.
 abbrev pub errors_of : Data → List TokenFileError
 errors_of document =
     unless (is_some (text_at (codes "salt") name_fault document)) mistake.Salt
     ++ mistakes_of_list (get (codes "token") document)
 
--- all mistakes of a text
+-- All errors of a text.
 abbrev pub mistakes_in : List ℕ → List TokenFileError
 mistakes_in text = option_map_or (λ members. errors_of (table members)) (parse_document text) (mistake.Toml ∷ [])
 
--- Some mistakes and what a reader says: it takes the file exactly where there is none, and else it
--- tells the fault of the first.
+-- Holds if the reader accepts a file without errors, and otherwise returns the fault of the first
+-- error.
 abbrev pub Explain : List TokenFileError → Result TokenFile ConfFault → Type 0
 Explain [] said = IsOk said
 Explain (m ∷ ms) said = said ≡ Err (fault_of m)

@@ -1,4 +1,4 @@
--- What a token file says and surely does not mean.
+-- The warnings of a token file.
 use Rattle.std.specs.Prelude.{ℕ, ◌+◌, ◌||◌, Bool, not, nat_lt, option_and_then, List, [], ◌∷◌, ◌++◌, codes, length, Option, Some, None, if◌then◌else◌}
 use Rattle.std.specs.List.{list_any}
 use Rattle.std.specs.Option.{option_map_or}
@@ -13,13 +13,13 @@ use Rattle.token_check.specs.declared.warning.TheConstants.{SHORTEST_SALT}
 use Rattle.token_check.specs.declared.warning.Warning.{Warning}
 use Rattle.token_check.specs.declared.warning.Warning.TheVariants as warning
 
--- the warning, where it is so
+-- The warning, if its condition holds.
 abbrev pub when : Bool → Warning → List Warning
 when is_so w = if is_so then w ∷ [] else []
 
 -- ---- the salt
 
--- a salt that stands in an example
+-- True if the salt occurs in an example.
 abbrev pub is_of_example : List ℕ → Bool
 is_of_example salt = same_text salt (codes "demo")
 
@@ -30,7 +30,7 @@ warnings_of_salt salt =
 
 -- ---- keys
 
--- whether a key is read: of the document, or of a table of a token
+-- True if the reader reads a key: of the document, or of a token's table.
 abbrev pub is_read : Option ℕ → List ℕ → Bool
 is_read None key = same_text key (codes "salt") || same_text key (codes "token")
 is_read (Some n) key =
@@ -52,11 +52,11 @@ scopes =
     ∷ AvailabilityArbitration
     ∷ []
 
--- whether a scope has that name
+-- True if a scope has that name.
 abbrev pub is_scope : List ℕ → Bool
 is_scope name = list_any (λ scope. is_name_of scope name) scopes
 
--- of the names of a list that no scope has
+-- Warnings of the names of a list that no scope has.
 abbrev pub warnings_of_names : ℕ → Items → List Warning
 warnings_of_names n no_items = []
 warnings_of_names n (item d ds) =
@@ -65,34 +65,34 @@ warnings_of_names n (item d ds) =
 
 -- ---- all
 
--- of the table of that number
+-- Warnings of the table with that index.
 abbrev pub warnings_of_table : ℕ → Data → List Warning
 warnings_of_table n d =
     option_map_or (warnings_of_keys (Some n)) (as_table d) []
     ++ option_map_or (warnings_of_names n) (option_and_then as_array (get (codes "scopes") d)) []
 
--- of the tables from that number on
+-- Warnings of the tables from that index on.
 abbrev pub warnings_of_tables : ℕ → List Data → List Warning
 warnings_of_tables n [] = []
 warnings_of_tables n (d ∷ ds) = warnings_of_table n d ++ warnings_of_tables (n + 1) ds
 
--- of the list `token`: that it has no table, or of its tables
+-- Warnings of the list `token`: that it has no table, or of its tables.
 abbrev pub warnings_of_list : List Data → List Warning
 warnings_of_list [] = warning.NoToken ∷ []
 warnings_of_list (d ∷ ds) = warnings_of_tables 0 (d ∷ ds)
 
--- of the member `token`; without it there is no token
+-- Warnings of the member `token`; if it does not exist, there is no token.
 abbrev pub warnings_of_member : Option Data → List Warning
 warnings_of_member None = warning.NoToken ∷ []
 warnings_of_member (Some d) = option_map_or (λ ds. warnings_of_list (tables_of ds)) (as_array d) []
 
--- of a document: of its salt, of its keys, and of its tokens
+-- Warnings of a document: of its salt, of its keys, and of its tokens.
 abbrev pub warnings_of : Data → List Warning
 warnings_of document =
     option_map_or warnings_of_salt (text_at (codes "salt") name_fault document) []
     ++ (option_map_or (warnings_of_keys None) (as_table document) []
     ++ warnings_of_member (get (codes "token") document))
 
--- of a text; of one that is not TOML there are none
+-- Warnings of a text; none if it is not TOML.
 abbrev pub warnings_in : List ℕ → List Warning
 warnings_in text = option_map_or (λ members. warnings_of (table members)) (parse_document text) []

@@ -1,5 +1,5 @@
-//! What an operator is told of a token file: each mistake in it, what it says and surely does not
-//! mean; and how a new token and a new salt are written.
+//! The check of a token file for operators: each error and each warning. Also the format of a new
+//! token and a new salt.
 #![tactic(auto)]
 
 mod location;

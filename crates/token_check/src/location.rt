@@ -1,16 +1,16 @@
-//! The lines on which the parts of a token file stand.
+//! The lines of the parts of a token file.
 use crate::statement::{Form, Statement, line_at};
 use crate::token_file_error::TokenFileError;
 use crate::warning::Warning;
 
-/// The place of a finding: the table of that number, or the document, and a key in it.
+/// The location of a finding: the table with that index, or the document, and a key in it.
 #[derive(Clone, Copy, Drop)]
 pub(crate) struct Location<'a> {
     pub(crate) table: Option<usize>,
     pub(crate) key: Option<&'a str>,
 }
 
-/// The place of a mistake.
+/// Returns the location of an error.
 pub(crate) fn place_of_mistake(mistake: TokenFileError) -> Location<'static> {
     let (table, key) = match mistake {
         TokenFileError::Toml => (None, None),
@@ -26,7 +26,7 @@ pub(crate) fn place_of_mistake(mistake: TokenFileError) -> Location<'static> {
     Location { table, key }
 }
 
-/// The place of a warning.
+/// Returns the location of a warning.
 pub(crate) fn place_of_warning(warning: &Warning) -> Location<'_> {
     let (table, key) = match warning {
         Warning::ExampleSalt | Warning::ShortSalt(_) => (None, Some("salt")),
@@ -37,7 +37,7 @@ pub(crate) fn place_of_warning(warning: &Warning) -> Location<'_> {
     Location { table, key }
 }
 
-// The first pair with that key before the next header.
+// Returns the first pair with that key before the next header.
 fn pair_in<'a>(statements: &'a [Statement], key: &str) -> Option<&'a Statement> {
     for statement in statements {
         if statement.form != Form::Pair {
@@ -50,7 +50,7 @@ fn pair_in<'a>(statements: &'a [Statement], key: &str) -> Option<&'a Statement> 
     None
 }
 
-// The first header with that key.
+// Returns the first header with that key.
 fn header_in<'a>(statements: &'a [Statement], key: &str) -> Option<&'a Statement> {
     for statement in statements {
         if statement.form != Form::Pair && statement.name.as_str() == key {
@@ -60,12 +60,12 @@ fn header_in<'a>(statements: &'a [Statement], key: &str) -> Option<&'a Statement
     None
 }
 
-// Whether a statement begins a table of the list `token`.
+// Returns true if a statement begins a table of the list `token`.
 fn is_of_token(statement: &Statement) -> bool {
     statement.form == Form::Item && statement.name.as_str() == "token" && !statement.is_deeper
 }
 
-// The number of the statement that begins the table of that number.
+// Returns the index of the statement that begins the table with that index.
 fn header_of(statements: &[Statement], table: usize) -> Option<usize> {
     let mut left = table;
     for (number, statement) in statements.iter().enumerate() {
@@ -79,7 +79,7 @@ fn header_of(statements: &[Statement], table: usize) -> Option<usize> {
     None
 }
 
-// What stands at a key of the document.
+// Returns the statement at a key of the document.
 fn at_key<'a>(statements: &'a [Statement], key: &str) -> Option<&'a Statement> {
     match pair_in(statements, key) {
         Some(statement) => Some(statement),
@@ -87,7 +87,8 @@ fn at_key<'a>(statements: &'a [Statement], key: &str) -> Option<&'a Statement> {
     }
 }
 
-// What stands at a key of the table of that number, or else where the table begins.
+// Returns the statement at a key of the table with that index, or otherwise the header of the
+// table.
 fn in_table<'a>(
     statements: &'a [Statement],
     table: usize,
@@ -106,7 +107,7 @@ fn in_table<'a>(
     statements.get(header)
 }
 
-/// The line of a place, where it has one.
+/// Returns the line of a location, if it has one.
 pub(crate) fn line_of(text: &str, statements: &[Statement], place: Location<'_>) -> Option<usize> {
     let statement = match place.table {
         Some(table) => in_table(statements, table, place.key),

@@ -1,5 +1,5 @@
-//! What is said of a mistake and of a warning, but for its place. What stands at `text` and at
-//! `salt` is never said.
+//! The messages of errors and warnings, without their locations. No message has the value of `text`
+//! or of `salt`.
 use crate::table::{name_fault, token_fault};
 use crate::token_file_error::TokenFileError;
 use crate::warning::Warning;
@@ -7,7 +7,7 @@ use entity_core::id_fault::IdFault;
 use std::alloc::{AllocError, Global};
 use toml::Value;
 
-/// The table of that number.
+/// Returns the table with that index.
 pub(crate) fn table_of(document: &Value, number: usize) -> Option<&Value> {
     match document.get("token") {
         Some(list) => list.get(number),
@@ -15,7 +15,7 @@ pub(crate) fn table_of(document: &Value, number: usize) -> Option<&Value> {
     }
 }
 
-// What is at a key of the table of that number.
+// Returns the value at a key of the table with that index.
 fn member_of<'a>(document: &'a Value, number: usize, key: &str) -> Option<&'a Value> {
     match table_of(document, number) {
         Some(table) => table.get(key),
@@ -23,7 +23,7 @@ fn member_of<'a>(document: &'a Value, number: usize, key: &str) -> Option<&'a Va
     }
 }
 
-// What is said of a salt that does not read.
+// Returns the message for an invalid salt.
 fn salt_message(alloc: Global, found: Option<&Value>) -> Result<String, AllocError> {
     let Some(value) = found else {
         return String::from_str(alloc, "no salt: dss tokens --new-salt makes one");
@@ -38,7 +38,7 @@ fn salt_message(alloc: Global, found: Option<&Value>) -> Result<String, AllocErr
     String::from_str(alloc, "salt: only letters, digits, - _ . are allowed")
 }
 
-// What is said of a token's text that is not right.
+// Returns the message for an invalid text of a token.
 fn token_message(alloc: Global, table: Option<&Value>) -> Result<String, AllocError> {
     let Some(table) = table else {
         return String::from_str(alloc, "no table");
@@ -62,7 +62,7 @@ fn token_message(alloc: Global, table: Option<&Value>) -> Result<String, AllocEr
     )
 }
 
-/// What is said of a supplier's id that does not read.
+/// Returns the message for an invalid id of a USS.
 pub(crate) fn uss_text_message(alloc: Global, uss: &str) -> Result<String, AllocError> {
     if name_fault(uss) == Some(IdFault::Length) {
         let length = uss.len();
@@ -71,14 +71,14 @@ pub(crate) fn uss_text_message(alloc: Global, uss: &str) -> Result<String, Alloc
     format!(in alloc; "uss {uss:?}: only letters, digits, - _ . are allowed")
 }
 
-/// What is said of a name that no scope has.
+/// Returns the message for a name that no scope has.
 pub(crate) fn scope_message(alloc: Global, name: &str) -> Result<String, AllocError> {
     format!(in alloc;
         "scope {name:?}: no scope has that name: there are utm.strategic_coordination, utm.conformance_monitoring_sa, utm.constraint_processing, utm.constraint_management and utm.availability_arbitration"
     )
 }
 
-// What is said of a table's supplier that is not right.
+// Returns the message for an invalid USS of a table.
 fn uss_message(alloc: Global, found: Option<&Value>) -> Result<String, AllocError> {
     let Some(value) = found else {
         return String::from_str(alloc, "no uss");
@@ -89,7 +89,7 @@ fn uss_message(alloc: Global, found: Option<&Value>) -> Result<String, AllocErro
     }
 }
 
-// What is said of a table's scopes that are not right.
+// Returns the message for invalid scopes of a table.
 fn scopes_message(alloc: Global, found: Option<&Value>) -> Result<String, AllocError> {
     let text = match found {
         Some(_) => "scopes: no list of strings",
@@ -98,7 +98,7 @@ fn scopes_message(alloc: Global, found: Option<&Value>) -> Result<String, AllocE
     String::from_str(alloc, text)
 }
 
-/// What is said of a mistake of a document.
+/// Returns the message for an error of a document.
 pub(crate) fn error_message(
     alloc: Global,
     document: &Value,
@@ -124,7 +124,7 @@ pub(crate) fn error_message(
     }
 }
 
-// What is said of a key that is not read.
+// Returns the message for a key that the reader ignores.
 fn key_message(
     alloc: Global,
     document: &Value,
@@ -145,7 +145,7 @@ fn key_message(
     }
 }
 
-/// What is said of a warning.
+/// Returns the message for a warning.
 pub(crate) fn warning_message(
     alloc: Global,
     document: &Value,

@@ -1,4 +1,4 @@
-//! How a new token and a new salt are written.
+//! The format of a new token and a new salt.
 ghost use Rattle.std.specs.Prelude.{◌≡◌, ◌++◌, IfErr, IfNone, IfOk, IfSome};
 ghost use Rattle.std.specs.Prelude.{None, OnOk, false, map, string_bytes, true};
 ghost use Rattle.std.specs.List.{list_all};
@@ -13,13 +13,13 @@ use crate::warnings::is_scope;
 use std::alloc::{AllocError, Global};
 use token_conf::conf_fault::ConfFault;
 
-/// How many random bytes make a token or a salt: 256 bits.
+/// The number of random bytes of a token or a salt: 256 bits.
 pub const RANDOM_BYTES: usize = 32;
 
-/// Why no token is made, with what a person is told of it.
+/// The reason why no token is generated, with a message for the operator.
 #[derive(Debug, Drop)]
 pub enum NewFault {
-    /// The supplier's id does not read.
+    /// The id of the USS is invalid.
     Uss(String),
     /// A name is that of no scope.
     Scopes(String),
@@ -30,7 +30,7 @@ pub enum NewFault {
 impl NewFault {
     ghost use Rattle.token_check.specs.NewFault.{fault_of};
 
-    /// The fault of a token file that had such a table, or that of memory.
+    /// Returns the fault of a token file that had such a table, or `Memory`.
     pub fn fault(&self) -> ConfFault
         ensures { result ≡ fault_of self.now }
     {
@@ -41,7 +41,7 @@ impl NewFault {
         }
     }
 
-    /// What a person is told of it.
+    /// Returns the message for the operator.
     pub fn message(&self) -> &str {
         match self {
             NewFault::Uss(message) | NewFault::Scopes(message) => message.as_str(),
@@ -61,7 +61,7 @@ impl From<AllocError> for NewFault {
     }
 }
 
-/// The line of a salt of these bytes, its line end included.
+/// Returns the line of a salt of these bytes, with its line end.
 pub fn salt_line(alloc: Global, random: &[u8]) -> Result<String, AllocError>
     ensures { IfOk result (λ line. string_bytes line ≡ salt_line_of random.now) }
 {
@@ -69,14 +69,14 @@ pub fn salt_line(alloc: Global, random: &[u8]) -> Result<String, AllocError>
     format!(in alloc; "salt = \"{salt}\"\n")
 }
 
-// The names of a text, with commas between.
+// Returns the names of a text, separated by commas.
 fn names_in(alloc: Global, text: &str) -> Result<Vec<&str>, AllocError>
     ensures { IfOk result (λ names. map (λ name. name.now) names.items ≡ names_in text.now) }
 {
     text.split(',').collect(alloc)
 }
 
-// The first of the names that no scope has.
+// Returns the first of the names that no scope has.
 fn unknown_among<'a>(names: &[&'a str]) -> Option<&'a str>
     ensures some { IfSome result (λ _.
         list_all is_scope (map (λ name. name.now) names.now) ≡ false) }
@@ -91,7 +91,7 @@ fn unknown_among<'a>(names: &[&'a str]) -> Option<&'a str>
     None
 }
 
-// Adds a name in quotes.
+// Appends a name in quotes.
 fn put_quoted(text: &mut String, name: &str) -> Result<(), AllocError>
     ensures { OnOk result (string_bytes text.new ≡ string_bytes text.old ++ quoted name.now) }
 {
@@ -100,7 +100,7 @@ fn put_quoted(text: &mut String, name: &str) -> Result<(), AllocError>
     text.push_str("\"")
 }
 
-// Adds names in quotes, a comma before each.
+// Appends names in quotes, each after a comma.
 fn put_after(text: &mut String, names: &[&str]) -> Result<(), AllocError>
     ensures { OnOk result (string_bytes text.new
         ≡ string_bytes text.old ++ list_after (map (λ name. name.now) names.now)) }
@@ -112,7 +112,7 @@ fn put_after(text: &mut String, names: &[&str]) -> Result<(), AllocError>
     Ok(())
 }
 
-// The names in quotes, with commas between.
+// Returns the names in quotes, separated by commas.
 fn list_of(alloc: Global, names: &[&str]) -> Result<String, AllocError>
     ensures { IfOk result (λ text. string_bytes text ≡ list_of (map (λ name. name.now) names.now)) }
 {
@@ -124,8 +124,8 @@ fn list_of(alloc: Global, names: &[&str]) -> Result<String, AllocError>
     Ok(text)
 }
 
-/// The table of a token whose text is made of these bytes, after an empty line, its last line end
-/// included: of that supplier, with the scopes whose names stand in a text with commas between.
+/// Returns the table of a token of that USS, whose text is made from these bytes. The scopes are
+/// names separated by commas. The table begins with an empty line and ends with a line end.
 pub fn token_table(
     alloc: Global,
     uss: &str,

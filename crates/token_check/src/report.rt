@@ -1,4 +1,4 @@
-//! What is told of a token file.
+//! The result of the check of a token file.
 ghost use Rattle.std.specs.Prelude.{◌≡◌, ◌+◌, [], ◌∷◌, IfOk, OnOk, length, vec_len};
 ghost use Rattle.toml.specs.View.{view};
 ghost use Rattle.token_conf.specs.TokenFile.{file_of};
@@ -18,20 +18,21 @@ use std::alloc::{AllocError, Global};
 use toml::Value;
 use toml::de::Error;
 
-/// What is told of a token file.
+/// The result of the check of a token file.
 #[derive(Debug, Drop)]
 pub struct CheckReport {
-    /// What its reader refuses: first that of the salt, then table by table.
+    /// The errors, for which the reader rejects the file: first that of the salt, then table by
+    /// table.
     pub mistakes: Vec<TokenFileError>,
-    /// What it says and surely does not mean.
+    /// The warnings, for which the reader does not reject the file.
     pub warnings: Vec<Warning>,
-    /// A line for each mistake and then for each warning, without its end.
+    /// A line for each error and then for each warning, without its line end.
     pub lines: Vec<String>,
-    /// How much it has.
+    /// The size of its contents.
     pub summary: Summary,
 }
 
-// The line of what is said of a place.
+// Returns the line of a message with its location.
 fn line(
     alloc: Global,
     number: Option<usize>,
@@ -52,14 +53,14 @@ fn line(
     }
 }
 
-// A text, and where its statements begin.
+// A text, and the positions of its statements.
 #[derive(Clone, Copy, Drop)]
 struct Source<'a> {
     text: &'a str,
     statements: &'a [Statement],
 }
 
-// The line of what is said of a place of a text.
+// Returns the line of a message about a location of a text.
 fn line_at_place(
     alloc: Global,
     source: Source<'_>,
@@ -70,7 +71,7 @@ fn line_at_place(
     line(alloc, number, place.table, message)
 }
 
-// Adds the lines of mistakes.
+// Appends the lines of errors.
 fn put_lines_of_mistakes(
     alloc: Global,
     lines: &mut Vec<String>,
@@ -88,7 +89,7 @@ fn put_lines_of_mistakes(
     Ok(())
 }
 
-// Adds the lines of warnings.
+// Appends the lines of warnings.
 fn put_lines_of_warnings(
     alloc: Global,
     lines: &mut Vec<String>,
@@ -106,7 +107,7 @@ fn put_lines_of_warnings(
     Ok(())
 }
 
-// What is told of a document.
+// Checks a document.
 fn report_of(alloc: Global, text: &str, document: &Value) -> Result<CheckReport, AllocError>
     ensures mistakes { IfOk result (λ report.
         report.mistakes.items ≡ errors_of (view document.now)) }
@@ -134,7 +135,7 @@ fn report_of(alloc: Global, text: &str, document: &Value) -> Result<CheckReport,
     })
 }
 
-// What is told of a text that is not TOML: one line.
+// Returns the result for a text that is not TOML: one line.
 fn report_of_no_toml(alloc: Global, text: &str, error: &Error) -> Result<CheckReport, AllocError>
     ensures mistakes { IfOk result (λ report. report.mistakes.items ≡ TokenFileError.Toml ∷ []) }
     ensures warnings { IfOk result (λ report. report.warnings.items ≡ []) }
@@ -162,7 +163,7 @@ fn report_of_no_toml(alloc: Global, text: &str, error: &Error) -> Result<CheckRe
     })
 }
 
-// What is told of a text, TOML or not.
+// Checks a text, TOML or not.
 fn report_of_text(alloc: Global, text: &str) -> Result<CheckReport, AllocError>
     ensures mistakes { IfOk result (λ report. report.mistakes.items ≡ mistakes_in text.now) }
     ensures warnings { IfOk result (λ report. report.warnings.items ≡ warnings_in text.now) }
@@ -180,10 +181,11 @@ fn report_of_text(alloc: Global, text: &str) -> Result<CheckReport, AllocError>
     }
 }
 
-/// What is told of the text of a token file. Its mistakes are exactly what the reader of token
-/// files refuses: it takes the file where there is none, and else tells the fault of the first.
-/// What stands at `text` and at `salt` is on no line. The time grows with the square of the number
-/// of tokens.
+/// Checks the text of a token file.
+///
+/// The errors are exactly those of the reader of token files. The reader accepts the file if there
+/// is none, and otherwise returns the fault of the first. No line has the value of `text` or of
+/// `salt`. The time is quadratic in the number of tokens.
 pub fn check_token_file(alloc: Global, text: &str) -> Result<CheckReport, AllocError>
     ensures mistakes { IfOk result (λ report. report.mistakes.items ≡ mistakes_in text.now) }
     ensures explain { IfOk result (λ report. Explain report.mistakes.items (file_of text.now)) }

@@ -1,4 +1,4 @@
-//! Where the statements of a TOML document begin.
+//! The positions of the statements of a TOML document.
 ghost use Rattle.std.specs.Prelude.{◌≡◌, ◌==◌, ◌≤◌, IfOk, IfSome};
 ghost use Rattle.std.specs.Prelude.{count_by, length, string_bytes, true};
 ghost use Rattle.std.specs.List.{All};
@@ -10,31 +10,31 @@ use std::alloc::{AllocError, Global};
 use toml_parser::text::{byte_at, first, skip, skip_blank, skip_ws};
 use toml_parser::{Key, ParseError, dotted_key, quoted, starts_string};
 
-/// How a statement begins.
+/// The form in which a statement begins.
 #[derive(Clone, Copy, Debug, PartialEq, Eq)]
 pub(crate) enum Form {
-    /// With a key, which has a value after it.
+    /// A key with a value after it.
     Pair,
-    /// With the header of a table, in one bracket.
+    /// The header of a table, in single brackets.
     Table,
-    /// With the header of a table of a list, in two brackets.
+    /// The header of a table of a list, in double brackets.
     Item,
 }
 
 /// A statement of a document.
 #[derive(Debug, Drop)]
 pub(crate) struct Statement {
-    /// The byte of the text at which it begins.
+    /// The index of its first byte in the text.
     pub(crate) at: usize,
-    /// How it begins.
+    /// Its form.
     pub(crate) form: Form,
     /// The first word of its key.
     pub(crate) name: String,
-    /// Whether its key has more words.
+    /// True if its key has more words.
     pub(crate) is_deeper: bool,
 }
 
-// How many line feeds there are.
+// Returns the number of line feeds.
 fn line_feeds_in(bytes: &[u8]) -> usize
     ensures counted { result ≡ count_by (λ byte. byte == 10) bytes.now }
     ensures bound { result ≤ length bytes.now }
@@ -42,7 +42,7 @@ fn line_feeds_in(bytes: &[u8]) -> usize
     bytes.iter().filter(|byte| **byte == b'\n').count()
 }
 
-/// The line on which that byte of the text stands, from 1.
+/// Returns the line of that byte of the text, from 1.
 #[tactic(auto, using(std::proofs::lemmas::List::take_min))]
 pub(crate) fn line_at(text: &str, at: usize) -> usize
     ensures { result ≡ line_at text.now at }
@@ -50,7 +50,7 @@ pub(crate) fn line_at(text: &str, at: usize) -> usize
     1 + line_feeds_in(&text.as_bytes()[..at.min(text.len())])
 }
 
-// What stands after the line.
+// Returns the text after the line.
 fn after_line(text: &str) -> &str {
     match text.split_once('\n') {
         Some((_, after)) => after,
@@ -58,7 +58,7 @@ fn after_line(text: &str) -> &str {
     }
 }
 
-// What stands after a character outside of strings and comments, which is ASCII.
+// Returns the text after an ASCII character outside of strings and comments.
 fn after_byte(text: &str) -> &str {
     let byte = first(text);
     if 0 < byte && byte < 128 {
@@ -68,7 +68,7 @@ fn after_byte(text: &str) -> &str {
     }
 }
 
-// What stands after the string that comes next.
+// Returns the text after the next string.
 fn after_string(alloc: Global, text: &str) -> Result<&str, AllocError>
     requires { strings.starts_string text.now ≡ true }
 {
@@ -79,7 +79,7 @@ fn after_string(alloc: Global, text: &str) -> Result<&str, AllocError>
     }
 }
 
-// What stands after a value: the lines below the one on which it ends.
+// Returns the text after a value: the lines after the one on which it ends.
 fn after_value(alloc: Global, text: &str) -> Result<&str, AllocError> {
     let mut rest = text;
     let mut depth = 0usize;
@@ -104,7 +104,7 @@ fn after_value(alloc: Global, text: &str) -> Result<&str, AllocError> {
     Ok(rest)
 }
 
-// How the statement that comes next begins.
+// Returns the form of the next statement.
 fn form_of(text: &str) -> Form {
     if first(text) != b'[' {
         Form::Pair
@@ -115,7 +115,7 @@ fn form_of(text: &str) -> Form {
     }
 }
 
-// How many bytes of a statement stand before its key.
+// Returns the number of bytes of a statement before its key.
 fn width_of(form: Form) -> usize
     ensures { result ≡ width_of form }
 {
@@ -126,7 +126,7 @@ fn width_of(form: Form) -> usize
     }
 }
 
-// The first word of a key.
+// Returns the first word of a key.
 fn first_word(key: &Key) -> Result<String, AllocError>
     ensures { IfOk result (λ word. string_bytes word ≡ first_word (key_view key.now)) }
 {
@@ -136,14 +136,14 @@ fn first_word(key: &Key) -> Result<String, AllocError>
     }
 }
 
-// The text from a byte on.
+// Returns the text from a byte on.
 fn text_from(text: &str, at: usize) -> Option<&str>
     ensures { IfSome result (λ rest. rest.now ≡ from at text.now) }
 {
     text.get(at..)
 }
 
-// The statement that begins at that byte, and what stands after its key.
+// Returns the statement that begins at that byte, and the text after its key.
 fn statement_at(
     alloc: Global,
     text: &str,
@@ -175,8 +175,8 @@ fn statement_at(
     }
 }
 
-// The first statement that begins at that byte or after it, and the byte behind the lines that it
-// has.
+// Returns the first statement that begins at that byte or after it, and the byte after its last
+// line.
 fn next_statement(
     alloc: Global,
     text: &str,
@@ -200,7 +200,7 @@ fn next_statement(
     }
 }
 
-/// The statements of a document, in their order.
+/// Returns the statements of a document, in their order.
 pub(crate) fn statements(alloc: Global, text: &str) -> Result<Vec<Statement>, AllocError>
     ensures { IfOk result (λ found. All (IsWrittenIn text.now) found.items) }
 {

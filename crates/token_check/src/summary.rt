@@ -1,4 +1,4 @@
-//! How much a token file has.
+//! The size of a token file's contents.
 ghost use Rattle.std.specs.Prelude.{◌≡◌, map};
 ghost use Rattle.toml.specs.View.{view};
 ghost use Rattle.token_check.specs.Summary.{has_new_uss, has_uss, is_uss_of_any, salt_length};
@@ -8,19 +8,19 @@ use crate::table::{list_at, name_at};
 use std::alloc::{AllocError, Global};
 use toml::Value;
 
-/// How much a token file has.
+/// The size of a token file's contents.
 #[derive(Clone, Copy, Debug, PartialEq, Eq)]
 pub struct Summary {
-    /// How many tokens.
+    /// The number of tokens.
     pub tokens: usize,
-    /// Of how many suppliers.
+    /// The number of USSs.
     pub suppliers: usize,
-    /// How many characters the salt has.
+    /// The number of characters of the salt.
     pub salt: usize,
 }
 
 impl Summary {
-    /// The line of a file of that name, without its end.
+    /// Returns the line of a file of that name, without its line end.
     pub fn line(self, alloc: Global, name: &str) -> Result<String, AllocError> {
         let Summary {
             tokens,
@@ -36,12 +36,12 @@ impl Summary {
     }
 }
 
-// The ending of a word for so many.
+// Returns the ending of a noun for that number.
 fn ending(count: usize) -> &'static str {
     if count == 1 { "" } else { "s" }
 }
 
-// Whether the table has that supplier.
+// Returns true if the table has that USS.
 fn has_uss(table: &Value, uss: &str) -> bool
     ensures { result ≡ has_uss uss.now (view table.now) }
 {
@@ -51,7 +51,7 @@ fn has_uss(table: &Value, uss: &str) -> bool
     }
 }
 
-// Whether one of the tables has that supplier.
+// Returns true if one of the tables has that USS.
 fn is_uss_of_any(tables: &[Value], uss: &str) -> bool
     ensures { result ≡ is_uss_of_any uss.now (map view tables.now) }
 {
@@ -63,7 +63,7 @@ fn is_uss_of_any(tables: &[Value], uss: &str) -> bool
     false
 }
 
-// Whether the table has a supplier that none of those after it has.
+// Returns true if the table has a USS that none of the tables after it has.
 fn has_new_uss(table: &Value, after: &[Value]) -> bool
     ensures { result ≡ has_new_uss (view table.now) (map view after.now) }
 {
@@ -73,7 +73,7 @@ fn has_new_uss(table: &Value, after: &[Value]) -> bool
     }
 }
 
-// How many suppliers the tables have.
+// Returns the number of USSs of the tables.
 fn suppliers_of(tables: &[Value]) -> usize
     ensures { result ≡ suppliers_of (map view tables.now) }
 {
@@ -86,7 +86,7 @@ fn suppliers_of(tables: &[Value]) -> usize
     count
 }
 
-// The tables of a document's list `token`; none where it is no list.
+// Returns the tables of a document's list `token`; none if it is no list.
 fn tokens_of(document: &Value) -> &[Value]
     ensures { map view result.now ≡ tokens_of (view document.now) }
 {
@@ -96,7 +96,7 @@ fn tokens_of(document: &Value) -> &[Value]
     }
 }
 
-// How many characters a document's salt has; none where it is not right.
+// Returns the number of characters of a document's salt; 0 if it is invalid.
 fn salt_length(document: &Value) -> usize
     ensures { result ≡ salt_length (view document.now) }
 {
@@ -106,7 +106,7 @@ fn salt_length(document: &Value) -> usize
     }
 }
 
-/// How much a document has.
+/// Returns the size of a document's contents.
 pub(crate) fn summary_of(document: &Value) -> Summary
     ensures { result ≡ summary_of (view document.now) }
 {

@@ -1,4 +1,4 @@
-//! A table of a token file, looked at member by member.
+//! A table of a token file, read member by member.
 ghost use Rattle.std.specs.Prelude.{◌≡◌, None, Some, codes, is_some, option_and_then, option_map};
 ghost use Rattle.std.specs.List.{list_all};
 ghost use Rattle.toml.specs.Data.{as_array, as_str, get};
@@ -10,7 +10,7 @@ ghost use Rattle.token_check.specs.TokenFileErrors.{has_text, token_text};
 use entity_core::id_fault::IdFault;
 use toml::Value;
 
-/// The text at a key.
+/// Returns the text at a key.
 pub(crate) fn string_at<'a>(table: &'a Value, key: &str) -> Option<&'a str>
     ensures { option_map (λ s. s.now) result
         ≡ option_and_then as_str (get key.now (view table.now)) }
@@ -33,7 +33,7 @@ fn is_name(text: &str) -> bool
         || *b == b'_')
 }
 
-/// The first fault of the text of a token.
+/// Returns the first fault of the text of a token.
 pub(crate) fn token_fault(text: &str) -> Option<IdFault>
     ensures { result ≡ token_fault text.now }
 {
@@ -46,7 +46,7 @@ pub(crate) fn token_fault(text: &str) -> Option<IdFault>
     }
 }
 
-/// The first fault of a supplier's id or a salt.
+/// Returns the first fault of the id of a USS, or of a salt.
 pub(crate) fn name_fault(text: &str) -> Option<IdFault>
     ensures { result ≡ name_fault text.now }
 {
@@ -59,7 +59,7 @@ pub(crate) fn name_fault(text: &str) -> Option<IdFault>
     }
 }
 
-/// The text of the table's token, where it is right.
+/// Returns the text of the table's token, if it is valid.
 pub(crate) fn token_text(table: &Value) -> Option<&str>
     ensures { option_map (λ s. s.now) result ≡ token_text (view table.now) }
 {
@@ -72,7 +72,7 @@ pub(crate) fn token_text(table: &Value) -> Option<&str>
     }
 }
 
-/// The name at a key, a supplier's id or a salt, where it is right.
+/// Returns the name at a key, the id of a USS or a salt, if it is valid.
 pub(crate) fn name_at<'a>(table: &'a Value, key: &str) -> Option<&'a str>
     ensures { option_map (λ s. s.now) result ≡ text_at key.now name_fault (view table.now) }
 {
@@ -85,7 +85,7 @@ pub(crate) fn name_at<'a>(table: &'a Value, key: &str) -> Option<&'a str>
     }
 }
 
-/// The list at a key.
+/// Returns the list at a key.
 pub(crate) fn list_at<'a>(table: &'a Value, key: &str) -> Option<&'a Vec<Value>>
     ensures { option_map (λ v. array_view v.now) result
         ≡ option_and_then as_array (get key.now (view table.now)) }
@@ -93,7 +93,7 @@ pub(crate) fn list_at<'a>(table: &'a Value, key: &str) -> Option<&'a Vec<Value>>
     table.get(key).and_then(Value::as_array)
 }
 
-// Whether each value is a text.
+// Returns true if each value is a text.
 fn are_texts(values: &[Value]) -> bool
     ensures { result ≡ is_some (texts_of (items_view values.now)) }
 {
@@ -105,7 +105,7 @@ fn are_texts(values: &[Value]) -> bool
     true
 }
 
-/// Whether the table has a list of texts `scopes`.
+/// Returns true if the table has a list of texts `scopes`.
 pub(crate) fn has_scopes(table: &Value) -> bool
     ensures { result ≡ is_some (scopes_at (view table.now)) }
 {
@@ -115,7 +115,7 @@ pub(crate) fn has_scopes(table: &Value) -> bool
     }
 }
 
-/// Whether the table's token has that text.
+/// Returns true if the table's token has that text.
 pub(crate) fn has_text(table: &Value, text: &str) -> bool
     ensures { result ≡ has_text text.now (view table.now) }
 {

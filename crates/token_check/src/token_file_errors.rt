@@ -1,4 +1,4 @@
-//! The mistakes of a token file.
+//! The errors of a token file.
 ghost use Rattle.std.specs.Prelude.{◌≡◌, ◌++◌, ◌∷◌, [], None, Some};
 ghost use Rattle.std.specs.Prelude.{IfOk, OnOk, codes, map, option_map};
 ghost use Rattle.toml.specs.Data.{get};
@@ -13,7 +13,7 @@ use crate::token_file_error::TokenFileError;
 use std::alloc::{AllocError, Global};
 use toml::Value;
 
-// Adds a mistake, where something is not right.
+// Appends an error, if something is invalid.
 fn put_unless(
     found: &mut Vec<TokenFileError>,
     is_right: bool,
@@ -27,7 +27,7 @@ fn put_unless(
     Ok(())
 }
 
-// The number of the first of the tables whose token has that text.
+// Returns the index of the first table whose token has that text.
 fn holder_of(tables: &[Value], text: &str) -> Option<usize>
     ensures { result ≡ holder_of text.now (map view tables.now) }
 {
@@ -39,7 +39,7 @@ fn holder_of(tables: &[Value], text: &str) -> Option<usize>
     None
 }
 
-// Adds the mistakes of a table that comes after some.
+// Appends the errors of a table after some others.
 fn put_mistakes_of_table(
     found: &mut Vec<TokenFileError>,
     before: &[Value],
@@ -65,7 +65,7 @@ fn put_mistakes_of_table(
     Ok(())
 }
 
-// Adds the mistakes of some tables, each with those before it.
+// Appends the errors of some tables, each with those before it.
 fn put_mistakes_of_tables(
     found: &mut Vec<TokenFileError>,
     tables: &[Value],
@@ -79,7 +79,7 @@ fn put_mistakes_of_tables(
     Ok(())
 }
 
-// Adds the mistakes of the document's member `token`, if it has one.
+// Appends the errors of the document's member `token`, if it has one.
 fn put_mistakes_of_list(
     found: &mut Vec<TokenFileError>,
     member: Option<&Value>,
@@ -96,7 +96,7 @@ fn put_mistakes_of_list(
     }
 }
 
-/// The mistakes of a document: that of its salt, and then those of its tables.
+/// Returns the errors of a document: that of its salt, and then those of its tables.
 pub(crate) fn errors_of(alloc: Global, document: &Value) -> Result<Vec<TokenFileError>, AllocError>
     ensures { IfOk result (λ found. found.items ≡ errors_of (view document.now)) }
 {

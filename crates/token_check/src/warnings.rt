@@ -1,4 +1,4 @@
-//! What a token file says and surely does not mean, looked for.
+//! The search for warnings of a token file.
 ghost use Rattle.std.specs.Prelude.{◌≡◌, ◌++◌, [], IfOk, OnOk, map, not, option_map};
 ghost use Rattle.std.specs.Option.{option_map_or};
 ghost use Rattle.toml.specs.Data.{as_str};
@@ -16,14 +16,14 @@ use policy_core::scope::Scope;
 use std::alloc::{AllocError, Global};
 use toml::{Table, Value};
 
-// Whether the salt stands in an example.
+// Returns true if the salt occurs in an example.
 fn is_of_example(salt: &str) -> bool
     ensures { result ≡ is_of_example salt.now }
 {
     salt == "demo"
 }
 
-// Adds a warning, where it is so.
+// Appends a warning, if its condition holds.
 fn put_when(found: &mut Vec<Warning>, is_so: bool, warning: Warning) -> Result<(), AllocError>
     ensures { OnOk result (found.new.items ≡ found.old.items ++ when is_so warning) }
 {
@@ -33,7 +33,7 @@ fn put_when(found: &mut Vec<Warning>, is_so: bool, warning: Warning) -> Result<(
     Ok(())
 }
 
-// Adds the warnings of a salt.
+// Appends the warnings of a salt.
 fn put_warnings_of_salt(found: &mut Vec<Warning>, salt: &str) -> Result<(), AllocError>
     ensures { OnOk result (found.new.items ≡ found.old.items ++ warnings_of_salt salt.now) }
 {
@@ -45,14 +45,14 @@ fn put_warnings_of_salt(found: &mut Vec<Warning>, salt: &str) -> Result<(), Allo
     )
 }
 
-// A copy of a text.
+// Returns a copy of a text.
 fn copy_of(alloc: Global, text: &str) -> Result<Text, AllocError>
     ensures { IfOk result (λ copy. copy ≡ text.now) }
 {
     Ok(Text::from_string(String::from_str(alloc, text)?))
 }
 
-// Whether a key is read: of the document, or of a table of a token.
+// Returns true if the reader reads a key: of the document, or of a token's table.
 fn is_read(place: Option<usize>, key: &str) -> bool
     ensures { result ≡ is_read place key.now }
 {
@@ -62,7 +62,7 @@ fn is_read(place: Option<usize>, key: &str) -> bool
     }
 }
 
-// Adds the warnings of the keys of a table.
+// Appends the warnings of the keys of a table.
 fn put_warnings_of_keys(
     alloc: Global,
     found: &mut Vec<Warning>,
@@ -79,14 +79,14 @@ fn put_warnings_of_keys(
     Ok(())
 }
 
-/// Whether a scope has that name.
+/// Returns true if a scope has that name.
 pub(crate) fn is_scope(name: &str) -> bool
     ensures { result ≡ is_scope name.now }
 {
     Scope::named(name).is_some()
 }
 
-// Adds the warnings of one name of a list of scopes.
+// Appends the warnings of one name of a list of scopes.
 fn put_warnings_of_name(
     alloc: Global,
     found: &mut Vec<Warning>,
@@ -104,7 +104,7 @@ fn put_warnings_of_name(
     put_when(found, !is_scope(name.text()), Warning::Scope(number, name))
 }
 
-// Adds the warnings of the names of a list of scopes.
+// Appends the warnings of the names of a list of scopes.
 fn put_warnings_of_names(
     alloc: Global,
     found: &mut Vec<Warning>,
@@ -120,7 +120,7 @@ fn put_warnings_of_names(
     Ok(())
 }
 
-// Adds the warnings of a table.
+// Appends the warnings of a table.
 fn put_warnings_of_table(
     alloc: Global,
     found: &mut Vec<Warning>,
@@ -139,7 +139,7 @@ fn put_warnings_of_table(
     }
 }
 
-// Adds the warnings of the tables of tokens.
+// Appends the warnings of the tables of tokens.
 fn put_warnings_of_tables(
     alloc: Global,
     found: &mut Vec<Warning>,
@@ -154,7 +154,7 @@ fn put_warnings_of_tables(
     Ok(())
 }
 
-// Adds the warnings of the list of tokens.
+// Appends the warnings of the list of tokens.
 fn put_warnings_of_list(
     alloc: Global,
     found: &mut Vec<Warning>,
@@ -169,7 +169,7 @@ fn put_warnings_of_list(
     }
 }
 
-// Adds the warnings of the document's member `token`, if it has one.
+// Appends the warnings of the document's member `token`, if it has one.
 fn put_warnings_of_member(
     alloc: Global,
     found: &mut Vec<Warning>,
@@ -188,7 +188,7 @@ fn put_warnings_of_member(
     }
 }
 
-/// What a document says and surely does not mean: of its salt, of its keys, and of its tokens.
+/// Returns the warnings of a document: of its salt, of its keys, and of its tokens.
 pub(crate) fn warnings_of(alloc: Global, document: &Value) -> Result<Vec<Warning>, AllocError>
     ensures { IfOk result (λ found. found.items ≡ warnings_of (view document.now)) }
 {

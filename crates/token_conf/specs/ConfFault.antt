@@ -1,9 +1,9 @@
--- How the faults of a token file are told.
+-- The numbers and names of the faults of a token file.
 use Rattle.std.specs.Prelude.{ℕ, List, codes}
 use Rattle.token_conf.specs.declared.conf_fault.ConfFault.{ConfFault}
 use Rattle.token_conf.specs.declared.conf_fault.ConfFault.TheVariants.{Toml, Salt, Token, Uss, Scopes, Repeated, Memory}
 
--- the number of a fault, in the order in which they are looked for
+-- The number of a fault, in the order in which faults are checked.
 abbrev pub fault_number : ConfFault → ℕ
 fault_number Toml = 1
 fault_number Salt = 2

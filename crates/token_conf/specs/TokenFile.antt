@@ -16,16 +16,16 @@ use Rattle.policy_core.specs.declared.scope.Scope.{Scope}
 use Rattle.token_conf.specs.declared.conf_fault.ConfFault.{ConfFault}
 use Rattle.token_conf.specs.declared.conf_fault.ConfFault.TheVariants as fault
 
--- the caller of each token, by the token's text
+-- The caller of each token, by the text of the token.
 abbrev pub Callers : Type 0
 Callers = FinMap text_cmp Caller
 
--- what a file says
+-- The contents of a file.
 pub record TokenFile : Type 0 where
   pub salt : List ℕ
   pub callers : Callers
 
--- a file is stored as the pair of its fields
+-- A file is stored as the pair of its fields.
 abbrev pub file_code : Coded TokenFile
 file_code =
     code_by (List ℕ × Callers)
@@ -38,37 +38,37 @@ salt_of file = file.salt
 abbrev pub callers_of : TokenFile → Callers
 callers_of file = file.callers
 
--- the map of some tokens, each a text and its caller; of two with one text the first counts
+-- The map of some tokens, each a text and its caller. If two have the same text, the first counts.
 abbrev pub callers_in : List (List ℕ × Caller) → Callers
 callers_in tokens = from_entries tokens
 
--- the fault of a token's text, which is 1 to 255 visible bytes
+-- The fault of a token's text, which has 1 to 255 visible bytes.
 abbrev pub token_fault : List ℕ → Option IdFault
 token_fault text = first_fault 1 255 is_visible_byte text
 
--- the text, where it has no fault
+-- The text, if it has no fault.
 abbrev pub faultless : (List ℕ → Option IdFault) → List ℕ → Option (List ℕ)
 faultless fault_of text = if is_none (fault_of text) then Some text else None
 
--- the text at a key, where it is one and has no fault
+-- The text at a key, if it is a text without a fault.
 abbrev pub text_at : List ℕ → (List ℕ → Option IdFault) → Data → Option (List ℕ)
 text_at key fault_of d = option_and_then (faultless fault_of) (option_and_then as_str (get key d))
 
--- the texts of a list, where each item is a text
+-- The texts of a list, if each item is a text.
 abbrev pub texts_of : Items → Option (List (List ℕ))
 texts_of no_items = Some []
 texts_of (item d ds) =
     option_and_then (λ text. option_map (λ texts. text ∷ texts) (texts_of ds)) (as_str d)
 
--- whether a text is the name of a scope
+-- True if a text is the name of a scope.
 abbrev pub is_name_of : Scope → List ℕ → Bool
 is_name_of s text = pointwise nat_eq (scope_name s) text
 
--- the scopes whose names are among the texts; a text that names none adds none
+-- The scopes whose names are among the texts. A text that names none adds none.
 unfoldable pub scopes_named : List (List ℕ) → Scopes
 scopes_named texts = scopes_where (λ s. list_any (is_name_of s) texts)
 
--- the scopes that the member `scopes` of a table names
+-- The scopes that the member `scopes` of a table names.
 abbrev pub scopes_at : Data → Option Scopes
 scopes_at d = option_map scopes_named (option_and_then texts_of (option_and_then as_array (get (codes "scopes") d)))
 
@@ -78,12 +78,12 @@ abbrev pub ◌>>=◌ : {A B : Type 0} → Result A ConfFault → (A → Result B
 (Ok x) >>= f = f x
 (Err e) >>= f = Err e
 
--- the value, or the fault of its absence
+-- The value, or a fault if it does not exist.
 abbrev pub or_fault : {A : Type 0} → ConfFault → Option A → Result A ConfFault
 or_fault f (Some x) = Ok x
 or_fault f None = Err f
 
--- the token of one table, its text and its caller; none of those known has that text
+-- The token of one table: its text and its caller. Its text differs from those of the known tokens.
 unfoldable pub token_of : Data → Callers → Result (List ℕ × Caller) ConfFault
 token_of d known = do
   text ← or_fault fault.Token (text_at (codes "text") token_fault d)
@@ -92,18 +92,18 @@ token_of d known = do
   if contains_key known text then Err fault.Repeated
       else Ok (text, record { uss = uss; scopes = scopes })
 
--- those known and the tokens of the tables, in turn
+-- The known tokens, plus the tokens of the tables in turn.
 abbrev pub callers_after : Items → Callers → Result Callers ConfFault
 callers_after no_items known = Ok known
 callers_after (item d ds) known =
     token_of d known >>= (λ token. callers_after ds (insert known token.0 token.1))
 
--- the callers of the member `token`; without it there are none
+-- The callers of the member `token`; none if it does not exist.
 abbrev pub callers_at : Option Data → Result Callers ConfFault
 callers_at None = Ok empty
 callers_at (Some d) = or_fault fault.Token (as_array d) >>= (λ ds. callers_after ds empty)
 
--- what the text says, or its first fault
+-- The contents of the text, or its first fault.
 unfoldable pub file_of : List ℕ → Result TokenFile ConfFault
 file_of text = do
   members ← or_fault fault.Toml (parse_document text)
@@ -111,7 +111,7 @@ file_of text = do
   callers ← callers_at (get (codes "token") (table members))
   Ok (record { salt = salt; callers = callers })
 
--- a fault that was answered is the one there is; `Memory` may be answered at any
+-- Holds if a returned fault is the one of the file. `Memory` may be returned for any file.
 abbrev pub Fails : {Y : Type 0} → ConfFault → Result Y ConfFault → Type 0
 Fails fault.Memory said = Unit {0}
 Fails fault.Toml said = said ≡ Err fault.Toml
@@ -121,11 +121,11 @@ Fails fault.Uss said = said ≡ Err fault.Uss
 Fails fault.Scopes said = said ≡ Err fault.Scopes
 Fails fault.Repeated said = said ≡ Err fault.Repeated
 
--- what a reader answered, each value seen by the view, is what is said
+-- Holds if the result of a reader, seen through the view, is the specified one.
 abbrev pub Gives : {X Y : Type 0} → (X → Y) → Result X ConfFault → Result Y ConfFault → Type 0
 Gives view (Ok x) said = said ≡ Ok (view x)
 Gives view (Err e) said = Fails e said
 
--- a reader of files answers what the file says
+-- Holds if a reader of files returns what the file says.
 abbrev pub ReadsFile : Result TokenFile ConfFault → Result TokenFile ConfFault → Type 0
 ReadsFile said result = Gives (λ file. file) result said

@@ -1,32 +1,34 @@
-//! Why a token file was refused.
+//! The reason why a token file was rejected.
 ghost use Rattle.std.specs.Prelude.{◌≡◌};
 
 use std::alloc::{AllocError, AllocFailed};
 
-/// The first fault of a token file. The salt comes first, then the tables in their order; in a
-/// table the faults come in the order of their numbers.
+/// The first fault of a token file.
+///
+/// The salt comes first, then the tables in their order. In a table, the faults come in the order
+/// of their numbers.
 #[derive(Clone, Copy, Debug, PartialEq, Eq)]
 pub enum ConfFault {
     /// The text is not TOML.
     Toml,
-    /// There is no salt, or it does not read as one.
+    /// The salt is missing or invalid.
     Salt,
     /// `token` is no list, or an item of it is no table or has no `text` of 1 to 255 visible bytes.
     Token,
-    /// A table has no `uss` that reads as a supplier's id.
+    /// A table has no `uss` that is a valid id of a USS.
     Uss,
     /// A table has no list of texts `scopes`.
     Scopes,
     /// A table has the `text` of an earlier one.
     Repeated,
-    /// Memory ran out, which says nothing of the file.
+    /// Memory ran out, which says nothing about the file.
     Memory,
 }
 
 impl ConfFault {
     ghost use Rattle.token_conf.specs.ConfFault.{fault_number, fault_name};
 
-    /// The number under which the fault is told, from 1 to 7.
+    /// Returns the number of the fault, from 1 to 7.
     pub fn number(self) -> u8
         ensures { result ≡ fault_number self }
     {
@@ -41,7 +43,7 @@ impl ConfFault {
         }
     }
 
-    /// The name under which the fault is told.
+    /// Returns the name of the fault.
     pub fn name(self) -> &'static str
         ensures { result.now ≡ fault_name self }
     {

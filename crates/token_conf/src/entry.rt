@@ -16,7 +16,7 @@ use policy_core::scope::{Caller, Scope, ScopeSet};
 use std::alloc::Global;
 use toml::Value;
 
-/// The supplier that the table names.
+/// Returns the USS of the table.
 fn uss_at(alloc: Global, value: &Value) -> Result<UssId, ConfFault>
     ensures { Gives (λ uss. uss) result (or_fault ConfFault.Uss
         (text_at (codes "uss") name_fault (view value.now))) }
@@ -31,7 +31,7 @@ fn uss_at(alloc: Global, value: &Value) -> Result<UssId, ConfFault>
     }
 }
 
-/// The set with the scope of that name, if it is a scope's.
+/// Returns the set plus the scope of that name, if there is one.
 fn with_named(scopes: ScopeSet, name: &str) -> ScopeSet
     ensures { (s : Scope) → has_scope result s ≡ (has_scope scopes s || is_name_of s name.now) }
 {
@@ -41,7 +41,7 @@ fn with_named(scopes: ScopeSet, name: &str) -> ScopeSet
     }
 }
 
-/// The scopes that the texts name, where each value is a text.
+/// Returns the scopes that the texts name, if each value is a text.
 fn scopes_in(values: &[Value]) -> Option<ScopeSet>
     ensures { result ≡ option_map scopes_named (texts_of (items_view values.now)) }
 {
@@ -52,7 +52,7 @@ fn scopes_in(values: &[Value]) -> Option<ScopeSet>
     Some(scopes)
 }
 
-/// The scopes of the table.
+/// Returns the scopes of the table.
 fn scopes_of(value: &Value) -> Option<ScopeSet>
     ensures { result ≡ scopes_at (view value.now) }
 {
@@ -62,7 +62,7 @@ fn scopes_of(value: &Value) -> Option<ScopeSet>
     }
 }
 
-/// The caller of the token with that text. It goes through the tokens in turn.
+/// Returns the caller of the token with that text. Scans the tokens in turn.
 pub(crate) fn caller_of<'a>(tokens: &'a [(Text, Caller)], text: &str) -> Option<&'a Caller>
     ensures { option_copied result ≡ get (callers_in tokens.now) text.now }
 {
@@ -74,7 +74,7 @@ pub(crate) fn caller_of<'a>(tokens: &'a [(Text, Caller)], text: &str) -> Option<
     None
 }
 
-/// The token of one table, its text and its caller.
+/// Reads the token of one table: its text and its caller.
 #[tactic(auto, unfolding(crate::specs::TokenFile::token_of))]
 fn read_token(
     alloc: Global,
@@ -99,7 +99,7 @@ fn read_token(
     Ok((Text::from_string(text), Caller { uss, scopes }))
 }
 
-/// The tokens of the tables. It compares each text with those before it.
+/// Reads the tokens of the tables. Compares each text with those before it.
 pub(crate) fn read_tokens(alloc: Global, values: &[Value]) -> Result<Vec<(Text, Caller)>, ConfFault>
     ensures { Gives (λ tokens. callers_in tokens.items) result
         (callers_after (items_view values.now) empty) }

@@ -1,4 +1,4 @@
-//! The token file: which texts callers show, whom each names, and what it allows.
+//! The token file: the bearer tokens, the USS of each, and the scopes that it permits.
 #![tactic(auto)]
 
 pub mod conf_fault;

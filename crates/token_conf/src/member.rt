@@ -8,7 +8,7 @@ ghost use Rattle.token_conf.specs.TokenFile.{token_fault, text_at};
 
 use toml::Value;
 
-/// The text at a key.
+/// Returns the text at a key.
 pub(crate) fn string_at<'a>(value: &'a Value, key: &str) -> Option<&'a str>
     ensures { option_map (λ s. s.now) result
         ≡ option_and_then as_str (get key.now (view value.now)) }
@@ -16,7 +16,7 @@ pub(crate) fn string_at<'a>(value: &'a Value, key: &str) -> Option<&'a str>
     value.get(key).and_then(Value::as_str)
 }
 
-/// The list at a key.
+/// Returns the list at a key.
 pub(crate) fn list_at<'a>(value: &'a Value, key: &str) -> Option<&'a Vec<Value>>
     ensures { option_map (λ v. array_view v.now) result
         ≡ option_and_then as_array (get key.now (view value.now)) }
@@ -30,14 +30,14 @@ fn is_visible(text: &str) -> bool
     text.as_bytes().iter().all(|b| 33 <= *b && *b <= 126)
 }
 
-/// Whether the text may be that of a token: 1 to 255 visible bytes.
+/// Returns true if the text can be that of a token: 1 to 255 visible bytes.
 fn is_token_text(text: &str) -> bool
     ensures { result ≡ is_none (token_fault text.now) }
 {
     1 <= text.len() && text.len() <= 255 && is_visible(text)
 }
 
-/// The text of the token that the table describes.
+/// Returns the text of the table's token.
 pub(crate) fn token_text(value: &Value) -> Option<&str>
     ensures { option_map (λ s. s.now) result ≡ text_at (codes "text") token_fault (view value.now) }
 {

@@ -1,4 +1,4 @@
-//! A token file that was read.
+//! A parsed token file.
 ghost use Rattle.std.specs.Prelude.{◌≡◌, codes, option_map, option_copied};
 ghost use Rattle.std.specs.FinMap.{get};
 ghost use Rattle.entity_core.specs.IdTexts.{name_fault};
@@ -16,8 +16,9 @@ use std::alloc::Global;
 use std::marker::Model;
 use toml::Value;
 
-/// What a token file says: the salt of the service, and the caller that each token names. Contracts
-/// see the salt and the map from the tokens' texts to the callers.
+/// The contents of a token file: the salt of the service, and the caller of each token.
+///
+/// Contracts see the salt, and the map from the texts of tokens to callers.
 #[derive(Debug, Drop)]
 pub struct TokenTable {
     salt: Salt,
@@ -34,7 +35,7 @@ impl Model for TokenTable {
     ghost view = { λ a. record { salt = a.salt; callers = callers_in a.tokens.items } };
 }
 
-/// The salt of the document.
+/// Reads the salt of the document.
 fn read_salt(alloc: Global, document: &Value) -> Result<Salt, ConfFault>
     ensures { Gives (λ salt. salt) result
         (or_fault ConfFault.Salt (text_at (codes "salt") name_fault (view document.now))) }
@@ -49,7 +50,7 @@ fn read_salt(alloc: Global, document: &Value) -> Result<Salt, ConfFault>
     }
 }
 
-/// The tokens of the document's member `token`, if it has one.
+/// Reads the tokens of the document's member `token`, if it has one.
 fn tokens_at(alloc: Global, found: Option<&Value>) -> Result<Vec<(Text, Caller)>, ConfFault>
     ensures { Gives (λ tokens. callers_in tokens.items) result
         (callers_at (option_map (λ value. view value.now) found.entry)) }
@@ -64,11 +65,12 @@ fn tokens_at(alloc: Global, found: Option<&Value>) -> Result<Vec<(Text, Caller)>
 }
 
 impl TokenTable {
-    /// Reads a token file: a TOML document with the member `salt` and a list of tables `token`,
-    /// each with `text` (1 to 255 visible ASCII characters), `uss` (a supplier's id) and `scopes`
-    /// (a list of texts). Other members and texts that name no scope are ignored. The error is the
-    /// first fault; after `Memory` nothing is known of the file. The time grows with the square of
-    /// the number of tokens.
+    /// Reads a token file: a TOML document with the member `salt` and a list of tables `token`.
+    ///
+    /// Each table has `text` (1 to 255 visible ASCII characters), `uss` (the id of a USS) and
+    /// `scopes` (a list of texts). Other members, and texts that name no scope, are ignored.
+    /// Returns the first fault; after `Memory` nothing is known of the file. The time is quadratic
+    /// in the number of tokens.
     #[tactic(auto, unfolding(crate::specs::TokenFile::file_of))]
     pub fn read(alloc: Global, text: &str) -> Result<TokenTable, ConfFault>
         ensures { ReadsFile (file_of text.now) result }
@@ -88,15 +90,15 @@ impl TokenTable {
         Ok(TokenTable { salt, tokens })
     }
 
-    /// The caller that a token names, by the token's whole text. It takes no memory, and goes
-    /// through the tokens in turn.
+    /// Returns the caller of the token with exactly that text. Allocates nothing. Scans the tokens
+    /// in turn.
     pub fn caller(&self, text: &str) -> Option<&Caller>
         ensures { option_copied result ≡ get (callers_of self.now) text.now }
     {
         caller_of(self.tokens.as_slice(), text)
     }
 
-    /// The salt of the service's versions. It takes no memory.
+    /// Returns the salt of the service's OVNs. Allocates nothing.
     pub fn salt(&self) -> &Salt
         ensures { result.now ≡ salt_of self.now }
     {

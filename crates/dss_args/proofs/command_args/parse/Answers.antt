@@ -13,7 +13,7 @@ is_free = refl
 simple : is_simple dss_app ≡ true
 simple = refl
 
--- what a parse that succeeds says of its mistakes, of the program's own command
+-- The errors of a successful parse, for the program's own command.
 faultless : (a : App) (words : List Text) → a ≡ dss_app → (is_simple_and_free a ≡ true → mistakes_of a words ≡ []) → mistakes_of dss_app words ≡ []
 faultless a words same none =
     subst (λ (b : App). mistakes_of b words ≡ []) same (none (ap is_simple_and_free same ∙ is_free))
