@@ -291,9 +291,7 @@ fn scopes_option<'a>(alloc: Global) -> Arg<'a>
     ensures rule { rule_of result ≡ choice_rule (codes "scopes") }
     ensures local { result.global ≡ false }
 {
-    choice(alloc, "scopes", "SCOPES").help(
-        "Scopes of the new token, separated by commas",
-    )
+    choice(alloc, "scopes", "SCOPES").help("Scopes of the new token, separated by commas")
 }
 
 // Returns a flag, which is set or not.
