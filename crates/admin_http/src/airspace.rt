@@ -10,7 +10,7 @@ use space_snapshot::snapshot::{NoMirror, Snapshot};
 use std::alloc::{AllocError, Global};
 
 // Returns the reason why nothing is shown, in words.
-fn no_copy_words(why: NoMirror) -> &'static str
+fn no_mirror_text(why: NoMirror) -> &'static str
     ensures { result.now ≡ words_of why }
 {
     match why {
@@ -30,7 +30,7 @@ pub fn airspace_answer(
 {
     let shown = match shown {
         Ok(shown) => shown,
-        Err(why) => return whole(alloc, 503, None, None, no_copy_words(why)),
+        Err(why) => return whole(alloc, 503, None, None, no_mirror_text(why)),
     };
     let Some(query) = PageQuery::read(query) else {
         return whole(alloc, 400, None, None, "no such query\n");

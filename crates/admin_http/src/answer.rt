@@ -121,7 +121,7 @@ pub(crate) fn whole(
 }
 
 // Returns the health of the service, in words.
-fn health_words(health: Health) -> &'static str
+fn health_text(health: Health) -> &'static str
     ensures { result.now ≡ words_of health }
 {
     match health {
@@ -151,7 +151,7 @@ pub fn answer(
             status,
             None,
             None,
-            health_words(health),
+            health_text(health),
         ),
         AdminRequest::Does(AdminRoute::Metrics) => {
             let text = metrics(alloc, figures, build)?;
@@ -187,7 +187,7 @@ pub fn answer(
 pub fn backup_answer(alloc: Global, backup: BackupResult) -> Result<Vec<u8>, AllocError>
     ensures { IfOk result (λ text. AnswersBackup backup text.items) }
 {
-    let words = backup::backup_words(alloc, backup)?;
+    let words = backup::backup_text(alloc, backup)?;
     whole(
         alloc,
         backup::backup_status(backup),

@@ -70,7 +70,7 @@ pub fn backup_status(backup: BackupResult) -> u16
 }
 
 // Returns the body of the response.
-pub(crate) fn backup_words(alloc: Global, backup: BackupResult) -> Result<String, AllocError>
+pub(crate) fn backup_text(alloc: Global, backup: BackupResult) -> Result<String, AllocError>
     ensures { IfOk result (λ text. string_bytes text ≡ words_of backup) }
 {
     let text = match backup {

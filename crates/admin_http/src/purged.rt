@@ -18,7 +18,7 @@ impl PurgeMetrics {
     }
 
     /// Counts purged items.
-    pub fn note_gone(&mut self, count: usize) {
+    pub fn note_purged(&mut self, count: usize) {
         self.gone = self.gone.saturating_add(wide(count));
     }
 

@@ -39,19 +39,19 @@ use std::alloc::Global;
 use std::net::Ipv4Addr;
 
 /// The last time that a command line can name, in Unix seconds: the end of the year 9999.
-pub const LAST_MOMENT: u64 = 253_402_300_799;
+pub const MAX_TIME: u64 = 253_402_300_799;
 
 /// The maximum TCP port number.
-pub const LAST_PORT: u64 = 65_535;
+pub const MAX_PORT: u64 = 65_535;
 
 /// The maximum number of connections to serve before exit.
-pub const MOST_CONNECTIONS: u64 = 1_000_000;
+pub const MAX_COUNT: u64 = 1_000_000;
 
 /// The maximum number of connections at once, which is also the default.
-pub const MOST_CLIENTS: u64 = 1_000;
+pub const MAX_CONNECTIONS: u64 = 1_000;
 
 /// The maximum quota of a USS.
-pub const GREATEST_BOUND: u64 = 4_294_967_295;
+pub const MAX_QUOTA: u64 = 4_294_967_295;
 
 // The error message for arguments that are valid one by one but request no command.
 const NO_LINE: &str =

@@ -30,8 +30,8 @@ ghost use Rattle.dss_args.specs.Grammar.{
   word_rule,
 };
 
-use crate::command_args::{GREATEST_BOUND, LAST_MOMENT, LAST_PORT, MOST_CLIENTS, MOST_CONNECTIONS};
-use crate::version::SHOWN;
+use crate::command_args::{MAX_CONNECTIONS, MAX_COUNT, MAX_PORT, MAX_QUOTA, MAX_TIME};
+use crate::version::VERSION_TEXT;
 use clap::builder::ValueParser;
 use clap::{Arg, ArgAction, Command};
 use std::alloc::{AllocError, Global};
@@ -61,7 +61,7 @@ fn until_option<'a>(alloc: Global) -> Arg<'a>
     option(alloc, "until")
         .value_name("SECONDS")
         .help("Purge what ended at or before this past time, in Unix seconds [0-253402300799]")
-        .value_parser(ValueParser::unsigned(0, LAST_MOMENT))
+        .value_parser(ValueParser::unsigned(0, MAX_TIME))
 }
 
 fn now_option<'a>(alloc: Global) -> Arg<'a>
@@ -71,7 +71,7 @@ fn now_option<'a>(alloc: Global) -> Arg<'a>
     option(alloc, "now")
         .value_name("SECONDS")
         .help("Time of each request, in Unix seconds [0-253402300799]")
-        .value_parser(ValueParser::unsigned(0, LAST_MOMENT))
+        .value_parser(ValueParser::unsigned(0, MAX_TIME))
 }
 
 // Returns the database option of a subcommand that does not require one.
@@ -111,7 +111,7 @@ fn port_option<'a>(alloc: Global) -> Arg<'a>
     option(alloc, "port")
         .value_name("PORT")
         .help("Port to listen on [1-65535]")
-        .value_parser(ValueParser::unsigned(1, LAST_PORT))
+        .value_parser(ValueParser::unsigned(1, MAX_PORT))
 }
 
 // Returns an optional argument with a number from 1.
@@ -126,50 +126,50 @@ fn number_option<'a>(alloc: Global, name: &'a str, value: &'a str, greatest: u64
 }
 
 // Returns the option for the current time.
-fn moment_option<'a>(alloc: Global) -> Arg<'a>
-    ensures rule { rule_of result ≡ number_rule (codes "now") 0 LAST_MOMENT }
+fn time_option<'a>(alloc: Global) -> Arg<'a>
+    ensures rule { rule_of result ≡ number_rule (codes "now") 0 MAX_TIME }
     ensures local { result.global ≡ false }
 {
     Arg::new(alloc, "now")
         .long("now")
         .value_name("SECONDS")
         .help("Current time, in Unix seconds [0-253402300799; default: the clock]")
-        .value_parser(ValueParser::unsigned(0, LAST_MOMENT))
+        .value_parser(ValueParser::unsigned(0, MAX_TIME))
 }
 
 // Returns the option for the retention.
-fn keep_option<'a>(alloc: Global) -> Arg<'a>
-    ensures rule { rule_of result ≡ number_rule (codes "retention") 1 LAST_MOMENT }
+fn retention_option<'a>(alloc: Global) -> Arg<'a>
+    ensures rule { rule_of result ≡ number_rule (codes "retention") 1 MAX_TIME }
     ensures local { result.global ≡ false }
 {
-    number_option(alloc, "retention", "SECONDS", LAST_MOMENT).help(
+    number_option(alloc, "retention", "SECONDS", MAX_TIME).help(
         "Purge what ended at least this many seconds ago [1-253402300799; default: never]",
     )
 }
 
 fn count_option<'a>(alloc: Global) -> Arg<'a>
-    ensures rule { rule_of result ≡ number_rule (codes "count") 1 MOST_CONNECTIONS }
+    ensures rule { rule_of result ≡ number_rule (codes "count") 1 MAX_COUNT }
     ensures local { result.global ≡ false }
 {
-    number_option(alloc, "count", "NUMBER", MOST_CONNECTIONS).help(
+    number_option(alloc, "count", "NUMBER", MAX_COUNT).help(
         "Exit after this many connections [1-1000000; default: unlimited]",
     )
 }
 
 fn clients_option<'a>(alloc: Global) -> Arg<'a>
-    ensures rule { rule_of result ≡ number_rule (codes "max-connections") 1 MOST_CLIENTS }
+    ensures rule { rule_of result ≡ number_rule (codes "max-connections") 1 MAX_CONNECTIONS }
     ensures local { result.global ≡ false }
 {
-    number_option(alloc, "max-connections", "NUMBER", MOST_CLIENTS).help(
+    number_option(alloc, "max-connections", "NUMBER", MAX_CONNECTIONS).help(
         "Max connections at once [1-1000; default: 1000]",
     )
 }
 
-fn most_kept_option<'a>(alloc: Global) -> Arg<'a>
-    ensures rule { rule_of result ≡ number_rule (codes "quota") 1 GREATEST_BOUND }
+fn quota_option<'a>(alloc: Global) -> Arg<'a>
+    ensures rule { rule_of result ≡ number_rule (codes "quota") 1 MAX_QUOTA }
     ensures local { result.global ≡ false }
 {
-    number_option(alloc, "quota", "NUMBER", GREATEST_BOUND).help(
+    number_option(alloc, "quota", "NUMBER", MAX_QUOTA).help(
         "Max entities and subscriptions to store per USS, with 64 cells for each \
          [1-4294967295; default: unlimited]",
     )
@@ -448,7 +448,7 @@ pub(crate) fn command<'a>(alloc: Global) -> Result<Command<'a>, AllocError>
 {
     Command::new(alloc, "dss")
         .about("Discovery and synchronization service for drone traffic")
-        .version(SHOWN)
+        .version(VERSION_TEXT)
         .subcommand_required(true)
         .subcommand(run_command(alloc)?)?
         .subcommand(serve_command(alloc)?)?

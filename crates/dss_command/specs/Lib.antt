@@ -1,4 +1,4 @@
-pub mod CopyFault
+pub mod BackupFault
 pub mod Fault
 pub mod Limits
 pub mod Line

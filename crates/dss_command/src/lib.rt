@@ -2,8 +2,8 @@
 #![tactic(auto)]
 
 mod aborted_connection;
+pub mod backup_fault;
 pub mod clients;
-pub mod copy_fault;
 pub mod fault;
 pub mod limits;
 pub mod line;

@@ -92,7 +92,7 @@ pub fn put_report<S: Space + Drop, W: Write>(
 }
 
 /// Prints the cells of the airspace of a space, which is only read.
-pub fn put_places<S: Space + Drop, W: Write>(
+pub fn put_cells<S: Space + Drop, W: Write>(
     alloc: Global,
     space: &mut S,
     output: &mut W,
@@ -128,7 +128,7 @@ pub fn report<S: Space + Drop, W: Write>(
         (fault ≡ DatabaseFailed) ⊎ (fault ≡ Memory) ⊎ (fault ≡ Output)) }
 {
     match places {
-        true => put_places(alloc, space, output),
+        true => put_cells(alloc, space, output),
         false => put_report(alloc, space, output),
     }
 }

@@ -8,7 +8,7 @@ use std::io;
 use std::io::Write;
 
 /// Prints one line that reports a change of the store's state.
-pub(crate) fn tell_store<E: Write>(news: StoreEvent, error: &mut E) -> io::Result<()>
+pub(crate) fn print_store_event<E: Write>(news: StoreEvent, error: &mut E) -> io::Result<()>
     ensures { OnOk result (Appends (E.contents error.old) (E.contents error.new)
         (store_line news)) }
 {

@@ -10,7 +10,7 @@ use Rattle.space_core.specs.Space.{Changes, IsContent, Reads, ReportsFault}
 use Rattle.space_core.specs.declared.space.Space.{Ghosts}
 use Rattle.space_core.specs.declared.space.SpaceFault.{SpaceFault}
 use Rattle.space_core.specs.declared.space.SpaceFault.TheVariants.{Broken, Unchanged}
-use Rattle.dss_purge.specs.Sweeping.{PurgesSpace}
+use Rattle.dss_purge.specs.Purging.{PurgesSpace}
 use Rattle.dss_purge.specs.PurgeCounts.{IsLess, nothing, with_one}
 use Rattle.dss_purge.specs.declared.purged.PurgeCounts.{PurgeCounts}
 use Rattle.dss_purge.proofs.Counting.{CountsTo, all_less, counts_nothing}

@@ -1,2 +1,2 @@
 pub mod PurgeCounts
-pub mod Sweeping
+pub mod Purging

@@ -1,6 +1,6 @@
 //! The purge of a space.
 ghost use Rattle.std.specs.Prelude.{◌≡◌};
-ghost use Rattle.dss_purge.specs.Sweeping.{PurgesSpace};
+ghost use Rattle.dss_purge.specs.Purging.{PurgesSpace};
 
 use crate::purged::PurgeCounts;
 use entity_purge::laws::{chunks_make_purges, purged_items_are_partly_purged};
@@ -11,7 +11,7 @@ use space_purge::purge_ended::PurgeEnded;
 const CHUNK: usize = 256;
 
 // More chunks than any space has.
-const MOST_CHUNKS: u64 = 4_294_967_296;
+const MAX_CHUNKS: u64 = 4_294_967_296;
 
 /// Purges what ended at or before `until`, chunk by chunk, and returns how much that was.
 ///
@@ -26,7 +26,7 @@ pub fn purge_space<S: PurgeEnded + Drop>(
     purged_items_are_partly_purged();
     chunks_make_purges();
     let mut purged = PurgeCounts::zero();
-    for _chunk in 0..MOST_CHUNKS {
+    for _chunk in 0..MAX_CHUNKS {
         let gone = space.find_ended(until, CHUNK)?;
         if gone.is_empty() {
             return Ok(purged);

@@ -96,12 +96,12 @@ pub fn serve_clients<
         port.accept(now)?;
         newer = watch.look(alloc, tokens, now, journal).or(newer);
         port.show_tokens(watch.tokens());
-        let desk = RequestContext {
+        let context = RequestContext {
             alloc,
             routes,
             tokens: in_force(tokens, &newer),
         };
-        port.run_once(desk, service, moments, now, journal);
+        port.run_once(context, service, moments, now, journal);
         port.flush_log(journal);
         port.purge(keep, service, moments, now, journal);
         port.look(now, journal);

@@ -82,7 +82,7 @@ fn follow(
 
 /// Purges these items in the store and then in the mirror. Returns `Unchanged` if changes are
 /// pending.
-pub(crate) fn let_go<S: Purge>(
+pub(crate) fn purge_both<S: Purge>(
     store: &mut S,
     mirror: &mut Option<MemorySpace>,
     state: &mut MirrorState,

@@ -211,7 +211,7 @@ impl<S: PurgeEnded + SnapshotSource + Drop> PurgeEnded for QuotaSpace<S> {
     ///
     /// Looks up the items in the snapshot of the inner space. With a usage table but without a
     /// snapshot, purges nothing.
-    fn purge(&mut self, gone: &[PurgeItem]) -> Result<(), SpaceFault> {
-        purges::let_go(&mut self.space, &mut self.tally, &mut self.over, gone)
+    fn purge(&mut self, items: &[PurgeItem]) -> Result<(), SpaceFault> {
+        purges::purge_with_quota(&mut self.space, &mut self.tally, &mut self.over, items)
     }
 }

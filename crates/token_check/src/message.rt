@@ -102,9 +102,9 @@ fn scopes_message(alloc: Global, found: Option<&Value>) -> Result<String, AllocE
 pub(crate) fn error_message(
     alloc: Global,
     document: &Value,
-    mistake: TokenFileError,
+    file_error: TokenFileError,
 ) -> Result<String, AllocError> {
-    match mistake {
+    match file_error {
         TokenFileError::Toml => String::from_str(alloc, "no TOML"),
         TokenFileError::Salt => salt_message(alloc, document.get("salt")),
         TokenFileError::List => String::from_str(
