@@ -176,10 +176,10 @@ fn quota_option<'a>(alloc: Global) -> Arg<'a>
 }
 
 fn admin_option<'a>(alloc: Global) -> Arg<'a>
-    ensures rule { rule_of result ≡ number_rule (codes "admin-port") 1 LAST_PORT }
+    ensures rule { rule_of result ≡ number_rule (codes "admin-port") 1 MAX_PORT }
     ensures local { result.global ≡ false }
 {
-    number_option(alloc, "admin-port", "PORT", LAST_PORT).help(
+    number_option(alloc, "admin-port", "PORT", MAX_PORT).help(
         "Admin port on 127.0.0.1, for /health, /metrics and /stop [1-65535; default: none]",
     )
 }
@@ -229,7 +229,7 @@ fn word<'a>(alloc: Global, name: &'a str) -> Arg<'a>
     Arg::new(alloc, name).required(true)
 }
 
-fn requests_word<'a>(alloc: Global) -> Arg<'a>
+fn requests_argument<'a>(alloc: Global) -> Arg<'a>
     ensures rule { rule_of result ≡ requests_rule }
     ensures local { result.global ≡ false }
 {
@@ -238,7 +238,7 @@ fn requests_word<'a>(alloc: Global) -> Arg<'a>
         .help("File of requests, or - for standard input")
 }
 
-fn request_word<'a>(alloc: Global) -> Arg<'a>
+fn request_argument<'a>(alloc: Global) -> Arg<'a>
     ensures rule { rule_of result ≡ request_rule }
     ensures local { result.global ≡ false }
 {
@@ -247,7 +247,7 @@ fn request_word<'a>(alloc: Global) -> Arg<'a>
     )
 }
 
-fn token_word<'a>(alloc: Global) -> Arg<'a>
+fn token_argument<'a>(alloc: Global) -> Arg<'a>
     ensures rule { rule_of result ≡ token_rule }
     ensures local { result.global ≡ false }
 {
@@ -257,7 +257,7 @@ fn token_word<'a>(alloc: Global) -> Arg<'a>
 }
 
 // Returns the argument for the backup file.
-fn to_word<'a>(alloc: Global) -> Arg<'a>
+fn destination_argument<'a>(alloc: Global) -> Arg<'a>
     ensures rule { rule_of result ≡ to_rule }
     ensures local { result.global ≡ false }
 {
@@ -311,7 +311,7 @@ fn new_salt_flag<'a>(alloc: Global) -> Arg<'a>
 }
 
 // Returns the flag that prints the cells of each reference.
-fn places_flag<'a>(alloc: Global) -> Arg<'a>
+fn cells_flag<'a>(alloc: Global) -> Arg<'a>
     ensures rule { rule_of result ≡ flag_rule (codes "cells") }
     ensures local { result.global ≡ false }
 {
@@ -321,7 +321,7 @@ fn places_flag<'a>(alloc: Global) -> Arg<'a>
 }
 
 // Returns the flag for double sync.
-fn wary_flag<'a>(alloc: Global) -> Arg<'a>
+fn double_sync_flag<'a>(alloc: Global) -> Arg<'a>
     ensures rule { rule_of result ≡ flag_rule (codes "double-sync") }
     ensures local { result.global ≡ false }
 {
@@ -348,7 +348,7 @@ fn run_command<'a>(alloc: Global) -> Result<Command<'a>, AllocError>
         .arg(tokens_option(alloc))?
         .arg(now_option(alloc))?
         .arg(database_option(alloc))?
-        .arg(requests_word(alloc))
+        .arg(requests_argument(alloc))
 }
 
 fn serve_command<'a>(alloc: Global) -> Result<Command<'a>, AllocError>
@@ -361,13 +361,13 @@ fn serve_command<'a>(alloc: Global) -> Result<Command<'a>, AllocError>
         .arg(port_option(alloc))?
         .arg(count_option(alloc))?
         .arg(clients_option(alloc))?
-        .arg(most_kept_option(alloc))?
-        .arg(keep_option(alloc))?
+        .arg(quota_option(alloc))?
+        .arg(retention_option(alloc))?
         .arg(admin_option(alloc))?
         .arg(backups_option(alloc))?
         .arg(listen_option(alloc))?
         .arg(log_option(alloc))?
-        .arg(wary_flag(alloc))?
+        .arg(double_sync_flag(alloc))?
         .arg(verbose_flag(alloc))
 }
 
@@ -378,7 +378,7 @@ fn self_command<'a>(alloc: Global) -> Result<Command<'a>, AllocError>
         .about("Serve one stream of requests in memory, through a loopback socket")
         .arg(tokens_option(alloc))?
         .arg(now_option(alloc))?
-        .arg(request_word(alloc))
+        .arg(request_argument(alloc))
 }
 
 fn cell_command<'a>(alloc: Global) -> Result<Command<'a>, AllocError>
@@ -386,7 +386,7 @@ fn cell_command<'a>(alloc: Global) -> Result<Command<'a>, AllocError>
 {
     Command::new(alloc, "cell")
         .about("Print the cell of a token")
-        .arg(token_word(alloc))
+        .arg(token_argument(alloc))
 }
 
 fn report_command<'a>(alloc: Global) -> Result<Command<'a>, AllocError>
@@ -395,7 +395,7 @@ fn report_command<'a>(alloc: Global) -> Result<Command<'a>, AllocError>
     Command::new(alloc, "report")
         .about("Print the references that a database stores, and its serial")
         .arg(store_option(alloc))?
-        .arg(places_flag(alloc))
+        .arg(cells_flag(alloc))
 }
 
 fn backup_command<'a>(alloc: Global) -> Result<Command<'a>, AllocError>
@@ -404,7 +404,7 @@ fn backup_command<'a>(alloc: Global) -> Result<Command<'a>, AllocError>
     Command::new(alloc, "backup")
         .about("Back up a database that no process has open: all of it, or no file")
         .arg(source_option(alloc))?
-        .arg(to_word(alloc))
+        .arg(destination_argument(alloc))
 }
 
 fn upgrade_command<'a>(alloc: Global) -> Result<Command<'a>, AllocError>
@@ -425,7 +425,7 @@ fn purge_command<'a>(alloc: Global) -> Result<Command<'a>, AllocError>
         )
         .arg(store_option(alloc))?
         .arg(until_option(alloc))?
-        .arg(moment_option(alloc))
+        .arg(time_option(alloc))
 }
 
 fn tokens_command<'a>(alloc: Global) -> Result<Command<'a>, AllocError>
