@@ -14,8 +14,8 @@ fn no_mirror_text(why: NoMirror) -> &'static str
     ensures { result.now ≡ words_of why }
 {
     match why {
-        NoMirror::None => "no copy in memory: there was no memory for one\n",
-        NoMirror::Dropped => "no copy in memory: it was lost with changes that were not kept\n",
+        NoMirror::None => "no mirror: out of memory\n",
+        NoMirror::Dropped => "no mirror: dropped after a failed commit\n",
     }
 }
 

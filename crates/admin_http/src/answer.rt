@@ -126,10 +126,9 @@ fn health_text(health: Health) -> &'static str
 {
     match health {
         Health::Serving => "serving\n",
-        Health::Failing =>
-            "failing: the database did not keep the last changes that it was given\n",
-        Health::Stopped => "stopped: the database failed, and no call is answered any more\n",
-        Health::Stopping => "stopping: it was told to end\n",
+        Health::Failing => "failing: the last commit failed\n",
+        Health::Stopped => "stopped: the database failed; restart the service\n",
+        Health::Stopping => "stopping: a stop was requested\n",
     }
 }
 

@@ -33,10 +33,10 @@ impl Refusal {
     // Returns the reason in words.
     fn words(self) -> &'static str {
         match self {
-            Refusal::NoFile => "it is no file",
-            Refusal::Held => "another process has it open",
-            Refusal::NoDatabase => "it is no SQLite database",
-            Refusal::Other => "memory lacked, or it or its log cannot be read",
+            Refusal::NoFile => "not a file",
+            Refusal::Held => "another process has it open; stop it first",
+            Refusal::NoDatabase => "not a SQLite database",
+            Refusal::Other => "out of memory, or the file or its log cannot be read",
         }
     }
 }

@@ -47,7 +47,7 @@ fn run_args(rt: &HostRuntime) -> io::Result<u8> {
 // Prints one line that says why the command line cannot be read, and returns the exit status.
 fn report_unread_args(rt: &HostRuntime, error: &io::Error) -> u8 {
     if error.kind() == io::ErrorKind::InvalidData {
-        let _ = eprintln!(rt; "error: a word of the command line is not UTF-8");
+        let _ = eprintln!(rt; "error: an argument is not valid UTF-8");
         return 2;
     }
     let _ = eprintln!(rt; "dss: memory");

@@ -18,6 +18,6 @@ WritesReport false a before after = Appends before after (report_of a)
 -- The line that reports what was purged.
 abbrev pub purged_line : PurgeCounts → List ℕ
 purged_line purged =
-    codes "swept " ++ (decimal purged.intents
+    codes "purged " ++ (decimal purged.intents
     ++ (codes " intents, " ++ (decimal purged.constraints
     ++ (codes " constraints, " ++ (decimal purged.subscriptions ++ codes " subscriptions\n")))))

@@ -64,7 +64,7 @@ pub fn put_purged<W: Write>(purged: PurgeCounts, output: &mut W) -> Result<(), F
     } = purged;
     let written = writeln!(
         output,
-        "swept {intents} intents, {constraints} constraints, {subscriptions} subscriptions"
+        "purged {intents} intents, {constraints} constraints, {subscriptions} subscriptions"
     );
     let Ok(()) = written else {
         return Err(Fault::Output);

@@ -22,7 +22,7 @@ pub(crate) fn print_store_event<E: Write>(news: StoreEvent, error: &mut E) -> io
         StoreEvent::StillFailing(count) => {
             writeln!(
                 error,
-                "dss: store: changes are still not kept, {count} faults more"
+                "dss: store: commits still fail: {count} more failures"
             )
         }
         StoreEvent::Recovered(count) => {
@@ -34,7 +34,7 @@ pub(crate) fn print_store_event<E: Write>(news: StoreEvent, error: &mut E) -> io
         StoreEvent::Stopped => {
             writeln!(
                 error,
-                "dss: store: stopped, and no call is answered any more"
+                "dss: store: stopped: the database failed; restart the service"
             )
         }
     }
