@@ -92,6 +92,14 @@ impl<T: Socket> AdminConnection<T> {
         self.until < now && !self.waits
     }
 
+    /// Until when it is waited for, where it has asked nothing.
+    pub(crate) fn idle_until(&self) -> Option<Duration> {
+        match self.phase {
+            Phase::Idle => Some(self.until),
+            _ => None,
+        }
+    }
+
     /// Returns true if it waits for the client to close, after its response.
     pub(crate) fn is_ending(&self) -> bool {
         self.phase == Phase::Ending

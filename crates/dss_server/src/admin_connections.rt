@@ -119,9 +119,31 @@ impl<N: Sockets + Drop> AdminConnections<N> {
         }
     }
 
+    // Closes the one that has been silent for the longest, where no other has room.
+    fn make_room(&mut self) {
+        if !self.waiting || self.all.len() < MAX_ADMIN_CONNECTIONS {
+            return;
+        }
+        let mut oldest = None;
+        for key in 0..MAX_ADMIN_CONNECTIONS {
+            if let Some(operator) = self.all.get(key)
+                && let Some(until) = operator.idle_until()
+            {
+                oldest = match oldest {
+                    Some((_, least)) if least <= until => oldest,
+                    _ => Some((key, until)),
+                };
+            }
+        }
+        if let Some((key, _)) = oldest {
+            let _ = self.all.try_remove(key);
+        }
+    }
+
     /// Accepts waiting connections, as far as there is room.
     pub(crate) fn accept(&mut self, sockets: &mut N, now: Duration) {
         for _ in 0..MAX_ADMIN_CONNECTIONS {
+            self.make_room();
             if !self.has_room() || now < self.full_until {
                 return;
             }

@@ -3,7 +3,7 @@ ghost use Rattle.token_conf.specs.TokenFile.{callers_of};
 ghost use Rattle.dss_server.specs.Serve.{GoesOn};
 
 use crate::client_io::{ClientIo, ReadOutcome, ResponseInfo, WriteOutcome};
-use crate::limits::{CHUNK, LAST_CHUNKS, SMALL};
+use crate::limits::{CHUNK, FIRST, LAST_CHUNKS, LEAST_RATE, SLOW, SMALL};
 use crate::phase::Phase;
 use crate::request_context::RequestContext;
 use crate::server_log::AbortedConnection;
@@ -13,7 +13,8 @@ use space_core::group_commit::GroupCommit;
 use space_core::space::SpaceFault;
 use std::alloc::Global;
 use std::time::Duration;
-use wire_http::{Moments, RequestInfo, Step, StreamFault};
+use token_conf::token_table::TokenTable;
+use wire_http::{Moments, Peeked, RequestInfo, Step, StreamFault};
 
 /// What a client does after a turn.
 #[derive(Clone, Copy, Debug, PartialEq, Eq)]
@@ -22,6 +23,8 @@ pub(crate) enum TurnOutcome {
     Again,
     /// It waits for its socket.
     Rests,
+    /// It has a whole request, or an end, that is to be taken.
+    Ready,
     /// Its response is deferred until the batch ends.
     Deferred,
     /// It waits for one of the slots of large requests.
@@ -62,6 +65,17 @@ pub(crate) struct ClientConnection<T> {
     wants_large_buffer: bool,
     // True if it is queued for its next turn.
     queued: bool,
+    // The class of its next request or of its last one, and that whose place it has; whether it
+    // waits for its turn there, how many of its bytes were counted as unsent, and what its last
+    // request took.
+    pub(crate) class: usize,
+    pub(crate) place_class: usize,
+    pub(crate) ready: bool,
+    pub(crate) counted: usize,
+    pub(crate) cost: u64,
+    // When it was last waited for anew, and how many bytes it had sent then.
+    since: Duration,
+    had: usize,
     // The response prepared in its turn, and the time when the turn began, if the clock returned
     // one.
     answer: Option<ResponseInfo>,
@@ -75,9 +89,9 @@ impl<T: Socket> ClientConnection<T> {
             link: ClientIo::new(alloc, socket),
             number,
             phase: Phase::Idle,
-            until: now.saturating_add(Phase::Idle.patience()),
+            until: now.saturating_add(Duration::from_millis(FIRST)),
             last_chunks: 0,
-            readable: false,
+            readable: true,
             writable: true,
             ended: false,
             reset: false,
@@ -85,6 +99,13 @@ impl<T: Socket> ClientConnection<T> {
             has_large_buffer: false,
             wants_large_buffer: false,
             queued: false,
+            class: 0,
+            place_class: 0,
+            ready: false,
+            counted: 0,
+            cost: 0,
+            since: now,
+            had: 0,
             answer: None,
             asked: None,
         }
@@ -130,7 +151,52 @@ impl<T: Socket> ClientConnection<T> {
     /// Returns true if its timeout has passed. A client that waits for its turn, or for a slot, is
     /// never late, because the service keeps it waiting.
     pub(crate) fn is_late(&self, now: Duration) -> bool {
-        !self.queued && !self.wants_large_buffer && self.until < now
+        !self.queued
+            && !self.ready
+            && !self.wants_large_buffer
+            && (self.until < now || self.is_slow(now))
+    }
+
+    // Whether its large request comes too slowly.
+    fn is_slow(&self, now: Duration) -> bool {
+        if self.phase != Phase::Sending || !self.has_large_buffer {
+            return false;
+        }
+        let Ok(waited) = u64::try_from(now.saturating_sub(self.since).as_millis()) else {
+            return true;
+        };
+        let came = self.link.buffered_bytes().saturating_sub(self.had);
+        let Ok(came) = u64::try_from(came) else {
+            return false;
+        };
+        waited > SLOW && came < waited.saturating_mul(LEAST_RATE)
+    }
+
+    /// Whether it sends nothing more.
+    pub(crate) fn has_ended(&self) -> bool {
+        self.ended
+    }
+
+    /// Whether nobody is there to be told anything.
+    pub(crate) fn is_reset(&self) -> bool {
+        self.reset
+    }
+
+    /// How many bytes of answers it has not taken yet.
+    pub(crate) fn unsent(&self) -> usize {
+        self.link.unsent()
+    }
+
+    /// Whose request is next, if a whole one is held.
+    pub(crate) fn peek<'t>(&mut self, tokens: &'t TokenTable) -> Peeked<'t> {
+        let peeked = self.link.peek(tokens);
+        self.lacks = !matches!(peeked, Peeked::Whole(_));
+        peeked
+    }
+
+    /// What becomes of it where no whole request is held.
+    pub(crate) fn again(&self) -> TurnOutcome {
+        again_if(self.readable)
     }
 
     /// Returns true if it waits for the client to close, after its last response.
@@ -184,6 +250,8 @@ impl<T: Socket> ClientConnection<T> {
     fn wait(&mut self, phase: Phase, now: Duration) {
         self.phase = phase;
         self.until = now.saturating_add(phase.patience());
+        self.since = now;
+        self.had = self.link.buffered_bytes();
     }
 
     // Waits for the next request.
@@ -348,6 +416,34 @@ impl<T: Socket> ClientConnection<T> {
         }
         self.restart_request_timeout(now);
         Ok(again_if(self.readable || !self.lacks || self.link.is_done()))
+    }
+
+    // Moves bytes, until a request is to be looked at.
+    fn move_bytes(&mut self, now: Duration) -> Result<TurnOutcome, StreamFault> {
+        if let Some(turned) = self.prepare(now)? {
+            return Ok(turned);
+        }
+        if self.link.is_done() {
+            return Ok(self.end(now));
+        }
+        if self.link.holds_back() {
+            return Ok(TurnOutcome::Deferred);
+        }
+        Ok(TurnOutcome::Ready)
+    }
+
+    /// One move: at most one piece is read, and one sent.
+    pub(crate) fn move_on(&mut self, now: Duration) -> TurnOutcome {
+        if self.is_ending() {
+            return self.skip(now);
+        }
+        if self.reset {
+            return TurnOutcome::Failed(StreamFault::Read);
+        }
+        match self.move_bytes(now) {
+            Ok(turned) => turned,
+            Err(fault) => TurnOutcome::Failed(fault),
+        }
     }
 
     // Answers the next request. Reads one chunk for it if it is not buffered.

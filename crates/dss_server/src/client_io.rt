@@ -4,7 +4,7 @@ ghost use Rattle.service_calls.specs.Service.{reply_of};
 ghost use Rattle.service_step.specs.declared.call_fault.CallFault.TheVariants as halts;
 ghost use Rattle.dss_server.specs.ClientIo.{connection_of, socket_of, ReleasesUnless, IsFresh, IsAnsweredBy, ReleasesDeferred, Receives, Sends};
 
-use crate::limits::CHUNK;
+use crate::limits::{CHUNK, SEND_CHUNK};
 use crate::request_context::RequestContext;
 use crate::sockets::Socket;
 use admin_http::requests::Denial;
@@ -16,7 +16,8 @@ use space_core::space::SpaceFault;
 use std::alloc::{AllocError, Global};
 use std::io::ErrorKind;
 use std::net::SocketAddrV4;
-use wire_http::{Connection, Moments, Outcome, RequestInfo, Step, StreamFault};
+use token_conf::token_table::TokenTable;
+use wire_http::{Connection, Moments, Outcome, Peeked, RequestInfo, Step, StreamFault};
 
 /// What a read did.
 #[derive(Clone, Copy, Debug, PartialEq, Eq)]
@@ -167,6 +168,19 @@ impl<T: Socket> ClientIo<T> {
         self.connection.wants_write()
     }
 
+    /// Whose request is next, if a whole one is held.
+    pub(crate) fn peek<'t>(&mut self, tokens: &'t TokenTable) -> Peeked<'t> {
+        self.connection.peek(tokens)
+    }
+
+    /// How many bytes of answers are not sent yet.
+    pub(crate) fn unsent(&self) -> usize {
+        self.connection
+            .output()
+            .len()
+            .saturating_add(self.connection.deferred().len())
+    }
+
     /// Returns true if a response is deferred.
     pub(crate) fn holds_back(&self) -> bool
         ensures { result ≡ holds_back (connection_of self.now) }
@@ -238,7 +252,9 @@ impl<T: Socket> ClientIo<T> {
     pub(crate) fn send(&mut self) -> Result<WriteOutcome, StreamFault>
         ensures { IfOk result (Sends T.coming T.gone self.old self.new) }
     {
-        match self.socket.send(self.connection.output()) {
+        let output = self.connection.output();
+        let chunk = &output[..output.len().min(SEND_CHUNK)];
+        match self.socket.send(chunk) {
             Ok(0) => Err(StreamFault::Write),
             Ok(count) => {
                 self.connection.mark_sent(count);

@@ -8,6 +8,7 @@ use std::collections::VecDeque;
 pub(crate) struct DeferredClients {
     keys: VecDeque<usize>,
     bytes: usize,
+    cost: u64,
 }
 
 impl DeferredClients {
@@ -16,11 +17,13 @@ impl DeferredClients {
         Ok(DeferredClients {
             keys: VecDeque::with_capacity(alloc, MAX_DEFERRED)?,
             bytes: 0,
+            cost: 0,
         })
     }
 
     /// Appends a client whose response has so many bytes. Returns false if the queue is full.
-    pub(crate) fn push(&mut self, key: usize, bytes: usize) -> bool {
+    pub(crate) fn push(&mut self, key: usize, bytes: usize, cost: u64) -> bool {
+        self.cost = self.cost.saturating_add(cost);
         self.bytes = self.bytes.saturating_add(bytes);
         self.keys.push_back(key).is_ok()
     }
@@ -31,11 +34,17 @@ impl DeferredClients {
         self.keys.len() >= MAX_DEFERRED || self.bytes >= DEFERRED_BYTES
     }
 
+    /// What their calls took together.
+    pub(crate) fn cost(&self) -> u64 {
+        self.cost
+    }
+
     /// Removes and returns the first client.
     pub(crate) fn pop(&mut self) -> Option<usize> {
         let key = self.keys.pop_front();
         if self.keys.is_empty() {
             self.bytes = 0;
+            self.cost = 0;
         }
         key
     }

@@ -9,7 +9,10 @@ use crate::admin_connection::AdminContext;
 use crate::admin_connections::AdminConnections;
 use crate::client_connection::{ClientConnection, TurnOutcome};
 use crate::deferred_clients::DeferredClients;
-use crate::limits::{FULL, LARGE_BUFFERS, LOOKS, LOOKS_SOON, Limits, MAX_CONNECTIONS, STOPPING};
+use crate::fair::Fair;
+use crate::limits::{
+    FULL, LARGE_BUFFERS, LOOKS, LOOKS_SOON, Limits, MAX_CONNECTIONS, SLICE, STOPPING,
+};
 use crate::purger::Purger;
 use crate::request_context::RequestContext;
 use crate::server_log::{LoggedRequest, ServerLog};
@@ -33,7 +36,8 @@ use std::alloc::{AllocError, Global};
 use std::collections::VecDeque;
 use std::time::Duration;
 use std::{io, mem};
-use wire_http::{Moments, StreamFault};
+use token_conf::token_table::TokenTable;
+use wire_http::{Moments, Peeked, StreamFault};
 
 // Returns the metric under which a fault counts.
 fn cause_of(fault: StreamFault) -> ConnectionFailure {
@@ -43,6 +47,16 @@ fn cause_of(fault: StreamFault) -> ConnectionFailure {
         StreamFault::Clock => ConnectionFailure::Clock,
         StreamFault::Memory => ConnectionFailure::Memory,
         StreamFault::Turns => ConnectionFailure::Turns,
+    }
+}
+
+// How many nanoseconds lie between two times, where the clock told both.
+fn between(begun: Option<Duration>, ended: Option<Duration>) -> u64 {
+    match (begun, ended) {
+        (Some(begun), Some(ended)) => {
+            u64::try_from(ended.saturating_sub(begun).as_nanos()).unwrap_or(u64::MAX)
+        }
+        _ => 0,
     }
 }
 
@@ -59,6 +73,10 @@ pub(crate) struct EventLoop<N: Sockets> {
     spare: Vec<usize>,
     wanting: VecDeque<usize>,
     places: usize,
+    // whose request is next
+    fair: Fair,
+    // when the clock was read last
+    clock: Option<Duration>,
     // The clients whose responses are deferred in a batch. Empty after it.
     deferred: DeferredClients,
     // How many connections may still be accepted (if limited), how many were accepted, whether one
@@ -94,6 +112,7 @@ impl<N: Sockets + Drop> EventLoop<N> {
         let spare = Vec::with_capacity(alloc, clients)?;
         let wanting = VecDeque::with_capacity(alloc, clients)?;
         let deferred = DeferredClients::new(alloc)?;
+        let fair = Fair::new(alloc)?;
         let operators = AdminConnections::new(alloc, is_operated)?;
         Ok(EventLoop {
             alloc,
@@ -104,6 +123,8 @@ impl<N: Sockets + Drop> EventLoop<N> {
             spare,
             wanting,
             places: LARGE_BUFFERS,
+            fair,
+            clock: None,
             deferred,
             left: limits.count,
             accepted: 0,
@@ -152,7 +173,7 @@ impl<N: Sockets + Drop> EventLoop<N> {
 
     // Returns how long it may wait for the clients.
     fn patience_for_clients(&self, now: Duration) -> Duration {
-        if !self.next.is_empty() {
+        if !self.next.is_empty() || self.fair.has_next() {
             return Duration::from_millis(0);
         }
         if self.has_room() {
@@ -218,6 +239,9 @@ impl<N: Sockets + Drop> EventLoop<N> {
                 .is_err()
         {
             self.metrics.connections.refuse();
+        } else {
+            // what it has sent with its connection is looked at before the next call
+            self.queue(key);
         }
     }
 
@@ -244,7 +268,7 @@ impl<N: Sockets + Drop> EventLoop<N> {
 
     // Gives free slots to the clients that wait for one, in the order of their arrival.
     fn grant_large_buffers(&mut self, now: Duration) {
-        for _ in 0..usize::MAX {
+        for _ in 0..self.wanting.len() {
             if self.places == 0 {
                 return;
             }
@@ -254,9 +278,16 @@ impl<N: Sockets + Drop> EventLoop<N> {
             if let Some(peer) = self.peers.get_mut(key)
                 && peer.wants_large_buffer()
             {
-                peer.take_large_buffer(now);
-                self.places = self.places.saturating_sub(1);
-                self.queue(key);
+                let class = peer.class;
+                if self.fair.may_have_place(class) {
+                    peer.take_large_buffer(now);
+                    peer.place_class = class;
+                    self.fair.take_large_buffer(class);
+                    self.places = self.places.saturating_sub(1);
+                    self.queue(key);
+                } else {
+                    let _ = self.wanting.push_back(key);
+                }
             }
         }
     }
@@ -278,6 +309,7 @@ impl<N: Sockets + Drop> EventLoop<N> {
             && peer.can_return_large_buffer()
         {
             peer.return_large_buffer();
+            self.fair.return_large_buffer(peer.place_class);
             self.places = self.places.saturating_add(1);
             self.grant_large_buffers(now);
         }
@@ -291,7 +323,9 @@ impl<N: Sockets + Drop> EventLoop<N> {
         if peer.is_ending() {
             self.ending = self.ending.saturating_sub(1);
         }
+        self.fair.count_unsent(peer.class, peer.counted, 0);
         if peer.has_large_buffer() {
+            self.fair.return_large_buffer(peer.place_class);
             self.places = self.places.saturating_add(1);
             self.grant_large_buffers(now);
         }
@@ -318,7 +352,7 @@ impl<N: Sockets + Drop> EventLoop<N> {
         let Some(peer) = self.peers.get(key) else {
             return TurnOutcome::Gone;
         };
-        if self.deferred.push(key, peer.deferred_bytes()) {
+        if self.deferred.push(key, peer.deferred_bytes(), peer.cost) {
             TurnOutcome::Deferred
         } else {
             TurnOutcome::Failed(StreamFault::Memory)
@@ -352,7 +386,7 @@ impl<N: Sockets + Drop> EventLoop<N> {
         };
         match turned {
             TurnOutcome::Again => self.queue(key),
-            TurnOutcome::Rests | TurnOutcome::Deferred => {}
+            TurnOutcome::Rests | TurnOutcome::Deferred | TurnOutcome::Ready => {}
             TurnOutcome::WantsPlace => return self.request_large_buffer(key, now),
             TurnOutcome::Gone | TurnOutcome::Failed(_) => return self.close(key, now),
         }
@@ -386,8 +420,8 @@ impl<N: Sockets + Drop> EventLoop<N> {
             return;
         };
         if let Some(answer) = peer.take_response() {
-            let took = match (peer.asked(), self.sockets.monotonic_time()) {
-                (Some(asked), Ok(told)) => Some(told.saturating_sub(asked)),
+            let took = match (peer.asked(), self.clock) {
+                (Some(asked), Some(told)) => Some(told.saturating_sub(asked)),
                 _ => None,
             };
             self.metrics.requests.note(&ResponseRecord {
@@ -410,10 +444,89 @@ impl<N: Sockets + Drop> EventLoop<N> {
         self.act_on(key, turned, now, journal);
     }
 
+    // Counts what a client has not taken yet.
+    fn recount(&mut self, key: usize) {
+        if let Some(peer) = self.peers.get_mut(key) {
+            let unsent = peer.unsent();
+            if unsent != peer.counted {
+                self.fair.count_unsent(peer.class, peer.counted, unsent);
+                peer.counted = unsent;
+            }
+        }
+    }
+
+    // Has a client whose next request is held whole wait for its turn in the class of that.
+    fn look_at(&mut self, key: usize, tokens: &TokenTable) -> TurnOutcome {
+        let Some(peer) = self.peers.get_mut(key) else {
+            return TurnOutcome::Gone;
+        };
+        if peer.ready {
+            return TurnOutcome::Ready;
+        }
+        match peer.peek(tokens) {
+            Peeked::Waits => peer.again(),
+            Peeked::Part(caller) => {
+                peer.class = self.fair.class_of(caller, peer.class);
+                peer.again()
+            }
+            Peeked::Whole(caller) => {
+                peer.class = self.fair.class_of(caller, peer.class);
+                if self.fair.push(peer.class, key, peer.has_ended()) {
+                    peer.ready = true;
+                    TurnOutcome::Ready
+                } else {
+                    TurnOutcome::Failed(StreamFault::Memory)
+                }
+            }
+        }
+    }
+
+    // Moves bytes of a client.
+    fn move_one<J: ServerLog>(
+        &mut self,
+        key: usize,
+        tokens: &TokenTable,
+        now: Duration,
+        journal: &mut J,
+    ) {
+        let Some(peer) = self.peers.get_mut(key) else {
+            return;
+        };
+        peer.set_queued(false);
+        let class = peer.class;
+        let was_ending = peer.is_ending();
+        let begun = self.clock;
+        let moved = peer.move_on(now);
+        let turned = match moved {
+            TurnOutcome::Ready => self.look_at(key, tokens),
+            _ => moved,
+        };
+        self.recount(key);
+        self.act_on(key, turned, now, journal);
+        self.count_ending(key, was_ending);
+        self.clock = self.sockets.monotonic_time().ok();
+        self.fair.charge(class, between(begun, self.clock));
+    }
+
+    // Moves bytes of each client that has some to move.
+    fn move_all<J: ServerLog>(&mut self, tokens: &TokenTable, now: Duration, journal: &mut J) {
+        if self.next.is_empty() {
+            return;
+        }
+        let spare = mem::replace(&mut self.spare, Vec::new(self.alloc));
+        let mut keys = mem::replace(&mut self.next, spare);
+        for key in &keys {
+            self.move_one(*key, tokens, now, journal);
+        }
+        keys.clear();
+        self.spare = keys;
+    }
+
     // Runs the turn of a client.
     fn turn<S: GroupCommit + Drop, M: Moments, J: ServerLog>(
         &mut self,
         key: usize,
+        class: usize,
         context: RequestContext<'_>,
         service: &mut Service<S>,
         moments: &mut M,
@@ -426,14 +539,23 @@ impl<N: Sockets + Drop> EventLoop<N> {
         let Some(peer) = self.peers.get_mut(key) else {
             return;
         };
-        peer.set_queued(false);
+        if !peer.ready {
+            return;
+        }
+        peer.ready = false;
         let was_ending = peer.is_ending();
-        peer.set_requested_at(self.sockets.monotonic_time().ok());
+        let begun = self.clock;
+        peer.set_requested_at(begun);
         let turned = peer.turn(context, service, moments, now);
+        self.clock = self.sockets.monotonic_time().ok();
+        let took = between(begun, self.clock);
+        peer.cost = took;
+        self.fair.charge(class, took);
         if let Some(answer) = peer.answer() {
             let outcome = outcome_of_change(answer, self.store.is_failing());
             self.record_commit(outcome, now, journal);
         }
+        self.recount(key);
         self.conclude(key, turned, now, journal);
         self.count_ending(key, was_ending);
     }
@@ -451,6 +573,7 @@ impl<N: Sockets + Drop> EventLoop<N> {
         };
         let was_ending = peer.is_ending();
         let turned = peer.tell(self.alloc, committed, now);
+        self.recount(key);
         self.conclude(key, turned, now, journal);
         self.count_ending(key, was_ending);
     }
@@ -495,14 +618,28 @@ impl<N: Sockets + Drop> EventLoop<N> {
             × IsCommitted S.Space S.GroupCommit.own service.old service.new committed }
     {
         let waited = service.has_pending();
+        let begun = self.clock;
         let committed = service.commit();
+        self.clock = self.sockets.monotonic_time().ok();
+        let took = between(begun, self.clock);
+        let cost = self.deferred.cost();
         self.record_commit(outcome_of_batch(waited, committed), now, journal);
         for _ in 0..usize::MAX {
             let Some(key) = self.deferred.pop() else {
                 return;
             };
+            if let Some(peer) = self.peers.get(key) {
+                // each pays its share of the sync
+                let share = took.saturating_mul(peer.cost) / cost.max(1);
+                self.fair.charge(peer.class, share);
+            }
             self.tell(key, committed, now, journal);
         }
+    }
+
+    // Whether a round has gone on long enough.
+    fn has_spent(&self, begun: Option<Duration>) -> bool {
+        between(begun, self.clock) > SLICE * 1_000_000
     }
 
     // Commits the batch if enough clients wait for it.
@@ -536,18 +673,23 @@ impl<N: Sockets + Drop> EventLoop<N> {
         ensures { ServesBy S.Space S.GroupCommit.own M.Moments (callers_of context.entry.tokens.now)
             service.old service.new moments.old moments.new }
     {
-        if self.next.is_empty() {
+        self.clock = self.sockets.monotonic_time().ok();
+        self.move_all(context.tokens, now, journal);
+        if !self.fair.has_next() {
             return;
         }
-        let spare = mem::replace(&mut self.spare, Vec::new(self.alloc));
-        let mut keys = mem::replace(&mut self.next, spare);
-        for key in &keys {
-            self.turn(*key, context, service, moments, now, journal);
+        let begun = self.clock;
+        for _ in 0..MAX_CONNECTIONS {
+            let Some((class, key)) = self.fair.pick() else {
+                break;
+            };
+            self.turn(key, class, context, service, moments, now, journal);
             self.commit_if_full(service, now, journal);
+            if self.has_spent(begun) {
+                break;
+            }
         }
         self.commit_batch(service, now, journal);
-        keys.clear();
-        self.spare = keys;
     }
 
     /// Flushes the log lines of the iteration.

@@ -10,6 +10,7 @@ mod client_connection;
 mod client_io;
 mod deferred_clients;
 mod event_loop;
+mod fair;
 pub mod limits;
 pub mod phase;
 mod purger;

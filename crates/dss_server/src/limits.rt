@@ -37,6 +37,32 @@ pub(crate) const MAX_DEFERRED: usize = 64;
 
 pub(crate) const DEFERRED_BYTES: usize = 1_048_576;
 
+// About how long requests are answered before the system is asked what came meanwhile, in
+// milliseconds: those of a round are fewer where they are dear.
+pub(crate) const SLICE: u64 = 5;
+
+// The bytes that one sending offers.
+pub(crate) const SEND_CHUNK: usize = 131_072;
+
+// How many bytes of answers may be unsent before no request more is answered: of all, for those who
+// have some of them, and of one supplier.
+pub(crate) const ALL_UNSENT: usize = 67_108_864;
+
+pub(crate) const CLASS_UNSENT: usize = 33_554_432;
+
+// How many places for large requests those without a token have, and one supplier.
+pub(crate) const PLACES_WITHOUT_TOKEN: usize = 8;
+
+pub(crate) const PLACES_OF_ONE: usize = 32;
+
+// How long a connection is waited for until its first byte, in milliseconds.
+pub(crate) const FIRST: u64 = 10_000;
+
+// How long a large request may come slower than so many bytes a millisecond.
+pub(crate) const SLOW: u64 = 5_000;
+
+pub(crate) const LEAST_RATE: u64 = 4;
+
 // The pause in milliseconds before the next accept, after the system had no room for a connection.
 pub(crate) const FULL: u64 = 100;
 

@@ -99,7 +99,8 @@ fn permitting_scopes(kind: OpKind) -> &'static [Scope]
     }
 }
 
-fn is_permitted(kind: OpKind, scopes: ScopeSet) -> bool
+/// Whether one of the scopes opens an operation of the kind.
+pub fn is_permitted(kind: OpKind, scopes: ScopeSet) -> bool
     ensures { result ≡ is_permitted kind scopes }
 {
     permitting_scopes(kind)

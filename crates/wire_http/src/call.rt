@@ -14,6 +14,7 @@ use crate::fault::StreamFault;
 use crate::moments::Moments;
 use httparse::spans::{HeaderSpan, RequestSpans};
 use policy_core::call::{Call, OpKind, Operation};
+use policy_core::early::is_permitted;
 use policy_core::scope::Caller;
 use std::alloc::{AllocError, Global};
 use token_conf::token_table::TokenTable;
@@ -57,6 +58,7 @@ fn seek(
     path: &str,
     method: &[u8],
     body: &[u8],
+    caller: &Option<Caller>,
 ) -> Result<RoutedOperation, AllocError>
     ensures asked { IfOk result (λ s. IsAsked path.now method.now body.now s.endpoint s.op) }
     ensures kind { IfOk result (λ s. s.kind ≡ requested_kind s.endpoint method.now) }
@@ -75,12 +77,37 @@ fn seek(
             op: Operation::NoMethod,
         });
     };
-    let op = read_as(alloc, kind, &words, body)?;
+    // what P3 or P4 refuses is refused whatever its body says
+    let op = if is_let_in(caller, kind) {
+        read_as(alloc, kind, &words, body)?
+    } else {
+        Operation::Malformed(kind)
+    };
     Ok(RoutedOperation {
         endpoint: Some(endpoint),
         kind: Some(kind),
         op,
     })
+}
+
+// Whether a caller breaks neither P3 nor P4 by an operation of the kind.
+fn is_let_in(caller: &Option<Caller>, kind: OpKind) -> bool {
+    match caller {
+        Some(caller) => is_permitted(kind, caller.scopes),
+        None => false,
+    }
+}
+
+/// The caller of the token that the fields bear, in the table.
+pub(crate) fn caller_in<'t>(
+    tokens: &'t TokenTable,
+    buffer: &[u8],
+    fields: &[HeaderSpan],
+) -> Option<&'t Caller> {
+    let Some(token) = bearer_token(buffer, fields) else {
+        return None;
+    };
+    tokens.caller(token)
 }
 
 // Returns the caller with the bearer token in the fields.
@@ -151,14 +178,15 @@ fn call_of(
     };
     let path = path_of(target);
     let body = &buffer[spans.len..spans.len + size];
+    let caller = caller_of(tokens, buffer, &fields[..spans.headers])?;
     let RoutedOperation { endpoint, kind, op } = seek(
         alloc,
         routes,
         path,
         spans.method.of(buffer),
         body,
+        &caller,
     )?;
-    let caller = caller_of(tokens, buffer, &fields[..spans.headers])?;
     Ok(RoutedCall {
         endpoint,
         kind,

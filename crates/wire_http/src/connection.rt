@@ -10,8 +10,8 @@ ghost use Rattle.wire_http.specs.RequestInfo.{outcome_of};
 ghost use Rattle.wire_http.specs.Reply.{Replies, RepliesPart};
 ghost use Rattle.wire_http.specs.Text.{response_text, end_texts};
 
-use crate::buffered::{BufferState, next_buffered};
-use crate::call::{Received, RoutedCall, ask, left_after};
+use crate::buffered::{BufferState, HEAD_LIMIT, next_buffered};
+use crate::call::{Received, RoutedCall, ask, caller_in, left_after};
 use crate::end::End;
 use crate::fault::StreamFault;
 use crate::moments::Moments;
@@ -21,11 +21,13 @@ use crate::serve::REQUESTS;
 use crate::source::shift;
 use crate::text::{response_text, rule_text};
 use httparse::spans::{EMPTY_HEADER_SPAN, HeaderSpan, RequestSpans};
+use policy_core::scope::Caller;
 use service_calls::service::Service;
 use service_step::reply::Reply;
 use space_core::space::Space;
 use std::alloc::{AllocError, Global};
 use token_conf::token_table::TokenTable;
+use wire_head::rest::{PartialHead, head_so_far};
 use wire_route::endpoint::Endpoint;
 use wire_route::routes::Routes;
 
@@ -44,6 +46,17 @@ pub enum Step {
     Answered(u32),
     /// The stream ended in this way, and no more requests are answered.
     Ended(End),
+}
+
+/// What a look at the bytes that are held tells, before a request is answered.
+#[derive(Clone, Copy)]
+pub enum Peeked<'t> {
+    /// No whole request is held, and nothing new is known of it.
+    Waits,
+    /// A whole head is held, of this caller, and not all of its body.
+    Part(Option<&'t Caller>),
+    /// A whole request is held, of this caller, or the stream ends.
+    Whole(Option<&'t Caller>),
 }
 
 // Releases the memory of a large buffer that holds little. An empty one keeps at most 64 KB.
@@ -86,6 +99,10 @@ fn answer_behind(
     let Ok(text) = response_text(alloc, endpoint, closing, reply) else {
         return Err(AllocError);
     };
+    if output.is_empty() {
+        *output = text;
+        return Ok(());
+    }
     match put_behind(output, text.as_slice()) {
         Ok(()) => Ok(()),
         Err(_) => Err(AllocError),
@@ -448,6 +465,36 @@ impl Connection {
         });
         self.noted = Some(info_for(pending, outcome));
         Ok(Step::Answered(left))
+    }
+
+    /// Whose request is next, if a whole one is held. The step that follows is the same as without
+    /// this look.
+    pub fn peek<'t>(&mut self, tokens: &'t TokenTable) -> Peeked<'t> {
+        if self.left == 0 {
+            return Peeked::Whole(None);
+        }
+        if !self.ended && self.held.len() < self.wanted {
+            return Peeked::Waits;
+        }
+        let mut fields = [EMPTY_HEADER_SPAN; 64];
+        let held = self.held.as_slice();
+        match next_buffered(held, self.ended, &mut fields) {
+            BufferState::Gives(Next::Request(spans, _)) => {
+                Peeked::Whole(caller_in(tokens, held, &fields[..spans.headers]))
+            }
+            BufferState::Gives(Next::Stop(_)) => Peeked::Whole(None),
+            BufferState::Wants(count) => {
+                let front = &held[..held.len().min(HEAD_LIMIT)];
+                let peeked = match head_so_far(front, &mut fields) {
+                    PartialHead::Head(spans) => {
+                        Peeked::Part(caller_in(tokens, held, &fields[..spans.headers]))
+                    }
+                    _ => Peeked::Waits,
+                };
+                self.wanted = count;
+                peeked
+            }
+        }
     }
 
     /// Answers the next request, if it is complete, and defers its response; or ends the stream.

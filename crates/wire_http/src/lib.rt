@@ -17,7 +17,7 @@ mod source;
 mod text;
 mod write;
 
-pub use connection::{Connection, Step};
+pub use connection::{Connection, Peeked, Step};
 pub use counted::Counted;
 pub use end::{End, Served};
 pub use fault::StreamFault;
