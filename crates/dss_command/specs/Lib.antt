@@ -4,6 +4,8 @@ pub mod Limits
 pub mod Line
 pub mod LogLine
 pub mod Print
+pub mod PurgeCounts
+pub mod Purging
 pub mod Service
 pub mod StoreLines
 pub mod Stream

@@ -4,7 +4,7 @@ use Rattle.std.specs.Io.KnownBytes.{Appends}
 use Rattle.entity_core.specs.Airspace.{Airspace}
 use Rattle.dss_report.specs.CellLines.{IsPlacesOf}
 use Rattle.dss_report.specs.Report.{report_of}
-use Rattle.dss_purge.specs.declared.purged.PurgeCounts.{PurgeCounts}
+use Rattle.dss_command.specs.declared.purged.PurgeCounts.{PurgeCounts}
 
 -- Holds if the lines of the cells of its references are written.
 abbrev pub WritesPlaces : Airspace → (before after : Option (List ℕ)) → Type 0

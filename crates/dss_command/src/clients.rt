@@ -21,7 +21,7 @@ use dss_server::sockets::Sockets;
 use dss_server::token_watch::{TokenReloadFault, TokenSource, TokenWatch};
 use entity_core::salt::Salt;
 use service_calls::service::Service;
-use space_purge::purge_ended::PurgeEnded;
+use space_core::purge_ended::PurgeEnded;
 use space_snapshot::snapshot::SnapshotSource;
 use std::alloc::Global;
 use std::io;

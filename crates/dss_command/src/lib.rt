@@ -10,6 +10,8 @@ pub mod line;
 mod log_line;
 pub mod moment;
 pub mod print;
+pub mod purge;
+pub mod purged;
 pub mod request_log;
 mod store_lines;
 pub mod stream;

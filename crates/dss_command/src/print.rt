@@ -9,7 +9,7 @@ ghost use Rattle.dss_command.specs.Fault.{IsOfCell};
 ghost use Rattle.dss_command.specs.Print.{WritesPlaces, WritesReport, purged_line};
 
 use crate::fault::Fault;
-use dss_purge::purged::PurgeCounts;
+use crate::purged::PurgeCounts;
 use dss_report::cell::token_line;
 use dss_report::cell_lines::cells_text;
 use dss_report::report::report_text;

@@ -23,8 +23,8 @@ use Rattle.space_sql.specs.Found.{FilesSpell, FindsSpelt}
 use Rattle.space_sql.specs.Holding.{SqlSpaceModel}
 use Rattle.space_sql.specs.Restart.{ClosesFiles, FilesHave, without_log}
 use Rattle.space_sql_schema.specs.declared.format.Format.TheVariants.{Two}
-use Rattle.dss_purge.specs.Purging.{LeavesPurged, PurgesSpace}
-use Rattle.dss_purge.specs.declared.purged.PurgeCounts.{PurgeCounts}
+use Rattle.dss_command.specs.Purging.{LeavesPurged, PurgesSpace}
+use Rattle.dss_command.specs.declared.purged.PurgeCounts.{PurgeCounts}
 use Rattle.dss_command.specs.Print.{purged_line}
 use Rattle.dss_command.specs.declared.fault.Fault.{Fault}
 use Rattle.dss_command.specs.declared.fault.Fault.TheVariants.{DatabaseFailed, Output}

@@ -30,9 +30,9 @@ use Rattle.token_conf.specs.TokenFile.{TokenFile}
 use Rattle.wire_http.specs.declared.moments.Moments as moments
 use Rattle.dss_command.specs.Print.{WritesReport, purged_line}
 use Rattle.dss_command.specs.Service.{ServesClients}
-use Rattle.dss_purge.specs.PurgeCounts.{IsLess}
-use Rattle.dss_purge.specs.Purging.{PurgesSpace}
-use Rattle.dss_purge.specs.declared.purged.PurgeCounts.{PurgeCounts}
+use Rattle.dss_command.specs.PurgeCounts.{IsLess}
+use Rattle.dss_command.specs.Purging.{PurgesSpace}
+use Rattle.dss_command.specs.declared.purged.PurgeCounts.{PurgeCounts}
 use Rattle.dss_command.specs.Stream.{ServesOver, ServesPartOver}
 use Rattle.dss_command.specs.declared.fault.Fault.{Fault}
 use Rattle.dss_command.specs.declared.fault.Fault.TheVariants.{Database, DatabaseFailed, Memory, Output}

@@ -13,16 +13,16 @@ ghost use Rattle.dss_database.specs.Files.{ClosesServed, EndsClosing, IsOfDataba
 ghost use Rattle.dss_database.specs.Files.{KeepsAirspace};
 ghost use Rattle.dss_database.specs.Files.{ReportsFiles, ReportsSpace, ServesClosing, ServesMirrored};
 ghost use Rattle.dss_database.specs.Files.{PurgesFiles, PurgesPartly, UpgradesFiles};
-ghost use Rattle.dss_purge.specs.Purging.{PurgesSpace};
+ghost use Rattle.dss_command.specs.Purging.{PurgesSpace};
 
 use crate::with_mirror::with_mirror;
 use dss_command::clients::{Listen, ServeConfig, serve_port};
 use dss_command::fault::Fault;
 use dss_command::print;
 use dss_command::print::{put_format, put_purged};
+use dss_command::purge::purge_space;
+use dss_command::purged::PurgeCounts;
 use dss_command::stream::serve_stream_over;
-use dss_purge::purge::purge_space;
-use dss_purge::purged::PurgeCounts;
 use dss_server::token_watch::{TokenSource, TokenWatch};
 use entity_core::salt::Salt;
 use space_core::space::{Space, SpaceFault};

@@ -3,8 +3,8 @@ ghost use Rattle.std.specs.Prelude.{Some};
 ghost use Rattle.dss_server.specs.Serve.{MayPurge};
 
 use service_calls::service::Service;
+use space_core::purge_ended::PurgeEnded;
 use space_core::space::SpaceFault;
-use space_purge::purge_ended::PurgeEnded;
 use std::mem;
 use std::time::Duration;
 use wire_http::Moments;

@@ -10,7 +10,7 @@ use crate::sockets::Sockets;
 use crate::token_watch::{TokenSource, TokenWatch};
 use admin_http::build::BuildInfo;
 use service_calls::service::Service;
-use space_purge::purge_ended::PurgeEnded;
+use space_core::purge_ended::PurgeEnded;
 use space_snapshot::snapshot::SnapshotSource;
 use std::alloc::Global;
 use std::io;

@@ -29,8 +29,8 @@ use service_step::look_up::OwnedFacts;
 use service_step::prepared::Prepared;
 use service_step::reply::{Answer, Reply};
 use space_core::group_commit::GroupCommit;
+use space_core::purge_ended::PurgeEnded;
 use space_core::space::{Change, Space, SpaceFault};
-use space_purge::purge_ended::PurgeEnded;
 use std::alloc::{AllocError, Global};
 
 // Returns the reply to an aborted call.

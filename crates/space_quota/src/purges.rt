@@ -8,8 +8,8 @@ ghost use Rattle.space_quota.specs.QuotaSpace.{QuotaModel, QuotaPurgeEffect, quo
 use crate::usage_table::UsageTable;
 use crate::uss_usage::usage_purged;
 use entity_purge::purge_item::PurgeItem;
+use space_core::purge_ended::PurgeEnded;
 use space_core::space::SpaceFault;
-use space_purge::purge_ended::PurgeEnded;
 use space_snapshot::snapshot::{Snapshot, SnapshotSource};
 
 // Returns the fault of a purge if the space has no snapshot: it is broken, or the USSs of the items

@@ -21,8 +21,8 @@ use entity_purge::purge_item::PurgeItem;
 use grid_core::volume::Area;
 use space_core::group_commit::GroupCommit;
 use space_core::met::Met;
+use space_core::purge_ended::PurgeEnded;
 use space_core::space::{Change, Space, SpaceFault};
-use space_purge::purge_ended::PurgeEnded;
 use space_snapshot::snapshot::{NoMirror, Snapshot, SnapshotSource};
 use std::marker::Model;
 

@@ -2,7 +2,7 @@ use Rattle.std.proofs.Common.{sym, subst}
 use Rattle.space_mirror.specs.Laws.{visible_is_durable}
 use Rattle.space_sql.specs.Holding.{holds_of, is_sound_of}
 use Rattle.service_recovery.proofs.Crashes.{words_of}
-use Rattle.dss_purge.specs.Purging.{PurgesSpace}
+use Rattle.dss_command.specs.Purging.{PurgesSpace}
 use Rattle.dss_database.proofs.Purging.{purged_by_store}
 use Rattle.dss_database.proofs.files.purged_with_mirror.Goals as goal
 

@@ -8,7 +8,7 @@ use Rattle.entity_core.specs.declared.nature.Kind.TheVariants.{Constraint, Inten
 use Rattle.entity_purge.specs.declared.purge_item.PurgeItem.{PurgeItem}
 use Rattle.entity_purge.specs.declared.purge_item.PurgeItem.TheVariants as gone
 use Rattle.space_core.specs.Space.{max_count}
-use Rattle.dss_purge.specs.declared.purged.PurgeCounts.{PurgeCounts}
+use Rattle.dss_command.specs.declared.purged.PurgeCounts.{PurgeCounts}
 
 abbrev pub nothing : PurgeCounts
 nothing = record { intents = 0; constraints = 0; subscriptions = 0 }

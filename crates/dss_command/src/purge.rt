@@ -1,11 +1,11 @@
 //! The purge of a space.
 ghost use Rattle.std.specs.Prelude.{◌≡◌};
-ghost use Rattle.dss_purge.specs.Purging.{PurgesSpace};
+ghost use Rattle.dss_command.specs.Purging.{PurgesSpace};
 
 use crate::purged::PurgeCounts;
 use entity_purge::laws::{chunks_make_purges, purged_items_are_partly_purged};
+use space_core::purge_ended::PurgeEnded;
 use space_core::space::SpaceFault;
-use space_purge::purge_ended::PurgeEnded;
 
 // The maximum number of items purged at once.
 const CHUNK: usize = 256;

@@ -1,6 +1,6 @@
 use Rattle.std.proofs.Common.{◌≡◌}
-use Rattle.dss_purge.proofs.Chunks.{PurgedSoFar}
-use Rattle.dss_purge.proofs.purge.purge_space.Given as goal
+use Rattle.dss_command.proofs.Chunks.{PurgedSoFar}
+use Rattle.dss_command.proofs.purge.purge_space.Given as goal
 
 abbrev pub invariant-loop-chunk : goal.invariant-loop-chunk
 invariant-loop-chunk g l = record {

@@ -1,6 +1,6 @@
 //! The counts of a purge.
 ghost use Rattle.std.specs.Prelude.{◌≡◌, fold};
-ghost use Rattle.dss_purge.specs.PurgeCounts.{nothing, with_one};
+ghost use Rattle.dss_command.specs.PurgeCounts.{nothing, with_one};
 
 use entity_core::nature::Kind;
 use entity_purge::purge_item::PurgeItem;

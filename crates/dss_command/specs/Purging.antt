@@ -5,8 +5,8 @@ use Rattle.entity_purge.specs.Purge.{IsPartlyPurged, purged}
 use Rattle.space_core.specs.Space.{IsContent}
 use Rattle.space_core.specs.declared.space.Space.{Ghosts}
 use Rattle.space_core.specs.declared.space.SpaceFault.{SpaceFault}
-use Rattle.dss_purge.specs.PurgeCounts.{IsLess}
-use Rattle.dss_purge.specs.declared.purged.PurgeCounts.{PurgeCounts}
+use Rattle.dss_command.specs.PurgeCounts.{IsLess}
+use Rattle.dss_command.specs.declared.purged.PurgeCounts.{PurgeCounts}
 
 -- What a purge with this result leaves of the airspace. After `Ok` the space holds exactly the
 -- purged airspace, and the counts are the difference. After a fault it holds only a partly purged

@@ -18,8 +18,8 @@ use Rattle.entity_purge.specs.declared.purge_item.PurgeItem.{PurgeItem}
 use Rattle.entity_purge.specs.declared.purge_item.PurgeItem.TheVariants as gone
 use Rattle.entity_purge.specs.PurgeItem.{CanPurgeAll, CanPurge, without_items, without_item}
 use Rattle.space_core.specs.Space.{max_count}
-use Rattle.dss_purge.specs.PurgeCounts.{IsLess, how_many_subscriptions, nothing, one_more, with_one}
-use Rattle.dss_purge.specs.declared.purged.PurgeCounts.{PurgeCounts}
+use Rattle.dss_command.specs.PurgeCounts.{IsLess, how_many_subscriptions, nothing, one_more, with_one}
+use Rattle.dss_command.specs.declared.purged.PurgeCounts.{PurgeCounts}
 
 -- Two filters can be swapped.
 swapped : {X : Type 0} (p q : X → Bool) (xs : List X) → filter p (filter q xs) ≡ filter q (filter p xs)

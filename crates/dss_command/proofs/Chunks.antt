@@ -10,10 +10,10 @@ use Rattle.space_core.specs.Space.{Changes, IsContent, Reads, ReportsFault}
 use Rattle.space_core.specs.declared.space.Space.{Ghosts}
 use Rattle.space_core.specs.declared.space.SpaceFault.{SpaceFault}
 use Rattle.space_core.specs.declared.space.SpaceFault.TheVariants.{Broken, Unchanged}
-use Rattle.dss_purge.specs.Purging.{PurgesSpace}
-use Rattle.dss_purge.specs.PurgeCounts.{IsLess, nothing, with_one}
-use Rattle.dss_purge.specs.declared.purged.PurgeCounts.{PurgeCounts}
-use Rattle.dss_purge.proofs.Counting.{CountsTo, all_less, counts_nothing}
+use Rattle.dss_command.specs.Purging.{PurgesSpace}
+use Rattle.dss_command.specs.PurgeCounts.{IsLess, nothing, with_one}
+use Rattle.dss_command.specs.declared.purged.PurgeCounts.{PurgeCounts}
+use Rattle.dss_command.proofs.Counting.{CountsTo, all_less, counts_nothing}
 
 -- A list that is reported empty is empty.
 pub is_none : {X : Type 0} (xs : List X) (n : ℕ) (b : Bool) → n ≡ length xs → b ≡ (n == 0) → b ≡ true → xs ≡ []

@@ -3,9 +3,9 @@ ghost use Rattle.std.specs.Prelude.{◌≡◌};
 ghost use Rattle.entity_purge.specs.PurgeItem.{CanPurgeAll, IsPurgeChunk, without_items};
 ghost use Rattle.space_core.specs.Calls.{CallChanges, CallReads, CallReportsFault, ForEachHeld};
 
+use crate::group_commit::GroupCommit;
+use crate::space::SpaceFault;
 use entity_purge::purge_item::PurgeItem;
-use space_core::group_commit::GroupCommit;
-use space_core::space::SpaceFault;
 
 /// A storage backend that purges what has ended in chunks, while no change is pending.
 pub trait PurgeEnded: GroupCommit {

@@ -1,9 +1,9 @@
 use Rattle.std.proofs.Common.{List, refl, sym, subst, ◌∙◌}
 use Rattle.std.proofs.lemmas.Result.{err_from_is_err_and}
 use Rattle.entity_purge.specs.declared.purge_item.PurgeItem.{PurgeItem}
-use Rattle.dss_purge.specs.Purging.{PurgesSpace}
-use Rattle.dss_purge.proofs.Chunks.{PurgedSoFar, begins, done, is_none, more, stays, unmade, unread}
-use Rattle.dss_purge.proofs.purge.purge_space.Goals as goal
+use Rattle.dss_command.specs.Purging.{PurgesSpace}
+use Rattle.dss_command.proofs.Chunks.{PurgedSoFar, begins, done, is_none, more, stays, unmade, unread}
+use Rattle.dss_command.proofs.purge.purge_space.Goals as goal
 
 pub loop-chunk-init : goal.loop-chunk-init
 loop-chunk-init g c = record {

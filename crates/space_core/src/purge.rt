@@ -2,8 +2,8 @@
 ghost use Rattle.entity_purge.specs.PurgeItem.{CanPurgeAll, without_items};
 ghost use Rattle.space_core.specs.Calls.{CallChanges, CallReportsFault, ForEachHeld};
 
+use crate::space::{Space, SpaceFault};
 use entity_purge::purge_item::PurgeItem;
-use space_core::space::{Space, SpaceFault};
 
 /// A storage backend that purges items.
 ///
