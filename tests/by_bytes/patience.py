@@ -9,7 +9,7 @@ from sockets import ANSWER, ASKED, CLOSING, LAST, difference
 import wire
 
 # seconds that a client may ask nothing, take for a request, and take nothing of an answer, and that a busy machine adds
-IDLE, SENDING, TAKING, MORE = 60, 30, 30, 6
+FIRST, IDLE, SENDING, TAKING, MORE = 10, 60, 30, 30, 6
 # seconds in which a client beside it is answered
 AT_ONCE = 2
 READS, WRITES = b"dss: stream: fault 1 Read\n", b"dss: stream: fault 2 Write\n"
@@ -86,7 +86,7 @@ def impatient():
     """One that sends nothing, one that stops in a head, one that stops in a body, one that keeps its connection after an
     answer, one that sends a byte a second, and one that takes nothing."""
     asked = [
-        ("silent", b"", IDLE),
+        ("silent", b"", FIRST),
         ("half a head", ASKED[:40], SENDING, b"", READS),
         ("half a body", PUT[:-1], SENDING, b"", READS),
         ("kept", ASKED, IDLE, ANSWER),

@@ -1,4 +1,5 @@
 pub mod ClientIo
+pub mod FairQueue
 pub mod Serve
 pub mod StoreWatch
 pub mod Tokens

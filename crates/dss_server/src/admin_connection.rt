@@ -92,10 +92,11 @@ impl<T: Socket> AdminConnection<T> {
         self.until < now && !self.waits
     }
 
-    /// Until when it is waited for, where it has asked nothing.
-    pub(crate) fn idle_until(&self) -> Option<Duration> {
+    /// Returns the time since which it waits for the first byte of a request, or `None` if it waits
+    /// for something else.
+    pub(crate) fn idle_since(&self) -> Option<Duration> {
         match self.phase {
-            Phase::Idle => Some(self.until),
+            Phase::Idle => Some(self.until.saturating_sub(Phase::Idle.patience())),
             _ => None,
         }
     }

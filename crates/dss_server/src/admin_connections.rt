@@ -1,7 +1,9 @@
 //! All connections to the admin port.
 use crate::admin_connection::{AdminConnection, AdminContext, AdminTurnOutcome};
 use crate::backup_job::BackupJob;
-use crate::limits::{FULL, LOOKS, LOOKS_SOON, MAX_ADMIN_CONNECTIONS};
+use crate::limits::{
+    ADMIN_IDLE_GRACE, FULL, LOOKS, LOOKS_SOON, MAX_ADMIN_CONNECTIONS, MAX_IDLE_ADMIN_CONNECTIONS,
+};
 use crate::sockets::{AcceptFault, EventSource, SocketEvent, Sockets};
 use admin_http::backup::BackupResult;
 use slab::Slab;
@@ -119,36 +121,45 @@ impl<N: Sockets + Drop> AdminConnections<N> {
         }
     }
 
-    // Closes the one that has been silent for the longest, where no other has room.
-    fn make_room(&mut self) {
-        if !self.waiting || self.all.len() < MAX_ADMIN_CONNECTIONS {
-            return;
-        }
+    // Closes the connection that has been idle for the longest, if more than `most` have been idle
+    // for `time`.
+    fn close_oldest_idle(&mut self, most: usize, time: u64, now: Duration) {
+        let latest = now.saturating_sub(Duration::from_millis(time));
+        let mut idle = 0_usize;
         let mut oldest = None;
         for key in 0..MAX_ADMIN_CONNECTIONS {
             if let Some(operator) = self.all.get(key)
-                && let Some(until) = operator.idle_until()
+                && let Some(begun) = operator.idle_since()
+                && begun <= latest
             {
+                idle = idle.saturating_add(1);
                 oldest = match oldest {
-                    Some((_, least)) if least <= until => oldest,
-                    _ => Some((key, until)),
+                    Some((_, least)) if least <= begun => oldest,
+                    _ => Some((key, begun)),
                 };
             }
         }
-        if let Some((key, _)) = oldest {
+        if idle > most
+            && let Some((key, _)) = oldest
+        {
             let _ = self.all.try_remove(key);
         }
     }
 
-    /// Accepts waiting connections, as far as there is room.
+    /// Accepts waiting connections, as far as there is room. Idle connections make room for them.
     pub(crate) fn accept(&mut self, sockets: &mut N, now: Duration) {
         for _ in 0..MAX_ADMIN_CONNECTIONS {
-            self.make_room();
+            if self.waiting && self.all.len() >= MAX_ADMIN_CONNECTIONS {
+                self.close_oldest_idle(0, 0, now);
+            }
             if !self.has_room() || now < self.full_until {
                 return;
             }
             match sockets.accept_operator() {
-                Ok(socket) => self.take_in(sockets, socket, now),
+                Ok(socket) => {
+                    self.take_in(sockets, socket, now);
+                    self.close_oldest_idle(MAX_IDLE_ADMIN_CONNECTIONS, ADMIN_IDLE_GRACE, now);
+                }
                 Err(AcceptFault::NoneWaits) => self.waiting = false,
                 Err(AcceptFault::Gone) => {}
                 Err(AcceptFault::Full | AcceptFault::Failed(_)) => {

@@ -3,7 +3,10 @@ ghost use Rattle.token_conf.specs.TokenFile.{callers_of};
 ghost use Rattle.dss_server.specs.Serve.{GoesOn};
 
 use crate::client_io::{ClientIo, ReadOutcome, ResponseInfo, WriteOutcome};
-use crate::limits::{CHUNK, FIRST, LAST_CHUNKS, LEAST_RATE, SLOW, SMALL};
+use crate::fair_queue::ClassMember;
+use crate::limits::{
+    CHUNK, FIRST_REQUEST_TIMEOUT, LAST_CHUNKS, MIN_REQUEST_RATE, REQUEST_RATE_GRACE, SMALL,
+};
 use crate::phase::Phase;
 use crate::request_context::RequestContext;
 use crate::server_log::AbortedConnection;
@@ -23,7 +26,7 @@ pub(crate) enum TurnOutcome {
     Again,
     /// It waits for its socket.
     Rests,
-    /// It has a whole request, or an end, that is to be taken.
+    /// A request is to be answered, or its stream ends.
     Ready,
     /// Its response is deferred until the batch ends.
     Deferred,
@@ -65,17 +68,11 @@ pub(crate) struct ClientConnection<T> {
     wants_large_buffer: bool,
     // True if it is queued for its next turn.
     queued: bool,
-    // The class of its next request or of its last one, and that whose place it has; whether it
-    // waits for its turn there, how many of its bytes were counted as unsent, and what its last
-    // request took.
-    pub(crate) class: usize,
-    pub(crate) place_class: usize,
-    pub(crate) ready: bool,
-    pub(crate) counted: usize,
-    pub(crate) cost: u64,
-    // When it was last waited for anew, and how many bytes it had sent then.
-    since: Duration,
-    had: usize,
+    /// What the fair queue records of it.
+    pub(crate) member: ClassMember,
+    // When its phase began, and how many bytes were buffered then.
+    phase_begun: Duration,
+    phase_begun_with: usize,
     // The response prepared in its turn, and the time when the turn began, if the clock returned
     // one.
     answer: Option<ResponseInfo>,
@@ -89,7 +86,7 @@ impl<T: Socket> ClientConnection<T> {
             link: ClientIo::new(alloc, socket),
             number,
             phase: Phase::Idle,
-            until: now.saturating_add(Duration::from_millis(FIRST)),
+            until: now.saturating_add(Duration::from_millis(FIRST_REQUEST_TIMEOUT)),
             last_chunks: 0,
             readable: true,
             writable: true,
@@ -99,13 +96,9 @@ impl<T: Socket> ClientConnection<T> {
             has_large_buffer: false,
             wants_large_buffer: false,
             queued: false,
-            class: 0,
-            place_class: 0,
-            ready: false,
-            counted: 0,
-            cost: 0,
-            since: now,
-            had: 0,
+            member: ClassMember::new(),
+            phase_begun: now,
+            phase_begun_with: 0,
             answer: None,
             asked: None,
         }
@@ -152,50 +145,50 @@ impl<T: Socket> ClientConnection<T> {
     /// never late, because the service keeps it waiting.
     pub(crate) fn is_late(&self, now: Duration) -> bool {
         !self.queued
-            && !self.ready
+            && !self.member.waits
             && !self.wants_large_buffer
             && (self.until < now || self.is_slow(now))
     }
 
-    // Whether its large request comes too slowly.
+    // Returns true if its large request arrives too slowly.
     fn is_slow(&self, now: Duration) -> bool {
         if self.phase != Phase::Sending || !self.has_large_buffer {
             return false;
         }
-        let Ok(waited) = u64::try_from(now.saturating_sub(self.since).as_millis()) else {
+        let millis = now.saturating_sub(self.phase_begun).as_millis();
+        let Ok(millis) = u64::try_from(millis) else {
             return true;
         };
-        let came = self.link.buffered_bytes().saturating_sub(self.had);
-        let Ok(came) = u64::try_from(came) else {
+        let count = self
+            .link
+            .buffered_bytes()
+            .saturating_sub(self.phase_begun_with);
+        let Ok(count) = u64::try_from(count) else {
             return false;
         };
-        waited > SLOW && came < waited.saturating_mul(LEAST_RATE)
+        millis > REQUEST_RATE_GRACE
+            && count.saturating_mul(1_000) < millis.saturating_mul(MIN_REQUEST_RATE)
     }
 
-    /// Whether it sends nothing more.
+    /// Returns true if the client sends nothing more.
     pub(crate) fn has_ended(&self) -> bool {
         self.ended
     }
 
-    /// Whether nobody is there to be told anything.
-    pub(crate) fn is_reset(&self) -> bool {
-        self.reset
-    }
-
-    /// How many bytes of answers it has not taken yet.
+    /// Returns the number of unsent bytes of its responses, with a deferred one.
     pub(crate) fn unsent(&self) -> usize {
         self.link.unsent()
     }
 
-    /// Whose request is next, if a whole one is held.
+    /// Returns what the buffered bytes give next, with the caller of the next request.
     pub(crate) fn peek<'t>(&mut self, tokens: &'t TokenTable) -> Peeked<'t> {
         let peeked = self.link.peek(tokens);
-        self.lacks = !matches!(peeked, Peeked::Whole(_));
+        self.lacks = matches!(peeked, Peeked::NeedsInput | Peeked::Head(_));
         peeked
     }
 
-    /// What becomes of it where no whole request is held.
-    pub(crate) fn again(&self) -> TurnOutcome {
+    /// Returns its outcome if no complete request is buffered.
+    pub(crate) fn needs_input(&self) -> TurnOutcome {
         again_if(self.readable)
     }
 
@@ -250,8 +243,8 @@ impl<T: Socket> ClientConnection<T> {
     fn wait(&mut self, phase: Phase, now: Duration) {
         self.phase = phase;
         self.until = now.saturating_add(phase.patience());
-        self.since = now;
-        self.had = self.link.buffered_bytes();
+        self.phase_begun = now;
+        self.phase_begun_with = self.link.buffered_bytes();
     }
 
     // Waits for the next request.
@@ -418,7 +411,7 @@ impl<T: Socket> ClientConnection<T> {
         Ok(again_if(self.readable || !self.lacks || self.link.is_done()))
     }
 
-    // Moves bytes, until a request is to be looked at.
+    // Sends pending output, and reads one chunk if no complete request is buffered.
     fn move_bytes(&mut self, now: Duration) -> Result<TurnOutcome, StreamFault> {
         if let Some(turned) = self.prepare(now)? {
             return Ok(turned);
@@ -432,7 +425,7 @@ impl<T: Socket> ClientConnection<T> {
         Ok(TurnOutcome::Ready)
     }
 
-    /// One move: at most one piece is read, and one sent.
+    /// Moves bytes without answering a request: reads at most one chunk and sends at most one.
     pub(crate) fn move_on(&mut self, now: Duration) -> TurnOutcome {
         if self.is_ending() {
             return self.skip(now);

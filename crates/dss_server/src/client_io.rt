@@ -119,7 +119,8 @@ impl<T: Socket> ClientIo<T> {
     ghost use Rattle.std.specs.Prelude.{◌<◌, ◌-◌, ◌↔◌, ◌||◌, false, length, IfOk, IfErr, IsTrue, option_map};
     ghost use Rattle.token_conf.specs.TokenFile.{callers_of};
     ghost use Rattle.service_calls.specs.Held.{Stays, space_of};
-    ghost use Rattle.wire_http.specs.Connection.{buffered_of, deferred_of, holds_back, is_done, noted_of, ready_of, IsStep, IsStepPart};
+    ghost use Rattle.wire_http.specs.Connection.{buffered_of, deferred_of, has_ended, holds_back, is_done, left_of, noted_of, ready_of, IsSame, IsStep, IsStepPart};
+    ghost use Rattle.wire_http.specs.Peek.{IsPeek};
     ghost use Rattle.wire_http.specs.declared.connection.Connection.{Connection};
     ghost use Rattle.wire_http.specs.BufferState.{max_buffered};
     ghost use Rattle.dss_server.specs.Serve.{GoesOn};
@@ -168,17 +169,20 @@ impl<T: Socket> ClientIo<T> {
         self.connection.wants_write()
     }
 
-    /// Whose request is next, if a whole one is held.
-    pub(crate) fn peek<'t>(&mut self, tokens: &'t TokenTable) -> Peeked<'t> {
+    /// Returns what the buffered bytes give next, with the caller of the next request.
+    pub(crate) fn peek<'t>(&mut self, tokens: &'t TokenTable) -> Peeked<'t>
+        ensures peeked { IsPeek (callers_of tokens.now) (left_of (connection_of self.old))
+            (has_ended (connection_of self.old)) (buffered_of (connection_of self.old)) result }
+        ensures same { IsSame (connection_of self.old) (connection_of self.new) }
+        ensures socket { socket_of self.new ≡ socket_of self.old }
+    {
         self.connection.peek(tokens)
     }
 
-    /// How many bytes of answers are not sent yet.
+    /// Returns the number of unsent bytes of responses, with a deferred one.
     pub(crate) fn unsent(&self) -> usize {
-        self.connection
-            .output()
-            .len()
-            .saturating_add(self.connection.deferred().len())
+        let sendable = self.connection.output().len();
+        sendable.saturating_add(self.connection.deferred().len())
     }
 
     /// Returns true if a response is deferred.
@@ -248,7 +252,7 @@ impl<T: Socket> ClientIo<T> {
         }
     }
 
-    /// Sends as much of the responses as the socket takes.
+    /// Sends at most one chunk of the responses, as much of it as the socket takes.
     pub(crate) fn send(&mut self) -> Result<WriteOutcome, StreamFault>
         ensures { IfOk result (Sends T.coming T.gone self.old self.new) }
     {

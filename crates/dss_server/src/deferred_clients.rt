@@ -21,7 +21,8 @@ impl DeferredClients {
         })
     }
 
-    /// Appends a client whose response has so many bytes. Returns false if the queue is full.
+    /// Appends a client whose response has so many bytes and whose call took so many nanoseconds.
+    /// Returns false if the queue is full.
     pub(crate) fn push(&mut self, key: usize, bytes: usize, cost: u64) -> bool {
         self.cost = self.cost.saturating_add(cost);
         self.bytes = self.bytes.saturating_add(bytes);
@@ -34,7 +35,7 @@ impl DeferredClients {
         self.keys.len() >= MAX_DEFERRED || self.bytes >= DEFERRED_BYTES
     }
 
-    /// What their calls took together.
+    /// Returns the nanoseconds that their calls took together.
     pub(crate) fn cost(&self) -> u64 {
         self.cost
     }

@@ -9,20 +9,19 @@ use crate::admin_connection::AdminContext;
 use crate::admin_connections::AdminConnections;
 use crate::client_connection::{ClientConnection, TurnOutcome};
 use crate::deferred_clients::DeferredClients;
-use crate::fair::Fair;
+use crate::fair_queue::{FairQueue, nanos_between};
 use crate::limits::{
-    FULL, LARGE_BUFFERS, LOOKS, LOOKS_SOON, Limits, MAX_CONNECTIONS, SLICE, STOPPING,
+    FULL, LARGE_BUFFERS, LOOKS, LOOKS_SOON, Limits, MAX_CONNECTIONS, ROUND_TIME, STOPPING,
 };
 use crate::purger::Purger;
 use crate::request_context::RequestContext;
-use crate::server_log::{LoggedRequest, ServerLog};
+use crate::response_record::{failure_of, record_response};
+use crate::server_log::ServerLog;
 use crate::sockets::{AcceptFault, EventSource, SocketEvent, Sockets};
 use crate::store_watch::{
     CommitOutcome, StoreWatch, outcome_of_batch, outcome_of_change, outcome_of_purge,
 };
 use admin_http::build::BuildInfo;
-use admin_http::connections::ConnectionFailure;
-use admin_http::requests::ResponseRecord;
 use admin_http::service_metrics::ServiceMetrics;
 use admin_http::store_metrics::StoreMetrics;
 use admin_http::tokens::TokenMetrics;
@@ -39,27 +38,6 @@ use std::{io, mem};
 use token_conf::token_table::TokenTable;
 use wire_http::{Moments, Peeked, StreamFault};
 
-// Returns the metric under which a fault counts.
-fn cause_of(fault: StreamFault) -> ConnectionFailure {
-    match fault {
-        StreamFault::Read => ConnectionFailure::Read,
-        StreamFault::Write => ConnectionFailure::Write,
-        StreamFault::Clock => ConnectionFailure::Clock,
-        StreamFault::Memory => ConnectionFailure::Memory,
-        StreamFault::Turns => ConnectionFailure::Turns,
-    }
-}
-
-// How many nanoseconds lie between two times, where the clock told both.
-fn between(begun: Option<Duration>, ended: Option<Duration>) -> u64 {
-    match (begun, ended) {
-        (Some(begun), Some(ended)) => {
-            u64::try_from(ended.saturating_sub(begun).as_nanos()).unwrap_or(u64::MAX)
-        }
-        _ => 0,
-    }
-}
-
 /// All clients of a port.
 #[derive(Drop)]
 pub(crate) struct EventLoop<N: Sockets> {
@@ -67,15 +45,14 @@ pub(crate) struct EventLoop<N: Sockets> {
     sockets: N,
     peers: Slab<ClientConnection<N::Client>>,
     clients: usize,
-    // The keys of the clients that have a turn next, a spare vector for the next turns, and the
-    // keys of the clients that wait for a slot.
+    // The keys of the clients that have a turn next, a spare vector for the next turns, the keys of
+    // the clients that wait for a slot, and the number of free slots.
     next: Vec<usize>,
     spare: Vec<usize>,
     wanting: VecDeque<usize>,
-    places: usize,
-    // whose request is next
-    fair: Fair,
-    // when the clock was read last
+    large_buffers: usize,
+    // The order in which requests are answered, and the last reading of the monotonic clock.
+    fair: FairQueue,
     clock: Option<Duration>,
     // The clients whose responses are deferred in a batch. Empty after it.
     deferred: DeferredClients,
@@ -112,7 +89,7 @@ impl<N: Sockets + Drop> EventLoop<N> {
         let spare = Vec::with_capacity(alloc, clients)?;
         let wanting = VecDeque::with_capacity(alloc, clients)?;
         let deferred = DeferredClients::new(alloc)?;
-        let fair = Fair::new(alloc)?;
+        let fair = FairQueue::new(alloc)?;
         let operators = AdminConnections::new(alloc, is_operated)?;
         Ok(EventLoop {
             alloc,
@@ -122,7 +99,7 @@ impl<N: Sockets + Drop> EventLoop<N> {
             next,
             spare,
             wanting,
-            places: LARGE_BUFFERS,
+            large_buffers: LARGE_BUFFERS,
             fair,
             clock: None,
             deferred,
@@ -240,7 +217,7 @@ impl<N: Sockets + Drop> EventLoop<N> {
         {
             self.metrics.connections.refuse();
         } else {
-            // what it has sent with its connection is looked at before the next call
+            // Read what it sent with its connection before the next call.
             self.queue(key);
         }
     }
@@ -266,10 +243,11 @@ impl<N: Sockets + Drop> EventLoop<N> {
         Ok(())
     }
 
-    // Gives free slots to the clients that wait for one, in the order of their arrival.
+    // Gives free slots to the clients that wait for one, in the order of their arrival. Passes over
+    // a client whose class has its maximum.
     fn grant_large_buffers(&mut self, now: Duration) {
         for _ in 0..self.wanting.len() {
-            if self.places == 0 {
+            if self.large_buffers == 0 {
                 return;
             }
             let Some(key) = self.wanting.pop_front() else {
@@ -278,12 +256,10 @@ impl<N: Sockets + Drop> EventLoop<N> {
             if let Some(peer) = self.peers.get_mut(key)
                 && peer.wants_large_buffer()
             {
-                let class = peer.class;
-                if self.fair.may_have_place(class) {
+                if self.fair.may_take_large_buffer(peer.member.class) {
                     peer.take_large_buffer(now);
-                    peer.place_class = class;
-                    self.fair.take_large_buffer(class);
-                    self.places = self.places.saturating_sub(1);
+                    self.fair.take_large_buffer(&mut peer.member);
+                    self.large_buffers = self.large_buffers.saturating_sub(1);
                     self.queue(key);
                 } else {
                     let _ = self.wanting.push_back(key);
@@ -309,24 +285,24 @@ impl<N: Sockets + Drop> EventLoop<N> {
             && peer.can_return_large_buffer()
         {
             peer.return_large_buffer();
-            self.fair.return_large_buffer(peer.place_class);
-            self.places = self.places.saturating_add(1);
+            self.fair.return_large_buffer(peer.member);
+            self.large_buffers = self.large_buffers.saturating_add(1);
             self.grant_large_buffers(now);
         }
     }
 
     // Closes a client.
     fn close(&mut self, key: usize, now: Duration) {
-        let Some(peer) = self.peers.try_remove(key) else {
+        let Some(mut peer) = self.peers.try_remove(key) else {
             return;
         };
         if peer.is_ending() {
             self.ending = self.ending.saturating_sub(1);
         }
-        self.fair.count_unsent(peer.class, peer.counted, 0);
+        self.fair.set_unsent(&mut peer.member, 0);
         if peer.has_large_buffer() {
-            self.fair.return_large_buffer(peer.place_class);
-            self.places = self.places.saturating_add(1);
+            self.fair.return_large_buffer(peer.member);
+            self.large_buffers = self.large_buffers.saturating_add(1);
             self.grant_large_buffers(now);
         }
     }
@@ -352,7 +328,10 @@ impl<N: Sockets + Drop> EventLoop<N> {
         let Some(peer) = self.peers.get(key) else {
             return TurnOutcome::Gone;
         };
-        if self.deferred.push(key, peer.deferred_bytes(), peer.cost) {
+        if self
+            .deferred
+            .push(key, peer.deferred_bytes(), peer.member.cost)
+        {
             TurnOutcome::Deferred
         } else {
             TurnOutcome::Failed(StreamFault::Memory)
@@ -376,7 +355,7 @@ impl<N: Sockets + Drop> EventLoop<N> {
                 if let Some(peer) = self.peers.get(key) {
                     journal.connection_failed(fault, peer.given_up());
                 }
-                self.metrics.fail(cause_of(fault));
+                self.metrics.fail(failure_of(fault));
                 self.give_up(key, now)
             }
             TurnOutcome::Rests | TurnOutcome::WantsPlace if self.stopping.is_some() => {
@@ -419,69 +398,45 @@ impl<N: Sockets + Drop> EventLoop<N> {
         let Some(peer) = self.peers.get_mut(key) else {
             return;
         };
-        if let Some(answer) = peer.take_response() {
-            let took = match (peer.asked(), self.clock) {
-                (Some(asked), Some(told)) => Some(told.saturating_sub(asked)),
-                _ => None,
-            };
-            self.metrics.requests.note(&ResponseRecord {
-                operation: answer.operation,
-                denial: answer.denial(),
-                status: answer.status(),
-                size: answer.size,
-                took,
-            });
-            if let Some(noted) = peer.noted() {
-                journal.request_answered(&LoggedRequest {
-                    connection: peer.number(),
-                    noted,
-                    status: answer.status(),
-                    size: answer.size,
-                    took,
-                });
-            }
-        }
+        record_response(&mut self.metrics, peer, self.clock, journal);
         self.act_on(key, turned, now, journal);
     }
 
-    // Counts what a client has not taken yet.
-    fn recount(&mut self, key: usize) {
+    // Counts the unsent bytes of a client for its class.
+    fn count_unsent(&mut self, key: usize) {
         if let Some(peer) = self.peers.get_mut(key) {
             let unsent = peer.unsent();
-            if unsent != peer.counted {
-                self.fair.count_unsent(peer.class, peer.counted, unsent);
-                peer.counted = unsent;
-            }
+            self.fair.set_unsent(&mut peer.member, unsent);
         }
     }
 
-    // Has a client whose next request is held whole wait for its turn in the class of that.
-    fn look_at(&mut self, key: usize, tokens: &TokenTable) -> TurnOutcome {
+    // Determines the class of a client's next request, and queues the client there if the request
+    // is complete or the stream ends.
+    fn classify(&mut self, key: usize, tokens: &TokenTable) -> TurnOutcome {
         let Some(peer) = self.peers.get_mut(key) else {
             return TurnOutcome::Gone;
         };
-        if peer.ready {
+        if peer.member.waits {
             return TurnOutcome::Ready;
         }
         match peer.peek(tokens) {
-            Peeked::Waits => peer.again(),
-            Peeked::Part(caller) => {
-                peer.class = self.fair.class_of(caller, peer.class);
-                peer.again()
+            Peeked::NeedsInput => return peer.needs_input(),
+            Peeked::Head(caller) => {
+                self.fair.set_class(&mut peer.member, caller);
+                return peer.needs_input();
             }
-            Peeked::Whole(caller) => {
-                peer.class = self.fair.class_of(caller, peer.class);
-                if self.fair.push(peer.class, key, peer.has_ended()) {
-                    peer.ready = true;
-                    TurnOutcome::Ready
-                } else {
-                    TurnOutcome::Failed(StreamFault::Memory)
-                }
-            }
+            Peeked::Request(caller) => self.fair.set_class(&mut peer.member, caller),
+            Peeked::Ends => {}
+        }
+        if self.fair.push(peer.member.class, key, peer.has_ended()) {
+            peer.member.waits = true;
+            TurnOutcome::Ready
+        } else {
+            TurnOutcome::Failed(StreamFault::Memory)
         }
     }
 
-    // Moves bytes of a client.
+    // Moves bytes of a client, and classifies its next request.
     fn move_one<J: ServerLog>(
         &mut self,
         key: usize,
@@ -493,22 +448,22 @@ impl<N: Sockets + Drop> EventLoop<N> {
             return;
         };
         peer.set_queued(false);
-        let class = peer.class;
+        let class = peer.member.class;
         let was_ending = peer.is_ending();
         let begun = self.clock;
         let moved = peer.move_on(now);
         let turned = match moved {
-            TurnOutcome::Ready => self.look_at(key, tokens),
+            TurnOutcome::Ready => self.classify(key, tokens),
             _ => moved,
         };
-        self.recount(key);
+        self.count_unsent(key);
         self.act_on(key, turned, now, journal);
         self.count_ending(key, was_ending);
         self.clock = self.sockets.monotonic_time().ok();
-        self.fair.charge(class, between(begun, self.clock));
+        self.fair.charge(class, nanos_between(begun, self.clock));
     }
 
-    // Moves bytes of each client that has some to move.
+    // Moves bytes of each queued client.
     fn move_all<J: ServerLog>(&mut self, tokens: &TokenTable, now: Duration, journal: &mut J) {
         if self.next.is_empty() {
             return;
@@ -539,23 +494,24 @@ impl<N: Sockets + Drop> EventLoop<N> {
         let Some(peer) = self.peers.get_mut(key) else {
             return;
         };
-        if !peer.ready {
+        // Another client may have the key of one that was closed.
+        if !peer.member.waits || peer.member.class != class {
             return;
         }
-        peer.ready = false;
+        peer.member.waits = false;
         let was_ending = peer.is_ending();
         let begun = self.clock;
         peer.set_requested_at(begun);
         let turned = peer.turn(context, service, moments, now);
         self.clock = self.sockets.monotonic_time().ok();
-        let took = between(begun, self.clock);
-        peer.cost = took;
+        let took = nanos_between(begun, self.clock);
+        peer.member.cost = took;
         self.fair.charge(class, took);
         if let Some(answer) = peer.answer() {
             let outcome = outcome_of_change(answer, self.store.is_failing());
             self.record_commit(outcome, now, journal);
         }
-        self.recount(key);
+        self.count_unsent(key);
         self.conclude(key, turned, now, journal);
         self.count_ending(key, was_ending);
     }
@@ -573,7 +529,7 @@ impl<N: Sockets + Drop> EventLoop<N> {
         };
         let was_ending = peer.is_ending();
         let turned = peer.tell(self.alloc, committed, now);
-        self.recount(key);
+        self.count_unsent(key);
         self.conclude(key, turned, now, journal);
         self.count_ending(key, was_ending);
     }
@@ -621,7 +577,7 @@ impl<N: Sockets + Drop> EventLoop<N> {
         let begun = self.clock;
         let committed = service.commit();
         self.clock = self.sockets.monotonic_time().ok();
-        let took = between(begun, self.clock);
+        let took = nanos_between(begun, self.clock);
         let cost = self.deferred.cost();
         self.record_commit(outcome_of_batch(waited, committed), now, journal);
         for _ in 0..usize::MAX {
@@ -629,17 +585,17 @@ impl<N: Sockets + Drop> EventLoop<N> {
                 return;
             };
             if let Some(peer) = self.peers.get(key) {
-                // each pays its share of the sync
-                let share = took.saturating_mul(peer.cost) / cost.max(1);
-                self.fair.charge(peer.class, share);
+                // Each class is charged its share of the commit.
+                let share = took.saturating_mul(peer.member.cost) / cost.max(1);
+                self.fair.charge(peer.member.class, share);
             }
             self.tell(key, committed, now, journal);
         }
     }
 
-    // Whether a round has gone on long enough.
-    fn has_spent(&self, begun: Option<Duration>) -> bool {
-        between(begun, self.clock) > SLICE * 1_000_000
+    // Returns true if no more requests are answered in a round that began at that time.
+    fn is_round_over(&self, begun: Option<Duration>) -> bool {
+        nanos_between(begun, self.clock) > ROUND_TIME * 1_000_000
     }
 
     // Commits the batch if enough clients wait for it.
@@ -658,7 +614,8 @@ impl<N: Sockets + Drop> EventLoop<N> {
         self.commit_batch(service, now, journal);
     }
 
-    /// Runs the turn of each queued client, and commits their batch.
+    /// Moves bytes of each queued client, answers requests in the order of the fair queue, and
+    /// commits their batch. A round takes about 5 ms, or as long as one request.
     ///
     /// No response to a change, nor one that reflects it, is sent before the commit. If many
     /// clients wait, it commits more than once.
@@ -685,7 +642,7 @@ impl<N: Sockets + Drop> EventLoop<N> {
             };
             self.turn(key, class, context, service, moments, now, journal);
             self.commit_if_full(service, now, journal);
-            if self.has_spent(begun) {
+            if self.is_round_over(begun) {
                 break;
             }
         }

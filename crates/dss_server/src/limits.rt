@@ -37,38 +37,44 @@ pub(crate) const MAX_DEFERRED: usize = 64;
 
 pub(crate) const DEFERRED_BYTES: usize = 1_048_576;
 
-// About how long requests are answered before the system is asked what came meanwhile, in
-// milliseconds: those of a round are fewer where they are dear.
-pub(crate) const SLICE: u64 = 5;
+// The time in milliseconds after which no more requests are answered in a round, so that the events
+// of the system are read between two expensive calls.
+pub(crate) const ROUND_TIME: u64 = 5;
 
-// The bytes that one sending offers.
+// The maximum number of bytes that one write offers.
 pub(crate) const SEND_CHUNK: usize = 131_072;
 
-// How many bytes of answers may be unsent before no request more is answered: of all, for those who
-// have some of them, and of one supplier.
-pub(crate) const ALL_UNSENT: usize = 67_108_864;
+// The budget for unsent bytes of responses: of all classes together, and of one class. A class that
+// has unsent bytes waits while the budget is used up.
+pub(crate) const RESPONSE_MEMORY: usize = 67_108_864;
 
-pub(crate) const CLASS_UNSENT: usize = 33_554_432;
+pub(crate) const RESPONSE_MEMORY_OF_USS: usize = 33_554_432;
 
-// How many places for large requests those without a token have, and one supplier.
-pub(crate) const PLACES_WITHOUT_TOKEN: usize = 8;
+// How many of the large buffers requests without a valid token may have, and those of one USS.
+pub(crate) const LARGE_BUFFERS_WITHOUT_TOKEN: usize = 8;
 
-pub(crate) const PLACES_OF_ONE: usize = 32;
+pub(crate) const LARGE_BUFFERS_OF_USS: usize = 32;
 
-// How long a connection is waited for until its first byte, in milliseconds.
-pub(crate) const FIRST: u64 = 10_000;
+// The timeout in milliseconds of a connection that has sent nothing yet.
+pub(crate) const FIRST_REQUEST_TIMEOUT: u64 = 10_000;
 
-// How long a large request may come slower than so many bytes a millisecond.
-pub(crate) const SLOW: u64 = 5_000;
+// The minimum rate of a large request in bytes per second, and the time in milliseconds before it
+// applies.
+pub(crate) const MIN_REQUEST_RATE: u64 = 4_096;
 
-pub(crate) const LEAST_RATE: u64 = 4;
+pub(crate) const REQUEST_RATE_GRACE: u64 = 5_000;
 
 // The pause in milliseconds before the next accept, after the system had no room for a connection.
 pub(crate) const FULL: u64 = 100;
 
-// Limits of the admin port: connections at once, bytes of a request, bytes of one read, and steps
-// of a turn.
+// Limits of the admin port: connections at once, those of them that stay idle when another is
+// accepted, and how long in milliseconds one counts as not idle; bytes of a request, bytes of one
+// read, and steps of a turn.
 pub(crate) const MAX_ADMIN_CONNECTIONS: usize = 16;
+
+pub(crate) const MAX_IDLE_ADMIN_CONNECTIONS: usize = 8;
+
+pub(crate) const ADMIN_IDLE_GRACE: u64 = 1_000;
 
 pub(crate) const ADMIN_REQUEST_BYTES: usize = 9_216;
 

@@ -99,8 +99,7 @@ fn permitting_scopes(kind: OpKind) -> &'static [Scope]
     }
 }
 
-/// Whether one of the scopes opens an operation of the kind.
-pub fn is_permitted(kind: OpKind, scopes: ScopeSet) -> bool
+fn is_permitted(kind: OpKind, scopes: ScopeSet) -> bool
     ensures { result ≡ is_permitted kind scopes }
 {
     permitting_scopes(kind)

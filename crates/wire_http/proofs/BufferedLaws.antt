@@ -37,7 +37,7 @@ use Rattle.wire_http.proofs.NextLaws.{refused, ended, taken, same_head, span_mor
 abbrev StandsIn : List ℕ → RequestHead → Type 0
 StandsIn buffer h = (later : List ℕ) → IsKind (buffer ++ later) (whole h)
 
-parts : (bytes front : List ℕ) → front ≡ window bytes → bytes ≡ front ++ drop 8192 bytes
+pub parts : (bytes front : List ℕ) → front ≡ window bytes → bytes ≡ front ++ drop 8192 bytes
 parts bytes front e = sym (ap (λ v. v ++ drop 8192 bytes) e ∙ take-append-drop 8192 bytes)
 
 -- The first bytes, up to 8,192.

@@ -5,6 +5,7 @@ pub mod BufferedLaws
 pub mod KnownBytes
 pub mod ManyLaws
 pub mod NextLaws
+pub mod PeekLaws
 pub mod SourceLaws
 pub mod StepLaws
 pub mod StopLaws

@@ -1,6 +1,6 @@
 //! The call that a request makes.
 ghost use Rattle.std.specs.Prelude.{◌≡◌, ℕ, length, map, take, if◌then◌else◌};
-ghost use Rattle.std.specs.Prelude.{All, Err, IfOk, IfErr, OnOk};
+ghost use Rattle.std.specs.Prelude.{All, Err, IfOk, IfErr, OnOk, option_copied};
 ghost use Rattle.httparse.specs.Spans.{IsHeaderWithin, header_bytes};
 ghost use Rattle.token_conf.specs.TokenFile.{callers_of};
 ghost use Rattle.wire_body.specs.Body.{words_of};
@@ -14,7 +14,6 @@ use crate::fault::StreamFault;
 use crate::moments::Moments;
 use httparse::spans::{HeaderSpan, RequestSpans};
 use policy_core::call::{Call, OpKind, Operation};
-use policy_core::early::is_permitted;
 use policy_core::scope::Caller;
 use std::alloc::{AllocError, Global};
 use token_conf::token_table::TokenTable;
@@ -58,7 +57,6 @@ fn seek(
     path: &str,
     method: &[u8],
     body: &[u8],
-    caller: &Option<Caller>,
 ) -> Result<RoutedOperation, AllocError>
     ensures asked { IfOk result (λ s. IsAsked path.now method.now body.now s.endpoint s.op) }
     ensures kind { IfOk result (λ s. s.kind ≡ requested_kind s.endpoint method.now) }
@@ -77,12 +75,7 @@ fn seek(
             op: Operation::NoMethod,
         });
     };
-    // what P3 or P4 refuses is refused whatever its body says
-    let op = if is_let_in(caller, kind) {
-        read_as(alloc, kind, &words, body)?
-    } else {
-        Operation::Malformed(kind)
-    };
+    let op = read_as(alloc, kind, &words, body)?;
     Ok(RoutedOperation {
         endpoint: Some(endpoint),
         kind: Some(kind),
@@ -90,27 +83,23 @@ fn seek(
     })
 }
 
-// Whether a caller breaks neither P3 nor P4 by an operation of the kind.
-fn is_let_in(caller: &Option<Caller>, kind: OpKind) -> bool {
-    match caller {
-        Some(caller) => is_permitted(kind, caller.scopes),
-        None => false,
-    }
-}
-
-/// The caller of the token that the fields bear, in the table.
-pub(crate) fn caller_in<'t>(
+/// Returns the caller with the bearer token in the fields, in the table. Allocates nothing.
+pub(crate) fn find_caller<'t>(
     tokens: &'t TokenTable,
     buffer: &[u8],
     fields: &[HeaderSpan],
-) -> Option<&'t Caller> {
+) -> Option<&'t Caller>
+    requires { All (IsHeaderWithin (length buffer.now)) fields.now }
+    ensures { option_copied result
+        ≡ caller_of (callers_of tokens.now) (map (header_bytes buffer.now) fields.now) }
+{
     let Some(token) = bearer_token(buffer, fields) else {
         return None;
     };
     tokens.caller(token)
 }
 
-// Returns the caller with the bearer token in the fields.
+// Returns a copy of the caller with the bearer token in the fields.
 fn caller_of(
     tokens: &TokenTable,
     buffer: &[u8],
@@ -120,10 +109,7 @@ fn caller_of(
     ensures { IfOk result (λ caller. caller
         ≡ caller_of (callers_of tokens.now) (map (header_bytes buffer.now) fields.now)) }
 {
-    let Some(token) = bearer_token(buffer, fields) else {
-        return Ok(None);
-    };
-    let Some(caller) = tokens.caller(token) else {
+    let Some(caller) = find_caller(tokens, buffer, fields) else {
         return Ok(None);
     };
     let uss = caller.uss.clone()?;
@@ -178,15 +164,14 @@ fn call_of(
     };
     let path = path_of(target);
     let body = &buffer[spans.len..spans.len + size];
-    let caller = caller_of(tokens, buffer, &fields[..spans.headers])?;
     let RoutedOperation { endpoint, kind, op } = seek(
         alloc,
         routes,
         path,
         spans.method.of(buffer),
         body,
-        &caller,
     )?;
+    let caller = caller_of(tokens, buffer, &fields[..spans.headers])?;
     Ok(RoutedCall {
         endpoint,
         kind,

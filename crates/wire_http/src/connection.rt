@@ -4,14 +4,16 @@ ghost use Rattle.std.specs.Prelude.{◌++◌, IfOk, OnOk, OnErr, vec_len, vec_ca
 ghost use Rattle.std.specs.List.{concat};
 ghost use Rattle.std.specs.Option.{ForSome};
 ghost use Rattle.service_calls.specs.Held.{Stays};
-ghost use Rattle.wire_http.specs.BufferState.{HasNoneBelow, BufferedFits, IsHeld, IsLight, max_buffered};
+ghost use Rattle.token_conf.specs.TokenFile.{callers_of};
+ghost use Rattle.wire_http.specs.BufferState.{HasNoneBelow, HasNoRequest, BufferedFits, IsHeld, IsLight, max_buffered};
 ghost use Rattle.wire_http.specs.DeferredResponse.{StandsWithin};
+ghost use Rattle.wire_http.specs.Peek.{IsPartPeek};
 ghost use Rattle.wire_http.specs.RequestInfo.{outcome_of};
 ghost use Rattle.wire_http.specs.Reply.{Replies, RepliesPart};
 ghost use Rattle.wire_http.specs.Text.{response_text, end_texts};
 
 use crate::buffered::{BufferState, HEAD_LIMIT, next_buffered};
-use crate::call::{Received, RoutedCall, ask, caller_in, left_after};
+use crate::call::{Received, RoutedCall, ask, find_caller, left_after};
 use crate::end::End;
 use crate::fault::StreamFault;
 use crate::moments::Moments;
@@ -27,7 +29,7 @@ use service_step::reply::Reply;
 use space_core::space::Space;
 use std::alloc::{AllocError, Global};
 use token_conf::token_table::TokenTable;
-use wire_head::rest::{PartialHead, head_so_far};
+use wire_head::rest::{FIELD_LIMIT, PartialHead, head_so_far};
 use wire_route::endpoint::Endpoint;
 use wire_route::routes::Routes;
 
@@ -48,15 +50,17 @@ pub enum Step {
     Ended(End),
 }
 
-/// What a look at the bytes that are held tells, before a request is answered.
+/// What the buffered bytes give next, before a request is answered.
 #[derive(Clone, Copy)]
 pub enum Peeked<'t> {
-    /// No whole request is held, and nothing new is known of it.
-    Waits,
-    /// A whole head is held, of this caller, and not all of its body.
-    Part(Option<&'t Caller>),
-    /// A whole request is held, of this caller, or the stream ends.
-    Whole(Option<&'t Caller>),
+    /// No complete request is buffered, and nothing new is known of it.
+    NeedsInput,
+    /// A head of this caller is buffered, but not all of its body.
+    Head(Option<&'t Caller>),
+    /// A complete request of this caller is buffered.
+    Request(Option<&'t Caller>),
+    /// The stream ends.
+    Ends,
 }
 
 // Releases the memory of a large buffer that holds little. An empty one keeps at most 64 KB.
@@ -99,10 +103,6 @@ fn answer_behind(
     let Ok(text) = response_text(alloc, endpoint, closing, reply) else {
         return Err(AllocError);
     };
-    if output.is_empty() {
-        *output = text;
-        return Ok(());
-    }
     match put_behind(output, text.as_slice()) {
         Ok(()) => Ok(()),
         Err(_) => Err(AllocError),
@@ -157,6 +157,20 @@ fn end_behind(alloc: Global, output: &mut Vec<u8>, end: End) -> Result<(), Alloc
     }
 }
 
+// Returns the caller of the next request if its head is complete, when its body is not.
+fn peek_head<'t>(tokens: &'t TokenTable, held: &[u8], fields: &mut [HeaderSpan]) -> Peeked<'t>
+    requires room { length fields.old ≡ FIELD_LIMIT }
+    ensures { HasNoRequest held.now → IsPartPeek (callers_of tokens.now) held.now result }
+{
+    let front = &held[..held.len().min(HEAD_LIMIT)];
+    match head_so_far(front, fields) {
+        PartialHead::Head(spans) => {
+            Peeked::Head(find_caller(tokens, front, &fields[..spans.headers]))
+        }
+        _ => Peeked::NeedsInput,
+    }
+}
+
 // The deferred response, the last of all: where its text begins, the endpoint of its request, and
 // whether the connection closes after it.
 #[derive(Clone, Copy)]
@@ -195,7 +209,7 @@ pub struct Connection {
 
 impl Connection {
     ghost use Rattle.std.specs.Prelude.{[], true, false, IsTrue, ◌↔◌, Err, IfErr, None, option_map};
-    ghost use Rattle.token_conf.specs.TokenFile.{callers_of};
+    ghost use Rattle.wire_http.specs.Peek.{IsPeek};
     ghost use Rattle.wire_http.specs.Connection.{buffered_of, left_of, has_ended, is_done};
     ghost use Rattle.wire_http.specs.Connection.{output_of, ready_of, deferred_of};
     ghost use Rattle.wire_http.specs.Connection.{holds_back, slot_of, noted_of, HasRoom};
@@ -467,31 +481,36 @@ impl Connection {
         Ok(Step::Answered(left))
     }
 
-    /// Whose request is next, if a whole one is held. The step that follows is the same as without
-    /// this look.
-    pub fn peek<'t>(&mut self, tokens: &'t TokenTable) -> Peeked<'t> {
+    /// Returns what the buffered bytes give next, with the caller of the next request. The next
+    /// step is the same as without this call.
+    pub fn peek<'t>(&mut self, tokens: &'t TokenTable) -> Peeked<'t>
+        ensures peeked { IsPeek (callers_of tokens.now) (left_of self.old) (has_ended self.old)
+            (buffered_of self.old) result }
+        ensures held { buffered_of self.new ≡ buffered_of self.old }
+        ensures output { output_of self.new ≡ output_of self.old }
+        ensures ready { ready_of self.new ≡ ready_of self.old }
+        ensures slot { slot_of self.new ≡ slot_of self.old }
+        ensures left { left_of self.new ≡ left_of self.old }
+        ensures ended { has_ended self.new ≡ has_ended self.old }
+        ensures done { is_done self.new ≡ is_done self.old }
+        ensures noted { noted_of self.new ≡ noted_of self.old }
+    {
         if self.left == 0 {
-            return Peeked::Whole(None);
+            return Peeked::Ends;
         }
         if !self.ended && self.held.len() < self.wanted {
-            return Peeked::Waits;
+            return Peeked::NeedsInput;
         }
         let mut fields = [EMPTY_HEADER_SPAN; 64];
         let held = self.held.as_slice();
         match next_buffered(held, self.ended, &mut fields) {
             BufferState::Gives(Next::Request(spans, _)) => {
-                Peeked::Whole(caller_in(tokens, held, &fields[..spans.headers]))
+                Peeked::Request(find_caller(tokens, held, &fields[..spans.headers]))
             }
-            BufferState::Gives(Next::Stop(_)) => Peeked::Whole(None),
-            BufferState::Wants(count) => {
-                let front = &held[..held.len().min(HEAD_LIMIT)];
-                let peeked = match head_so_far(front, &mut fields) {
-                    PartialHead::Head(spans) => {
-                        Peeked::Part(caller_in(tokens, held, &fields[..spans.headers]))
-                    }
-                    _ => Peeked::Waits,
-                };
-                self.wanted = count;
+            BufferState::Gives(Next::Stop(_)) => Peeked::Ends,
+            BufferState::Wants(wanted) => {
+                let peeked = peek_head(tokens, held, &mut fields);
+                self.wanted = wanted;
                 peeked
             }
         }
