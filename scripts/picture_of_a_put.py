@@ -1,7 +1,8 @@
 """The path of a PUT of an operational intent in `dss serve --db`, as a text of SVG, read from the sources.
 
-What is drawn is a list of functions, each below one that calls it. Where a function stands, and what is said of it, is read from the
-sources; that the one calls the other, itself or by functions of its crate, is looked for there. Where it is not so, nothing is drawn."""
+It draws a list of functions, each below one that calls it. The crate of a function, and what is said of it, is read
+from the sources. That the one calls the other, itself or by functions of its crate, is looked for there: otherwise
+nothing is drawn."""
 import functools
 import html
 import pathlib
@@ -18,7 +19,7 @@ serve::serve_clients
     client_connection::turn
       client_io::receive
       connection::advance
-        buffered::next_held
+        buffered::next_buffered
           rest::head_so_far
         call::ask
           routes::find
@@ -130,7 +131,8 @@ def named(crate, name):
 @functools.cache
 def spaces():
     """The calls of the traits of spaces, and the crates of the spaces that `serve --db` puts on one another."""
-    calls = [name for crate, file, name in functions() if crate == "space_core" and file in ("space", "batch", "group_commit")]
+    traits = {("space_core", it) for it in ("space", "batch", "group_commit")}
+    calls = [name for crate, file, name in functions() if (crate, file) in traits]
     sources = sorted(TOP.glob("crates/*/src/*.rt"))
     is_space = re.compile(r"Space for (QuotaSpace|Mirrored|MemorySpace|SqlSpace)\b")
     return calls, [it.parent.parent.name for it in sources if is_space.search(it.read_text())]
@@ -192,13 +194,14 @@ def picture():
     beside = MARGIN + len(LANES) * LANE + 10
     wide = beside + SAID
     lines = [
-        f'<svg xmlns="http://www.w3.org/2000/svg" width="{wide}" height="{top + MARGIN}" font-family="sans-serif" font-size="12">',
+        f'<svg xmlns="http://www.w3.org/2000/svg" width="{wide}" height="{top + MARGIN}" '
+        'font-family="sans-serif" font-size="12">',
         f'<rect width="{wide}" height="{top + MARGIN}" fill="white"/>',
     ]
     for at, name in enumerate(LANES):
-        left = MARGIN + at * LANE
+        left, style = MARGIN + at * LANE, 'text-anchor="middle" font-weight="bold"'
         lines += [f'<rect x="{left - 4}" y="{MARGIN}" width="{LANE - 4}" height="{top - MARGIN}" fill="#f5f7f9"/>']
-        lines += [f'<text x="{left + LANE / 2 - 6:.0f}" y="{MARGIN + 16}" text-anchor="middle" font-weight="bold">{name}</text>']
+        lines += [f'<text x="{left + LANE / 2 - 6:.0f}" y="{MARGIN + 16}" {style}>{name}</text>']
     for at, (_, above) in enumerate(steps):
         if above is not None:
             down = f"M{x[above] + 5} {y[above] + BOX}V{y[at] + BOX // 2}H{x[at]}"

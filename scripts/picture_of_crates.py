@@ -1,14 +1,15 @@
 """Which crate of the repository uses which, as a text of SVG, read from crates.txt.
 
-Each layer has a column and a colour. A crate stands above those that it uses. A line is left out where another way leads to the same
-crate, and so is what is there for tests alone."""
+Each layer has a column and a colour. A crate stands above those that it uses. A line is left out if another way leads
+to the same crate, and so are crates for tests."""
 import functools
 import pathlib
 
 TOP = pathlib.Path(__file__).resolve().parent.parent
 CRATES = TOP / "crates.txt"
 FOR_TESTS = "test_"
-# The layers, each with how the names of its crates begin, the colour of their boxes and that of their lines. The first that fits counts.
+# The layers: of each how the names of its crates begin, the colour of their boxes and that of their lines. The first
+# layer that fits counts.
 LAYERS = {
     "program": (("dss",), "#e4ecf7", "#3b6aa0"),
     "wire": (("wire_", "token_"), "#fdeedd", "#c1741c"),
@@ -48,7 +49,7 @@ def lines_of(below):
 
 
 def rows(below):
-    """Of each crate its row, lowest first: above all that it uses, alone in its row and column, and as near its lines as it can be."""
+    """Returns the row of each crate, lowest first: above all that it uses, alone in its column, and near its lines."""
 
     @functools.cache
     def height(name):
@@ -70,11 +71,12 @@ def rows(below):
 
 
 def path_of(above, low):
-    """The line from a box to one below it, both by their left upper corners: beside the boxes between them if both share a column."""
+    """Returns the line from a box to a lower one, by their upper left corners. It passes beside boxes between them."""
     (x, y), (to_x, to_y) = above, low
     if x == to_x and to_y - y > HIGH + BELOW:
-        side, bend = x + WIDE, min(14 + (to_y - y) / 14, BETWEEN - 4)
-        return f"M{side} {y + HIGH / 2:.0f}C{side + bend:.0f} {y + HIGH:.0f} {side + bend:.0f} {to_y:.0f} {side} {to_y + HIGH / 2:.0f}"
+        side = x + WIDE
+        bend = f"{side + min(14 + (to_y - y) / 14, BETWEEN - 4):.0f}"
+        return f"M{side} {y + HIGH / 2:.0f}C{bend} {y + HIGH:.0f} {bend} {to_y:.0f} {side} {to_y + HIGH / 2:.0f}"
     begin, end, drop = x + WIDE / 2, to_x + WIDE / 2, min((to_y - y - HIGH) / 2, 60)
     return f"M{begin:.0f} {y + HIGH}C{begin:.0f} {y + HIGH + drop:.0f} {end:.0f} {to_y - drop:.0f} {end:.0f} {to_y}"
 
@@ -85,18 +87,19 @@ def picture():
     row = rows(below)
     wide = MARGIN * 2 + len(COLUMNS) * (WIDE + BETWEEN) - BETWEEN
     high = MARGIN * 2 + TITLE + (max(row.values()) + 1) * (HIGH + BELOW) - BELOW
-    place = {
-        it: (MARGIN + COLUMNS.index(layer_of(it)) * (WIDE + BETWEEN), high - MARGIN - HIGH - row[it] * (HIGH + BELOW)) for it in below
-    }
+    left = {name: MARGIN + at * (WIDE + BETWEEN) for at, name in enumerate(COLUMNS)}
+    place = {it: (left[layer_of(it)], high - MARGIN - HIGH - row[it] * (HIGH + BELOW)) for it in below}
     lines = [
-        f'<svg xmlns="http://www.w3.org/2000/svg" width="{wide}" height="{high}" font-family="sans-serif" font-size="12">',
+        f'<svg xmlns="http://www.w3.org/2000/svg" width="{wide}" height="{high}" '
+        'font-family="sans-serif" font-size="12">',
         f'<rect width="{wide}" height="{high}" fill="white"/>',
     ]
-    for at, name in enumerate(COLUMNS):
-        middle = MARGIN + at * (WIDE + BETWEEN) + WIDE / 2
-        lines += [f'<text x="{middle:.0f}" y="{MARGIN + 12}" text-anchor="middle" font-weight="bold" fill="{LAYERS[name][2]}">{name}</text>']
+    for name, x in left.items():
+        style = f'text-anchor="middle" font-weight="bold" fill="{LAYERS[name][2]}"'
+        lines += [f'<text x="{x + WIDE / 2:.0f}" y="{MARGIN + 12}" {style}>{name}</text>']
     for it, low in lines_of(below):
-        lines += [f'<path d="{path_of(place[it], place[low])}" fill="none" stroke="{LAYERS[layer_of(it)][2]}" stroke-opacity="0.55"/>']
+        style = f'fill="none" stroke="{LAYERS[layer_of(it)][2]}" stroke-opacity="0.55"'
+        lines += [f'<path d="{path_of(place[it], place[low])}" {style}/>']
     for it, (x, y) in place.items():
         _, fill, line = LAYERS[layer_of(it)]
         lines += [f'<rect x="{x}" y="{y}" width="{WIDE}" height="{HIGH}" rx="4" fill="{fill}" stroke="{line}"/>']

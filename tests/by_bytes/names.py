@@ -1,13 +1,13 @@
-"""Each name of code in the documents is one of the repository's, each link leads somewhere, the pictures and the index of contracts are
-of what is there, and the first line of each source, definition, script and test says what it has.
+"""Each name of code in the documents is one of the repository's, each link leads somewhere, the pictures and the index
+of contracts are of what is there, and the first line of each source, definition, script and test says what it has.
 
 What stands in backquotes is looked at word by word: a file must be there, the parts of `crate::item` must be made in
 that crate and those of `Type::call` in one file, an edit must stand among the edits of its crate, and any other name
 must be made in some code, outside comments. Words in upper case stand for others. Requests, answers and paths of HTTP
 are looked at by other tests.
 
-A name that is said to be in a file must be made there. Each claim of PROOF names public functions, types or laws, after their crate: each
-must have a contract in the index of contracts, which scripts/contracts makes from the sources."""
+A name that is said to be in a file must be made there. Each claim of PROOF names public functions, types or laws, after
+their crate. Each must have a contract in the index of contracts, which scripts/contracts makes from the sources."""
 import functools
 import json
 import os
@@ -156,13 +156,15 @@ def unknown():
 def elsewhere():
     """The names that a document says are in a file, and that the file does not make."""
     found, said = [], re.compile(r"((?:`[\w:]+`(?:,\s+|\s+and\s+)?)+)\s+in\s+`([\w/]+\.(?:antt|rt))`")
+    linked = re.compile(r"\[`(\w+)`\]\(\.\./([\w/]+\.antt)\)")
     for document in DOCUMENTS:
         for names, file in said.findall(document.read_text()):
             made = frozenset().union(*(names_of(path) for path in files() if f"/{path}".endswith(f"/{file}")))
             unmade = set(re.findall(r"\w+", " ".join(re.findall(r"`([^`]+)`", names)))) - made
             found += [f"{document.relative_to(TOP)}: {file} has no {it}" for it in sorted(unmade)]
-        for name, file in re.findall(r"\[`(\w+)`\]\(\.\./([\w/]+\.antt)\)", document.read_text()):
-            found += [] if file in files() and name in names_of(file) else [f"{document.relative_to(TOP)}: {file} has no {name}"]
+        for name, file in () if document in MADE else linked.findall(document.read_text()):
+            if file not in files() or name not in names_of(file):
+                found += [f"{document.relative_to(TOP)}: {file} has no {name}"]
     return found
 
 
@@ -193,14 +195,16 @@ def unstated():
     """The claims that name no contract, or one of no public function, and what a document says is in another file."""
     rows = list(claims())
     found = [f"docs/PROOF.md:{line}: no contract is named" for line, row in rows if not row]
-    found += [f"docs/PROOF.md:{line}: {crate} has no contract of {it}" for line, row in rows for crate, it in row if it not in stated(crate)]
+    pairs = [(line, *it) for line, row in rows for it in row]
+    found += [f"docs/PROOF.md:{line}: {crate} has no contract of {it}" for line, crate, it in pairs if it not in stated(crate)]
     return found + elsewhere() + ([] if len(rows) > 70 else [f"{len(rows)} claims are not all"])
 
 
 def outdated():
     """The pages that scripts/contracts makes from other sources."""
     pages = contracts()["PAGES"].items()
-    return [f"docs/{name} is another: run scripts/contracts" for name, text in pages if text() != (TOP / "docs" / name).read_text()]
+    old = [name for name, text in pages if text() != (TOP / "docs" / name).read_text()]
+    return [f"docs/{name} is another: run scripts/contracts" for name in old]
 
 
 def headless():
