@@ -11,6 +11,7 @@ TOP = pathlib.Path(__file__).resolve().parent.parent
 ABOUT = "discovery and synchronization service for drone traffic"
 # the parts of a document that repeat the --help of the program, and other comments
 REPEATED, COMMENT = re.compile(r"(?s)<!-- (?:commands|options): .*?<!-- end -->\n"), re.compile(r"<!-- .*? -->\n")
+PICTURE, FENCED = re.compile(r"!\[[^\]]*\]\([^)]*\)\n"), re.compile(r"(?ms)^```\w*\n(.*?)^```\n")
 
 
 def help_of(program, *words):
@@ -54,7 +55,8 @@ def as_it_is(lines):
 def page_of(document):
     """A document in Markdown as sections of a manual page, without its title and the text above its first heading."""
     page, block = [], []
-    document = COMMENT.sub("", REPEATED.sub("", document))
+    document = PICTURE.sub("", COMMENT.sub("", REPEATED.sub("", document)))
+    document = FENCED.sub(lambda it: re.sub(r"(?m)^", "    ", it[1].rstrip("\n")) + "\n", document)
     for line in [*document.partition("\n## ")[2].splitlines(), ""]:
         if block and line.startswith("    "):
             block.append(line[4:])
@@ -77,7 +79,7 @@ def page_of(document):
         elif line.startswith("|"):
             cells = [it.strip() for it in line.strip("|").split(" | ")]
             if not set(line) <= set("|- :"):
-                page += [".TP", words_of(cells[0].strip("| ")), words_of(" ".join(cells[1:]).strip("| ")) or "\\&"]
+                page += [".TP", words_of(cells[0].strip("| ")), words_of("; ".join(it for it in (cell.strip("| ") for cell in cells[1:]) if it)) or "\\&"]
         elif line.startswith("- "):
             page += [".IP \\(bu 2", words_of(line[2:])]
         elif found := re.match(r"(\d+\.) (.*)", line):
