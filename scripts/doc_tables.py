@@ -107,12 +107,17 @@ def form_of(schema, parts):
 
 
 def table_of_bodies(parts):
+    """The members of each body. Members that follow each other share a row if they are alike."""
     rows = []
     for name, body in BODIES.items():
-        schema = at(parts, name)
+        schema, last = at(parts, name), None
         for member, value in schema["properties"].items():
-            is_first = member == next(iter(schema["properties"]))
-            rows.append((body * is_first, f"`{member}`", form_of(value, parts), "required" if member in schema["required"] else "optional"))
+            form = form_of(value, parts), "required" if member in schema["required"] else "optional"
+            if form == last:
+                rows[-1][1] += f", `{member}`"
+            else:
+                rows.append([body if last is None else "", f"`{member}`", *form])
+            last = form
     return table(("body", "member", "form", ""), rows)
 
 
