@@ -7,7 +7,10 @@ from program import TOP
 def tables_are_current():
     """Each document has its tables as the script makes them now."""
     made = runpy.run_path(str(TOP / "scripts" / "doc_tables.py"))
-    old = [it for it in made["TABLES"] if made["rewritten"](it) != (TOP / it).read_text()]
+    try:
+        old = [it for it in made["TABLES"] if made["rewritten"](it) != (TOP / it).read_text()]
+    except LookupError as error:
+        return [repr(error)]
     return [f"{it} has another table: run scripts/doc_tables.py" for it in old]
 
 
