@@ -1,5 +1,5 @@
 """Each name of code in the documents is one of the repository's, each link leads somewhere, the pictures are of what is there, and
-the first line of each source, definition, script and test says what it has. One version stands in all files that have it.
+the first line of each source, definition, script and test says what it has.
 
 What stands in backquotes is looked at word by word: a file must be there, the parts of `crate::item` must be made in
 that crate and those of `Type::call` in one file, an edit must stand among the edits of its crate, and any other name
@@ -283,18 +283,7 @@ def pictures_are_drawn():
     return found + (["a call is seen where there is none"] if is_blind else [])
 
 
-def versions():
-    """The versions in the changelog, in the program and in the document of the interface, which are one."""
-    places = {
-        "CHANGELOG.md": r"(?m)^## ([\d.]+)",
-        "crates/dss_args/src/version.rt": r'VERSION: &str = "([\d.]+)"',
-        "docs/openapi.yaml": r"(?m)^  version: ([\d.]+)$",
-    }
-    found = {path: re.findall(pattern, (TOP / path).read_text())[:1] for path, pattern in places.items()}
-    return [] if len(set(map(str, found.values()))) == 1 and all(found.values()) else [f"the versions are {found}"]
-
-
 CASES = {
     "pictures": pictures_are_drawn, "names-in-docs": unknown, "names-in-tables": misplaced, "links-in-docs": dead_links,
-    "first-lines": headless, "one-version": versions,
+    "first-lines": headless,
 }
