@@ -27,9 +27,9 @@ PATIENCE = 1.0
 SERIALS = {wire.ovn(it): it for it in range(1, 20_000)}
 TOKENS = {**wire.TOKENS, "tok-w": ("uss-w", {wire.ARBITRATION})}
 NAMES = b"name: 1 to 64 letters, digits, - and _\n"
-EXISTS = b"exists: a backup of that name is there\n"
-BUSY = b"busy: another backup is being made\n"
-UNWRITTEN = b"not made: the folder of backups cannot be written\n"
+EXISTS = b"exists: there is a backup of that name\n"
+BUSY = b"busy: another backup is running\n"
+UNWRITTEN = b"failed: the backup directory cannot be written\n"
 NO_FOLDER = b"dss: backup: fault 3 Write\n"
 
 

@@ -19,7 +19,7 @@ from without_memory import FAULT
 
 FAILS = b"dss: store: commit failed; changes are answered with 500 until a commit succeeds\n"
 WORKS = "dss: store: commits succeed again after {} failures\n"
-STILL = "dss: store: changes are still not kept, {} faults more\n"
+STILL = "dss: store: commits still fail: {} more failures\n"
 # the bounds of a duration, as they are written
 BOUNDS = ("0.0005", "0.001", "0.0025", "0.005", "0.01", "0.025", "0.05", "0.1", "0.25", "0.5", "1", "2.5", "+Inf")
 RULES = [f"H{it}" for it in range(1, 6)] + [f"P{it}" for it in range(1, 18)]

@@ -16,9 +16,9 @@ from without_memory import FAULT, STOPPED
 
 PLAIN, PROMETHEUS = "text/plain; charset=utf-8", "text/plain; version=0.0.4; charset=utf-8"
 SERVING = b"serving\n"
-FAILING = b"failing: the database did not keep the last changes that it was given\n"
-STOPPING = b"stopping: it was told to end\n"
-DEAD = b"stopped: the database failed, and no call is answered any more\n"
+FAILING = b"failing: the last commit failed\n"
+STOPPING = b"stopping: a stop was requested\n"
+DEAD = b"stopped: the database failed; restart the service\n"
 
 PUT = wire.request("PUT", f"{wire.AVAILABILITY}/uss-b", "Bearer tok-v", b'{"old_version":"","availability":"Down"}')
 # seconds that a service that was told to end takes at most, and within which an operator is answered

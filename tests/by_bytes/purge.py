@@ -48,7 +48,7 @@ ID = "00000000-0000-4000-8000-{:012x}".format
 
 def printed(intents, constraints, subscriptions):
     """What a sweep prints of how much went."""
-    return f"swept {intents} intents, {constraints} constraints, {subscriptions} subscriptions\n".encode()
+    return f"purged {intents} intents, {constraints} constraints, {subscriptions} subscriptions\n".encode()
 
 
 def done(*counts):

@@ -18,8 +18,8 @@ from without_memory import FAULT
 JSON = "application/json"
 SEEDS, CALLS = (216, 47), 90
 NO_QUERY = said(400, b"no such query\n")
-LOST = said(503, b"no copy in memory: it was lost with changes that were not kept\n")
-NO_MEMORY = said(503, b"no copy in memory: there was no memory for one\n")
+LOST = said(503, b"no mirror: dropped after a failed commit\n")
+NO_MEMORY = said(503, b"no mirror: out of memory\n")
 NO_SUBSCRIPTION = "00000000-0000-4000-8000-000000000000"
 STATES = ("Accepted", "Activated", "Nonconforming", "Contingent")
 AVAILABILITIES = ("Unknown", "Normal", "Down")

@@ -14,7 +14,7 @@ SCOPES = (
 NO_SALT = "no salt: dss tokens --new-salt makes one"
 NAMES = "only letters, digits, - _ . are allowed"
 VISIBLE = "text: only visible ASCII characters are allowed, and no blank"
-NO_SCOPE = "it opens nothing, as no scope has that name"
+NO_SCOPE = "unknown scope, permits nothing"
 IS_EXAMPLE = "warning: salt: it stands in an example, so everybody can compute OVNs"
 
 
@@ -72,17 +72,17 @@ FILES = (
     ("salt = demo", ["line 1: no TOML: invalid value, expected a string, number, boolean, date-time, array or inline table"], "1 Toml"),
     (f'salt = "{SALT}"\n\n[[token]\n', ["line 3: no TOML: unclosed array table, expected `]]`"], "1 Toml"),
     (table(), [NO_SALT], "2 Salt"),
-    ("salt = 4\n" + table(), ["line 1: salt: no string"], "2 Salt"),
+    ("salt = 4\n" + table(), ["line 1: salt: not a string"], "2 Salt"),
     ('salt = ""\n' + table(), ["line 1: salt of 0 bytes: 1 to 64 are allowed"], "2 Salt"),
     (with_salt(table(), salt="s" * 65), ["line 1: salt of 65 bytes: 1 to 64 are allowed"], "2 Salt"),
     (with_salt(table(), salt="a b"), [f"line 1: salt: {NAMES}"], "2 Salt"),
-    (with_salt() + "token = 1\n", ["line 2: token: no list of tables: the table of a token begins with [[token]]"], "3 Token"),
-    (with_salt() + '[token]\ntext = "t"\n', ["line 2: token: no list of tables: the table of a token begins with [[token]]"], "3 Token"),
+    (with_salt() + "token = 1\n", ["line 2: token: not an array of tables: begin each token with [[token]]"], "3 Token"),
+    (with_salt() + '[token]\ntext = "t"\n', ["line 2: token: not an array of tables: begin each token with [[token]]"], "3 Token"),
     (with_salt() + "token = [1]\n", ["line 2, token 1: no table", "line 2, token 1: no uss", "line 2, token 1: no scopes"], "3 Token"),
     (with_salt("[[token]]\n"), ["line 3, token 1: no text", "line 3, token 1: no uss", "line 3, token 1: no scopes"], "3 Token"),
     (
         with_salt("[[token]]\ntext = 1\nuss = 2\nscopes = 3\n"),
-        ["line 4, token 1: text: no string", "line 5, token 1: uss: no string", "line 6, token 1: scopes: no list of strings"],
+        ["line 4, token 1: text: not a string", "line 5, token 1: uss: not a string", "line 6, token 1: scopes: not an array of strings"],
         "3 Token",
     ),
     (with_salt(table("")), ["line 4, token 1: text of 0 bytes: 1 to 255 are allowed"], "3 Token"),
@@ -91,7 +91,7 @@ FILES = (
     (with_salt(table(uss="")), ["line 5, token 1: uss of 0 bytes: 1 to 64 are allowed"], "4 Uss"),
     (with_salt(table(uss="u" * 65)), ["line 5, token 1: uss of 65 bytes: 1 to 64 are allowed"], "4 Uss"),
     (with_salt(table(), table("u", "uss c")), [f'line 10, token 2: uss "uss c": {NAMES}'], "4 Uss"),
-    (with_salt(table(scopes='["utm.strategic_coordination", 1]')), ["line 6, token 1: scopes: no list of strings"], "5 Scopes"),
+    (with_salt(table(scopes='["utm.strategic_coordination", 1]')), ["line 6, token 1: scopes: not an array of strings"], "5 Scopes"),
     (with_salt(table(), table("u"), table("t", "uss-b")), ["line 14, token 3: text: that of token 1"], "6 Repeated"),
     # all are told, with warnings after them, and of a line whatever stands above it
     (

@@ -108,9 +108,9 @@ def causes():
         ways = (
             (lacking, f"{room}/a.db", [], "", cause(lacking, nowhere), "dss: tokens: cannot read\n"),
             (tokens, lacking, [], limits(), cause(lacking, nowhere), of_store),
-            (tokens, f"{room}/text.db", [], limits(), cause(f"{room}/text.db", "it is no SQLite database"), of_store),
-            (tokens, f"{room}/folder.db", [], limits(), cause(f"{room}/folder.db", "it is no file"), of_store),
-            (tokens, f"{room}/held.db", [], limits(), cause(f"{room}/held.db", "another process has it open"), of_store),
+            (tokens, f"{room}/text.db", [], limits(), cause(f"{room}/text.db", "not a SQLite database"), of_store),
+            (tokens, f"{room}/folder.db", [], limits(), cause(f"{room}/folder.db", "not a file"), of_store),
+            (tokens, f"{room}/held.db", [], limits(), cause(f"{room}/held.db", "another process has it open; stop it first"), of_store),
             (tokens, f"{room}/b.db", ["--access-log", lacking], limits(), cause(lacking, nowhere), "dss: output\n"),
             (tokens, f"{room}/c.db", ["--admin-port", "1", "--backup-dir", lacking], limits(), cause(lacking, nowhere), "dss: backup: fault 3 Write\n"),
         )

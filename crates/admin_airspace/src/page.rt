@@ -13,7 +13,7 @@ use entity_maps::subscriptions::Subscriptions;
 use std::alloc::{AllocError, Global};
 
 // The approximate maximum number of cells on a page. A page ends after the item that reaches it.
-const MOST_CELLS: usize = 8_192;
+const MAX_CELLS: usize = 8_192;
 
 /// The remaining size of a page.
 #[derive(Clone, Copy)]
@@ -27,7 +27,7 @@ impl PageBudget {
     pub(crate) fn of(query: &PageQuery) -> PageBudget {
         PageBudget {
             things: query.limit,
-            cells: MOST_CELLS,
+            cells: MAX_CELLS,
         }
     }
 

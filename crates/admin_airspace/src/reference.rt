@@ -1,68 +1,19 @@
 //! An entity with its extents, as the admin port shows it.
-ghost use Rattle.std.specs.Prelude.{◌≡◌, IfOk, OnOk, codes};
-ghost use Rattle.serde_json.specs.View.{members_view, view};
-ghost use Rattle.wire_reply.specs.Built.{reference_data, with_nature};
-ghost use Rattle.wire_reply.specs.Reference.{reference_name};
-ghost use Rattle.wire_body.specs.Naming.{naming_text};
-ghost use Rattle.serde_json.specs.Data.{no_members, object, put, string};
+ghost use Rattle.std.specs.Prelude.{◌≡◌, IfOk, codes};
+ghost use Rattle.serde_json.specs.View.{view};
+ghost use Rattle.wire_reply.specs.Built.{reference_data};
+ghost use Rattle.serde_json.specs.Data.{no_members, object, put};
 ghost use Rattle.admin_airspace.specs.Reference.{shown_of, IsShownAs};
 
-use crate::members::{put_id, put_number, put_text};
+use crate::members::put_id;
 use crate::volume::volumes_json;
 use entity_core::availability::Availability;
 use entity_core::entity::Entity;
-use entity_core::entity_id::EntityId;
-use entity_core::nature::{Kind, Nature};
 use serde_json::{Map, Value, put};
 use std::alloc::{AllocError, Global};
 use wire_body::availability::name_of;
-
-/// The id that stands for no subscription.
-const NO_SUBSCRIPTION: &str = "00000000-0000-4000-8000-000000000000";
-
-// Returns the member name of a reference of that kind.
-fn reference_name(kind: Kind) -> &'static str
-    ensures { result.now ≡ reference_name kind }
-{
-    match kind {
-        Kind::Intent => "operational_intent_reference",
-        Kind::Constraint => "constraint_reference",
-    }
-}
-
-// Adds the subscription that an intent references.
-fn put_naming(
-    members: &mut Map<String, Value>,
-    alloc: Global,
-    named: Option<EntityId>,
-) -> Result<(), AllocError>
-    ensures { OnOk result (members_view members.new.entries
-        ≡ put (codes "subscription_id") (string (naming_text named))
-        (members_view members.old.entries)) }
-{
-    match named {
-        Some(id) => put_id(members, alloc, "subscription_id", id),
-        None => put_text(members, alloc, "subscription_id", NO_SUBSCRIPTION),
-    }
-}
-
-// Adds the members that only references of one kind have.
-fn put_nature(
-    members: &mut Map<String, Value>,
-    alloc: Global,
-    nature: Nature,
-) -> Result<(), AllocError>
-    ensures { OnOk result (members_view members.new.entries
-        ≡ with_nature nature (members_view members.old.entries)) }
-{
-    match nature {
-        Nature::Intent(state, named) => {
-            put_text(members, alloc, "state", state.name())?;
-            put_naming(members, alloc, named)
-        }
-        Nature::Constraint => Ok(()),
-    }
-}
+use wire_reply::members::{put_number, put_text};
+use wire_reply::reference::{put_nature, reference_name};
 
 // Returns the reference, as responses to other USSs represent it.
 fn reference_json(

@@ -7,7 +7,6 @@ ghost use Rattle.admin_airspace.specs.Page.{AreShown, IsEntityShown, IsPage, IsS
 ghost use Rattle.admin_airspace.specs.PageQuery.{after_of};
 
 use crate::key::{Cursor, ItemKind};
-use crate::members::{put_number, put_text};
 use crate::page::{First, PageBudget, first_entities, first_subs};
 use crate::query::PageQuery;
 use crate::reference::entity_json;
@@ -21,6 +20,7 @@ use serde_json::{Map, Value, put};
 use space_snapshot::snapshot::Snapshot;
 use std::alloc::{AllocError, Global};
 use wire_body::availability::name_of;
+use wire_reply::members::{put_number, put_text};
 
 // Returns entities, in their order.
 fn entities_json(

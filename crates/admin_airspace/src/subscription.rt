@@ -4,7 +4,7 @@ ghost use Rattle.serde_json.specs.Data.{Data, object};
 ghost use Rattle.serde_json.specs.View.{view};
 ghost use Rattle.admin_airspace.specs.Page.{sub_members};
 
-use crate::members::{put_flag, put_id, put_number, put_text};
+use crate::members::put_id;
 use crate::volume::volume_json;
 use entity_core::availability::Availability;
 use entity_core::nature::Kind;
@@ -12,6 +12,7 @@ use entity_core::subscription::Sub;
 use serde_json::{Map, Value, put};
 use std::alloc::{AllocError, Global};
 use wire_body::availability::name_of;
+use wire_reply::members::{put_flag, put_number, put_text};
 
 // Returns the members of a subscription, with that extent.
 fn sub_members_json(

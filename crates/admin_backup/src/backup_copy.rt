@@ -21,9 +21,9 @@ const LAST_PAGES: u64 = 2_097_152;
 const WRITTEN_AHEAD: u64 = 1_048_576;
 
 // The maximum numbers of restarts of a backup, and of chunks of changed pages.
-const MOST_STARTS: u32 = 8;
+const MAX_STARTS: u32 = 8;
 
-const MOST_CHANGED: u32 = 10_000;
+const MAX_CHANGED: u32 = 10_000;
 
 // Returns the result of a failed read of the database files.
 fn unread(cause: io::Error) -> BackupResult {
@@ -55,8 +55,8 @@ fn begun_files(rt: &HostRuntime, begun: &str) -> io::Result<(File, File)> {
     DirBuilder::new().mode(0o700).create(rt, begun)?;
     let alloc = rt.alloc();
     let copied = new_file(rt, format!(in alloc; "{begun}/{FILE_NAME}")?.as_str())?;
-    let copied_log = new_file(rt, format!(in alloc; "{begun}/{LOG_NAME}")?.as_str())?;
-    Ok((copied, copied_log))
+    let backup_log = new_file(rt, format!(in alloc; "{begun}/{LOG_NAME}")?.as_str())?;
+    Ok((copied, backup_log))
 }
 
 // Syncs a directory.
@@ -99,7 +99,7 @@ pub(crate) struct BackupCopy {
     file: File,
     log: File,
     copied: File,
-    copied_log: File,
+    backup_log: File,
     stage: Stage,
     // The log when it was last read: its header, its frames, and their pages.
     header: LogHeader,
@@ -128,13 +128,13 @@ impl BackupCopy {
         };
         let page_size = usize::try_from(header.page_size()).unwrap_or(0);
         let page = vec![in alloc; 0; page_size].map_err(|_| BackupResult::Memory)?;
-        let (copied, copied_log) = begun_files(rt, places.begun.as_str()).map_err(unwritten)?;
+        let (copied, backup_log) = begun_files(rt, places.begun.as_str()).map_err(unwritten)?;
         Ok(BackupCopy {
             places,
             file,
             log,
             copied,
-            copied_log,
+            backup_log,
             stage: Stage::File(0),
             header,
             frames: 0,
@@ -180,7 +180,7 @@ impl BackupCopy {
 
     // Restarts the copy of the file.
     fn start_anew(&mut self) -> Result<(), BackupResult> {
-        if self.starts >= MOST_STARTS {
+        if self.starts >= MAX_STARTS {
             return Err(BackupResult::TooManyChanges);
         }
         self.starts = self.starts.saturating_add(1);
@@ -225,7 +225,7 @@ impl BackupCopy {
 
     // Copies a chunk of the changed pages, if there are many.
     fn catch_up(&mut self, bytes: u64) -> Result<(), BackupResult> {
-        if self.changed_chunks >= MOST_CHANGED {
+        if self.changed_chunks >= MAX_CHANGED {
             return Err(BackupResult::TooManyChanges);
         }
         self.changed_chunks = self.changed_chunks.saturating_add(1);
@@ -234,7 +234,7 @@ impl BackupCopy {
     }
 
     // Copies the remaining changed pages, and reads the log, between the same two batches.
-    fn take_log(&mut self, alloc: Global, length: u64) -> Result<(), BackupResult> {
+    fn copy_log(&mut self, alloc: Global, length: u64) -> Result<(), BackupResult> {
         self.copy_changed(u64::MAX)?;
         self.copied.set_len(length).map_err(unwritten)?;
         let Ok(size) = usize::try_from(self.header.length(self.frames)) else {
@@ -269,17 +269,17 @@ impl BackupCopy {
         if changed > LAST_PAGES {
             return self.catch_up(chunk.len() as u64);
         }
-        self.take_log(alloc, length)
+        self.copy_log(alloc, length)
     }
 
     // Writes the next chunk of the log.
     fn write_log(&mut self, log: Vec<u8>, written: usize, most: usize) -> Result<(), BackupResult> {
         let from = written.min(log.len());
         let until = from.saturating_add(most).min(log.len());
-        self.copied_log
+        self.backup_log
             .write_all_at(&log[from..until], from as u64)
             .map_err(unwritten)?;
-        self.copied_log.sync_data().map_err(unwritten)?;
+        self.backup_log.sync_data().map_err(unwritten)?;
         self.stage = if until < log.len() {
             Stage::Log(log, until)
         } else {
@@ -291,7 +291,7 @@ impl BackupCopy {
     // Syncs the whole backup.
     fn sync(&mut self, rt: &HostRuntime) -> io::Result<()> {
         self.copied.sync_all()?;
-        self.copied_log.sync_all()?;
+        self.backup_log.sync_all()?;
         self.stage = Stage::Synced;
         sync_folder(rt, self.places.begun.as_str())
     }

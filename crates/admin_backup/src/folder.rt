@@ -11,11 +11,11 @@ const BEGUN: &str = ".begun";
 
 // The bytes of a chunk (minimum, first and maximum), and the maximum and minimum target time of a
 // chunk in milliseconds. Clients wait meanwhile.
-const LEAST_CHUNK: usize = 32_768;
+const MIN_CHUNK: usize = 32_768;
 
 const FIRST_CHUNK: usize = 262_144;
 
-const MOST_CHUNK: usize = 1_048_576;
+const MAX_CHUNK: usize = 1_048_576;
 
 const LONG: u64 = 6;
 
@@ -90,7 +90,7 @@ impl<'a> BackupDir<'a> {
             Err(cause) if cause.kind() == ErrorKind::NotFound => {}
             Err(cause) => return Err(unwritten(cause)),
         }
-        self.chunk = vec![in self.rt.alloc(); 0; MOST_CHUNK].map_err(|_| BackupResult::Memory)?;
+        self.chunk = vec![in self.rt.alloc(); 0; MAX_CHUNK].map_err(|_| BackupResult::Memory)?;
         self.length = FIRST_CHUNK;
         let begun = String::from_str(self.rt.alloc(), places.begun.as_str());
         let begun = begun.map_err(|_| BackupResult::Memory)?;
@@ -110,9 +110,9 @@ impl<'a> BackupDir<'a> {
             .map_err(unwritten)?
             .saturating_duration_since(before);
         if taken > Duration::from_millis(LONG) {
-            self.length = (self.length / 2).max(LEAST_CHUNK);
+            self.length = (self.length / 2).max(MIN_CHUNK);
         } else if taken < Duration::from_millis(SHORT) {
-            self.length = self.length.saturating_mul(2).min(MOST_CHUNK);
+            self.length = self.length.saturating_mul(2).min(MAX_CHUNK);
         }
         Ok(made)
     }

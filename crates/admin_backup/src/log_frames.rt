@@ -10,7 +10,7 @@ const HEADER: usize = 32;
 const FRAME_HEADER: usize = 24;
 
 // The first byte of the header's first salt, which each checkpoint increments, is at least 1.
-const LEAST_COUNT: u32 = 0x100_0000;
+const MIN_COUNT: u32 = 0x100_0000;
 
 // The lowest number that is not a page number. A frame with such a number describes frames next to
 // it.
@@ -64,7 +64,7 @@ impl LogHeader {
     /// Returns true if there was exactly one checkpoint since the log had that header.
     pub(crate) fn is_next_of(self, earlier: LogHeader) -> bool {
         self.page_size == earlier.page_size
-            && self.count == earlier.count.wrapping_add(1).max(LEAST_COUNT)
+            && self.count == earlier.count.wrapping_add(1).max(MIN_COUNT)
     }
 
     /// Returns the length of a log with so many frames.

@@ -7,8 +7,8 @@ use Rattle.admin_http.specs.Answer.{text_of, type_of}
 
 -- The reason why there is no mirror, in words.
 abbrev pub words_of : NoMirror → List ℕ
-words_of copies.None = codes "no copy in memory: there was no memory for one\n"
-words_of copies.Dropped = codes "no copy in memory: it was lost with changes that were not kept\n"
+words_of copies.None = codes "no mirror: out of memory\n"
+words_of copies.Dropped = codes "no mirror: dropped after a failed commit\n"
 
 -- Holds if the response is a page, or says that the query is invalid. Without a snapshot it gives
 -- the reason.

@@ -66,9 +66,9 @@ text_of status media refused body = front_of status media refused (length body) 
 -- The body that gives the health of the service.
 abbrev pub words_of : Health → List ℕ
 words_of state.Serving = codes "serving\n"
-words_of state.Failing = codes "failing: the database did not keep the last changes that it was given\n"
-words_of state.Stopped = codes "stopped: the database failed, and no call is answered any more\n"
-words_of state.Stopping = codes "stopping: it was told to end\n"
+words_of state.Failing = codes "failing: the last commit failed\n"
+words_of state.Stopped = codes "stopped: the database failed; restart the service\n"
+words_of state.Stopping = codes "stopping: a stop was requested\n"
 
 -- Holds if this is the response to a request, given the health of the service.
 abbrev pub Answers : AdminRequest → Health → (text : List ℕ) → Type 0

@@ -10,12 +10,12 @@ use space_snapshot::snapshot::{NoMirror, Snapshot};
 use std::alloc::{AllocError, Global};
 
 // Returns the reason why nothing is shown, in words.
-fn no_copy_words(why: NoMirror) -> &'static str
+fn no_mirror_text(why: NoMirror) -> &'static str
     ensures { result.now ≡ words_of why }
 {
     match why {
-        NoMirror::None => "no copy in memory: there was no memory for one\n",
-        NoMirror::Dropped => "no copy in memory: it was lost with changes that were not kept\n",
+        NoMirror::None => "no mirror: out of memory\n",
+        NoMirror::Dropped => "no mirror: dropped after a failed commit\n",
     }
 }
 
@@ -30,7 +30,7 @@ pub fn airspace_answer(
 {
     let shown = match shown {
         Ok(shown) => shown,
-        Err(why) => return whole(alloc, 503, None, None, no_copy_words(why)),
+        Err(why) => return whole(alloc, 503, None, None, no_mirror_text(why)),
     };
     let Some(query) = PageQuery::read(query) else {
         return whole(alloc, 400, None, None, "no such query\n");

@@ -121,15 +121,14 @@ pub(crate) fn whole(
 }
 
 // Returns the health of the service, in words.
-fn health_words(health: Health) -> &'static str
+fn health_text(health: Health) -> &'static str
     ensures { result.now ≡ words_of health }
 {
     match health {
         Health::Serving => "serving\n",
-        Health::Failing =>
-            "failing: the database did not keep the last changes that it was given\n",
-        Health::Stopped => "stopped: the database failed, and no call is answered any more\n",
-        Health::Stopping => "stopping: it was told to end\n",
+        Health::Failing => "failing: the last commit failed\n",
+        Health::Stopped => "stopped: the database failed; restart the service\n",
+        Health::Stopping => "stopping: a stop was requested\n",
     }
 }
 
@@ -151,7 +150,7 @@ pub fn answer(
             status,
             None,
             None,
-            health_words(health),
+            health_text(health),
         ),
         AdminRequest::Does(AdminRoute::Metrics) => {
             let text = metrics(alloc, figures, build)?;
@@ -187,7 +186,7 @@ pub fn answer(
 pub fn backup_answer(alloc: Global, backup: BackupResult) -> Result<Vec<u8>, AllocError>
     ensures { IfOk result (λ text. AnswersBackup backup text.items) }
 {
-    let words = backup::backup_words(alloc, backup)?;
+    let words = backup::backup_text(alloc, backup)?;
     whole(
         alloc,
         backup::backup_status(backup),

@@ -70,18 +70,18 @@ pub fn backup_status(backup: BackupResult) -> u16
 }
 
 // Returns the body of the response.
-pub(crate) fn backup_words(alloc: Global, backup: BackupResult) -> Result<String, AllocError>
+pub(crate) fn backup_text(alloc: Global, backup: BackupResult) -> Result<String, AllocError>
     ensures { IfOk result (λ text. string_bytes text ≡ words_of backup) }
 {
     let text = match backup {
         BackupResult::Made(size) => return format!(in alloc; "made: {size} bytes\n"),
         BackupResult::InvalidName => "name: 1 to 64 letters, digits, - and _\n",
         BackupResult::NoDirectory => "no such path\n",
-        BackupResult::Exists => "exists: a backup of that name is there\n",
-        BackupResult::Busy => "busy: another backup is being made\n",
-        BackupResult::WriteFailed => "not made: the folder of backups cannot be written\n",
-        BackupResult::ReadFailed => "not made: the database's files cannot be read\n",
-        BackupResult::TooManyChanges => "not made: the database changes too fast\n",
+        BackupResult::Exists => "exists: there is a backup of that name\n",
+        BackupResult::Busy => "busy: another backup is running\n",
+        BackupResult::WriteFailed => "failed: the backup directory cannot be written\n",
+        BackupResult::ReadFailed => "failed: the database files cannot be read\n",
+        BackupResult::TooManyChanges => "failed: the database changes too fast\n",
         BackupResult::Memory => "not made: memory\n",
     };
     String::from_str(alloc, text)

@@ -19,13 +19,13 @@ impl<'a> BuildInfo<'a> {
         let started = Metric {
             name: "dss_start_time_seconds",
             kind: MetricKind::Gauge,
-            help: "When the service started, in seconds since 1970.",
+            help: "Unix time when the service started, in seconds.",
         };
         text.one(started, self.started)?;
         let build = Metric {
             name: "dss_build_info",
             kind: MetricKind::Gauge,
-            help: "The version, and the kit that it was made with.",
+            help: "Version and kit of the build.",
         };
         text.describe(build)?;
         let version = Label {

@@ -86,7 +86,7 @@ impl ConnectionMetrics {
         let metric = Metric {
             name: "dss_connections_failed_total",
             kind: MetricKind::Counter,
-            help: "Connections that were given up, by what failed.",
+            help: "Connections aborted, by cause.",
         };
         text.describe(metric)?;
         let failed = self.failed;
@@ -112,26 +112,26 @@ impl ConnectionMetrics {
         let open = Metric {
             name: "dss_connections_open",
             kind: MetricKind::Gauge,
-            help: "Connections of clients that are open.",
+            help: "Open client connections.",
         };
         text.one(open, wide(self.open))?;
         let accepted = Metric {
             name: "dss_connections_accepted_total",
             kind: MetricKind::Counter,
-            help: "Connections of clients that were accepted.",
+            help: "Client connections accepted.",
         };
         text.one(accepted, self.accepted)?;
         let refused = Metric {
             name: "dss_connections_refused_total",
             kind: MetricKind::Counter,
-            help: "Connections that were accepted and closed at once, as they could not be kept.",
+            help: "Connections closed right after accepting them, for lack of resources.",
         };
         text.one(refused, self.refused)?;
         self.put_failed(text)?;
         let waiting = Metric {
             name: "dss_large_requests_waiting",
             kind: MetricKind::Gauge,
-            help: "Clients that wait until they may send a large request.",
+            help: "Clients that wait for a buffer for a large request.",
         };
         text.one(waiting, wide(self.waiting))
     }

@@ -36,7 +36,7 @@ pub(crate) struct Durations {
 
 // Returns the index of the first bound that the duration does not exceed, or the number of bounds
 // if it exceeds all.
-fn place_of(took: Duration) -> usize
+fn bucket_index(took: Duration) -> usize
     ensures { IsPlace (as_nanos took) result }
 {
     let time = took.as_nanos();
@@ -79,7 +79,7 @@ impl Durations {
 
     /// Adds a duration.
     pub(crate) fn note(&mut self, took: Duration) {
-        if let Some(count) = self.between.get_mut(place_of(took)) {
+        if let Some(count) = self.between.get_mut(bucket_index(took)) {
             *count = (*count).saturating_add(1);
         }
         self.sum = self.sum.saturating_add(took);

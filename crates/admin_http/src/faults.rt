@@ -6,7 +6,7 @@ use std::alloc::AllocError;
 #[derive(Clone, Copy, Debug)]
 pub struct FailureMetrics {
     /// The number of dropped lines of the access log.
-    pub lost_lines: u64,
+    pub dropped_lines: u64,
     store: u64,
     memory: u64,
     clock: u64,
@@ -16,7 +16,7 @@ impl FailureMetrics {
     /// Creates metrics of zero.
     pub(crate) fn new() -> FailureMetrics {
         FailureMetrics {
-            lost_lines: 0,
+            dropped_lines: 0,
             store: 0,
             memory: 0,
             clock: 0,
@@ -43,26 +43,26 @@ impl FailureMetrics {
         let store = Metric {
             name: "dss_store_failures_total",
             kind: MetricKind::Counter,
-            help: "Times that the database did not keep the changes that it was given.",
+            help: "Commits that failed.",
         };
         text.one(store, self.store)?;
         let memory = Metric {
             name: "dss_memory_failures_total",
             kind: MetricKind::Counter,
-            help: "Connections that were closed or given up as memory was refused.",
+            help: "Connections closed or aborted because an allocation failed.",
         };
         text.one(memory, self.memory)?;
         let clock = Metric {
             name: "dss_clock_failures_total",
             kind: MetricKind::Counter,
-            help: "Times that the clock told no time for a request.",
+            help: "Requests for which the clock returned no time.",
         };
         text.one(clock, self.clock)?;
-        let lost_lines = Metric {
+        let dropped_lines = Metric {
             name: "dss_log_lines_dropped_total",
             kind: MetricKind::Counter,
-            help: "Lines of the log of requests that could not be written whole.",
+            help: "Access log lines that could not be written completely.",
         };
-        text.one(lost_lines, self.lost_lines)
+        text.one(dropped_lines, self.dropped_lines)
     }
 }

@@ -18,7 +18,7 @@ impl PurgeMetrics {
     }
 
     /// Counts purged items.
-    pub fn note_gone(&mut self, count: usize) {
+    pub fn note_purged(&mut self, count: usize) {
         self.gone = self.gone.saturating_add(wide(count));
     }
 
@@ -32,13 +32,13 @@ impl PurgeMetrics {
         let gone = Metric {
             name: "dss_purged_total",
             kind: MetricKind::Counter,
-            help: "Intents, constraints and subscriptions that had ended and were let go of.",
+            help: "Ended intents, constraints and subscriptions that were purged.",
         };
         text.one(gone, self.gone)?;
         let faults = Metric {
             name: "dss_purge_failures_total",
             kind: MetricKind::Counter,
-            help: "Times that what had ended could not be let go of.",
+            help: "Purges that failed.",
         };
         text.one(faults, self.faults)
     }

@@ -144,7 +144,7 @@ impl RequestMetrics {
         let metric = Metric {
             name: ANSWERED,
             kind: MetricKind::Counter,
-            help: "Requests that were answered, by operation and by the status of the answer.",
+            help: "Requests answered, by operation and response status.",
         };
         text.describe(metric)?;
         for (operation, served) in OPERATIONS.iter().zip(self.by_operation.iter()) {
@@ -164,7 +164,7 @@ impl RequestMetrics {
         let metric = Metric {
             name: "dss_requests_denied_total",
             kind: MetricKind::Counter,
-            help: "Requests that were refused, by the rule that they broke first.",
+            help: "Requests denied or rejected, by the first broken rule.",
         };
         text.describe(metric)?;
         for (letter, counts) in [("H", &self.by_wire_rule[..]), ("P", &self.by_rule[..])] {
@@ -186,7 +186,7 @@ impl RequestMetrics {
         text.describe(Metric {
             name: "dss_request_duration_seconds",
             kind: MetricKind::Histogram,
-            help: "From when a request was held whole to when its answer might be sent.",
+            help: "Time from a complete request until its response may be sent.",
         })?;
         for (operation, served) in OPERATIONS.iter().zip(self.by_operation.iter()) {
             if !served.durations.is_empty() {
@@ -204,7 +204,7 @@ impl RequestMetrics {
         let bytes = Metric {
             name: "dss_response_bytes_total",
             kind: MetricKind::Counter,
-            help: "Bytes of the answers to requests.",
+            help: "Bytes of the responses to requests.",
         };
         text.one(bytes, self.bytes)
     }

@@ -46,7 +46,7 @@ impl StoreMetrics {
         let entities = Metric {
             name: "dss_entities",
             kind: MetricKind::Gauge,
-            help: "Entities that are kept, by their kind.",
+            help: "Stored entities, by kind.",
         };
         text.describe(entities)?;
         let kinds = [
@@ -63,13 +63,13 @@ impl StoreMetrics {
         let subscriptions = Metric {
             name: "dss_subscriptions",
             kind: MetricKind::Gauge,
-            help: "Subscriptions that are kept.",
+            help: "Stored subscriptions.",
         };
         text.one(subscriptions, numbers.subscriptions)?;
         let serial = Metric {
             name: "dss_serial",
             kind: MetricKind::Gauge,
-            help: "The number of changes since the database was made.",
+            help: "Changes since the database was created.",
         };
         text.one(serial, numbers.serial)
     }
@@ -79,7 +79,7 @@ impl StoreMetrics {
         let copy = Metric {
             name: "dss_mirror_up",
             kind: MetricKind::Gauge,
-            help: "Whether there is a copy in memory of what is kept: 1, or 0 where there is none.",
+            help: "Whether the in-memory mirror exists (1) or not (0).",
         };
         match self.numbers {
             Some(numbers) => {

@@ -26,13 +26,13 @@ impl TokenMetrics {
         let read = Metric {
             name: "dss_tokens_loaded_time_seconds",
             kind: MetricKind::Gauge,
-            help: "When the table of tokens in force was read, in seconds since 1970.",
+            help: "Unix time when the active token table was loaded, in seconds.",
         };
         text.one(read, started.saturating_add(self.read.as_secs()))?;
         let refusals = Metric {
             name: "dss_tokens_reload_failures_total",
             kind: MetricKind::Counter,
-            help: "Times that a token file which changed was not taken.",
+            help: "Changed token files that were rejected.",
         };
         text.one(refusals, self.refusals)
     }

@@ -1,6 +1,6 @@
 //! The command `backup`: a backup of a database that no process has open.
 use crate::copying::{Copying, is_free};
-use dss_command::copy_fault::CopyFault;
+use dss_command::backup_fault::BackupFault;
 use dss_command::fault::{Fault, io_fault};
 use dss_database::files::checkpoint_database;
 use space_sql_open::open_fault::OpenFault;
@@ -20,7 +20,7 @@ fn is_database(rt: &HostRuntime, name: &str) -> Result<(), Fault> {
 fn copy_file(rt: &HostRuntime, name: &str, to: &str) -> Result<(), Fault> {
     let source = match File::open(rt, name) {
         Ok(source) => source,
-        Err(cause) => return Err(io_fault(&cause, Fault::Copy(CopyFault::Read))),
+        Err(cause) => return Err(io_fault(&cause, Fault::Copy(BackupFault::Read))),
     };
     let mut copying = Copying::begin(rt, source, to)?;
     for _ in 0..u64::MAX {
@@ -34,7 +34,7 @@ fn copy_file(rt: &HostRuntime, name: &str, to: &str) -> Result<(), Fault> {
         }
     }
     copying.give_up();
-    Err(Fault::Copy(CopyFault::Read))
+    Err(Fault::Copy(BackupFault::Read))
 }
 
 /// Runs the command. No other program opens the database during the copy.

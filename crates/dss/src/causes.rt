@@ -33,10 +33,10 @@ impl Refusal {
     // Returns the reason in words.
     fn words(self) -> &'static str {
         match self {
-            Refusal::NoFile => "it is no file",
-            Refusal::Held => "another process has it open",
-            Refusal::NoDatabase => "it is no SQLite database",
-            Refusal::Other => "memory lacked, or it or its log cannot be read",
+            Refusal::NoFile => "not a file",
+            Refusal::Held => "another process has it open; stop it first",
+            Refusal::NoDatabase => "not a SQLite database",
+            Refusal::Other => "out of memory, or the file or its log cannot be read",
         }
     }
 }
@@ -73,21 +73,21 @@ impl<'a> Causes<'a> {
     }
 
     /// Prints the system's error for a file or a directory.
-    pub(crate) fn tell_of(self, name: &str, cause: &io::Error) {
+    pub(crate) fn print_cause(self, name: &str, cause: &io::Error) {
         if self.are_told {
             let _ = eprintln!(self.rt; "dss: cause: {name}: {cause}");
         }
     }
 
     /// Prints the system's error for a port.
-    pub(crate) fn tell_of_port(self, address: Ipv4Addr, port: u16, cause: &io::Error) {
+    pub(crate) fn print_port_cause(self, address: Ipv4Addr, port: u16, cause: &io::Error) {
         if self.are_told {
             let _ = eprintln!(self.rt; "dss: cause: {address}:{port}: {cause}");
         }
     }
 
     /// Prints why a database was not opened, if its store failed. Checks the file again for that.
-    pub(crate) fn tell_of_database(self, name: &str, fault: &Fault) {
+    pub(crate) fn print_database_cause(self, name: &str, fault: &Fault) {
         if !self.are_told {
             return;
         }
@@ -99,7 +99,7 @@ impl<'a> Causes<'a> {
                 let words = refusal.words();
                 let _ = eprintln!(self.rt; "dss: cause: {name}: {words}");
             }
-            Err(cause) => self.tell_of(name, &cause),
+            Err(cause) => self.print_cause(name, &cause),
         }
     }
 }

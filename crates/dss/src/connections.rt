@@ -7,11 +7,11 @@ use crate::sockets::PortSockets;
 use crate::tokens::TokenFile;
 use admin_backup::folder::BackupDir;
 use dss_args::serve_args::ServeArgs;
+use dss_command::backup_fault::BackupFault;
 use dss_command::clients::{AdminListener, Listen, ServeConfig};
-use dss_command::copy_fault::CopyFault;
 use dss_command::fault::{Fault, io_fault};
-use dss_command::limits::tell_limits;
-use dss_command::token_files::tell_tokens;
+use dss_command::limits::print_limits;
+use dss_command::token_files::print_token_check;
 use dss_command::tokens::{salt_of, table_of};
 use dss_database::files::{self, close_database, open_database};
 use dss_server::limits::{Limits, MAX_CONNECTIONS};
@@ -90,8 +90,8 @@ fn backups_of<'a>(
     match BackupDir::new(rt, given.database, folder) {
         Ok(folder) => Ok(Some(PortBackups { folder })),
         Err(cause) => {
-            causes.tell_of(folder, &cause);
-            Err(io_fault(&cause, Fault::Copy(CopyFault::Write)))
+            causes.print_cause(folder, &cause);
+            Err(io_fault(&cause, Fault::Copy(BackupFault::Write)))
         }
     }
 }
@@ -107,16 +107,16 @@ fn tokens_of<E: Write>(
     let text = match fs::read_to_string(rt, given.tokens) {
         Ok(text) => text,
         Err(cause) => {
-            causes.tell_of(given.tokens, &cause);
+            causes.print_cause(given.tokens, &cause);
             return Err(io_fault(&cause, Fault::TokensUnread));
         }
     };
     if given.verbose {
-        let _ = tell_tokens(rt.alloc(), text.as_str(), error);
+        let _ = print_token_check(rt.alloc(), text.as_str(), error);
     }
     let tokens = table_of(rt.alloc(), text.as_str())?;
     if given.verbose {
-        let _ = tell_limits(given.max_connections, given.count, given.quota, error);
+        let _ = print_limits(given.max_connections, given.count, given.quota, error);
     }
     Ok((text, tokens))
 }
@@ -133,7 +133,7 @@ fn log_of<'a>(
     match SystemLog::open(rt, name) {
         Ok(log) => Ok(Some(log)),
         Err(cause) => {
-            causes.tell_of(name, &cause);
+            causes.print_cause(name, &cause);
             Err(io_fault(&cause, Fault::Output))
         }
     }
@@ -153,7 +153,7 @@ pub(crate) fn serve<F: Start, E: Write>(
     let (space, listed) = match open_database(rt, given.database, start) {
         Ok(taken) => taken,
         Err(fault) => {
-            causes.tell_of_database(given.database, &fault);
+            causes.print_database_cause(given.database, &fault);
             return Err(fault);
         }
     };

@@ -1,6 +1,6 @@
 //! A copy of a file that is complete or does not exist. It is written under a temporary name chunk
 //! by chunk, synced, and only then renamed.
-use dss_command::copy_fault::CopyFault;
+use dss_command::backup_fault::BackupFault;
 use dss_command::fault::{Fault, io_fault};
 use std::fs::{File, OpenOptions};
 use std::io::{ErrorKind, Read, Write};
@@ -18,11 +18,11 @@ const BEGUN: &str = ".begun";
 const BESIDE: [&str; 2] = ["-wal", "-journal"];
 
 fn unread_source(cause: io::Error) -> Fault {
-    io_fault(&cause, Fault::Copy(CopyFault::Read))
+    io_fault(&cause, Fault::Copy(BackupFault::Read))
 }
 
 fn unwritten(cause: io::Error) -> Fault {
-    io_fault(&cause, Fault::Copy(CopyFault::Write))
+    io_fault(&cause, Fault::Copy(BackupFault::Write))
 }
 
 // Returns the length of the file of that name, if it exists.
@@ -38,12 +38,12 @@ fn length_of(rt: &HostRuntime, name: &str) -> Result<Option<u64>, Fault> {
 /// empty. SQLite would read such a log as the copy's.
 pub(crate) fn is_free(rt: &HostRuntime, to: &str) -> Result<(), Fault> {
     if length_of(rt, to)?.is_some() {
-        return Err(Fault::Copy(CopyFault::Exists));
+        return Err(Fault::Copy(BackupFault::Exists));
     }
     for end in BESIDE {
         let name = format!(in rt.alloc(); "{to}{end}").map_err(|_| Fault::Memory)?;
         if length_of(rt, name.as_str())?.unwrap_or(0) != 0 {
-            return Err(Fault::Copy(CopyFault::Exists));
+            return Err(Fault::Copy(BackupFault::Exists));
         }
     }
     Ok(())

@@ -17,7 +17,7 @@ use wire_http::Counted;
 
 // The maximum number of bytes sent in either direction. A socket buffers that many until they are
 // read.
-const MOST_BYTES: usize = 16_384;
+const MAX_REQUEST_BYTES: usize = 16_384;
 
 /// The arguments of the command `self`.
 #[derive(Clone, Copy)]
@@ -38,7 +38,7 @@ fn few_bytes<R: Read>(rt: &HostRuntime, input: &mut R) -> Result<Vec<u8>, Fault>
         Ok(_) => {}
         Err(cause) => return Err(io_fault(&cause, Fault::RequestsUnread)),
     }
-    if bytes.len() > MOST_BYTES {
+    if bytes.len() > MAX_REQUEST_BYTES {
         return Err(Fault::RequestTooLong);
     }
     Ok(bytes)
@@ -99,7 +99,7 @@ fn answers_to(
     let mut reader = Counted::new(&mut server);
     let mut writer = Counted::new(&mut answers);
     serve_in_memory(rt.alloc(), salt, tokens, now, &mut reader, &mut writer)?;
-    if answers.len() > MOST_BYTES {
+    if answers.len() > MAX_REQUEST_BYTES {
         return Err(Fault::AnswerTooLong);
     }
     match sent_back(rt, answers.as_slice(), &mut server, &mut client) {

@@ -24,7 +24,7 @@ use std::{env, io};
 use wire_http::Counted;
 
 // Runs the program's command line with the standard streams.
-fn run_words(rt: &HostRuntime) -> io::Result<u8> {
+fn run_args(rt: &HostRuntime) -> io::Result<u8> {
     let mut owned = Vec::new(rt.alloc());
     for word in env::args(rt)? {
         owned.push(word)?;
@@ -45,9 +45,9 @@ fn run_words(rt: &HostRuntime) -> io::Result<u8> {
 }
 
 // Prints one line that says why the command line cannot be read, and returns the exit status.
-fn unread_words(rt: &HostRuntime, error: &io::Error) -> u8 {
+fn report_unread_args(rt: &HostRuntime, error: &io::Error) -> u8 {
     if error.kind() == io::ErrorKind::InvalidData {
-        let _ = eprintln!(rt; "error: a word of the command line is not UTF-8");
+        let _ = eprintln!(rt; "error: an argument is not valid UTF-8");
         return 2;
     }
     let _ = eprintln!(rt; "dss: memory");
@@ -55,8 +55,8 @@ fn unread_words(rt: &HostRuntime, error: &io::Error) -> u8 {
 }
 
 fn main(rt: HostRuntime) -> ExitCode {
-    match run_words(&rt) {
+    match run_args(&rt) {
         Ok(status) => ExitCode::from(status),
-        Err(error) => ExitCode::from(unread_words(&rt, &error)),
+        Err(error) => ExitCode::from(report_unread_args(&rt, &error)),
     }
 }

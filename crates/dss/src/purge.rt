@@ -8,7 +8,7 @@ use std::io::Write;
 use wire_http::Moments;
 
 // Returns the current time: the given one, or otherwise that of the clock.
-fn moment_of(rt: &HostRuntime, now: Option<u64>) -> Result<u64, Fault> {
+fn time_or_now(rt: &HostRuntime, now: Option<u64>) -> Result<u64, Fault> {
     match now {
         Some(now) => Ok(now),
         None => match SystemClock::new(rt).next() {
@@ -27,7 +27,7 @@ pub(crate) fn purge<F: Start, W: Write>(
     start: F,
     output: &mut W,
 ) -> Result<(), Fault> {
-    check_not_in_future(until, moment_of(rt, now)?)?;
+    check_not_in_future(until, time_or_now(rt, now)?)?;
     let _files = files::purge(rt, database, start, until, output)?;
     Ok(())
 }

@@ -74,7 +74,7 @@ pub(crate) struct PortSockets<'a> {
     listener: TcpListener,
     operators: Option<TcpListener>,
     events: Events,
-    told: Vec<SocketEvent>,
+    ready: Vec<SocketEvent>,
     // The number of events already taken.
     taken: usize,
     backups: Option<PortBackups<'a>>,
@@ -112,7 +112,7 @@ fn listener_on(
     let mut listener = match TcpListener::bind(rt, SocketAddr::from((address, port))) {
         Ok(listener) => listener,
         Err(cause) => {
-            causes.tell_of_port(address, port, &cause);
+            causes.print_port_cause(address, port, &cause);
             return Err(cause);
         }
     };
@@ -129,12 +129,12 @@ fn accept_client(listener: &TcpListener) -> Result<Client, AcceptFault> {
             let _ = stream.set_nodelay(true);
             Ok(Client { stream, address })
         }
-        Err(cause) => Err(not_taken(cause)),
+        Err(cause) => Err(accept_fault(cause)),
     }
 }
 
 // Converts an event.
-fn told_by(event: &Event) -> SocketEvent {
+fn socket_event(event: &Event) -> SocketEvent {
     let Token(token) = event.token();
     SocketEvent {
         which: watched_as(token),
@@ -146,7 +146,7 @@ fn told_by(event: &Event) -> SocketEvent {
 }
 
 // Returns the reason why the system returned no client.
-fn not_taken(cause: io::Error) -> AcceptFault {
+fn accept_fault(cause: io::Error) -> AcceptFault {
     match cause.raw_os_error() {
         Some(NO_MEMORY | NO_DESCRIPTOR_IN_SYSTEM | NO_DESCRIPTOR | NO_BUFFER) => AcceptFault::Full,
         _ => match cause.kind() {
@@ -188,7 +188,7 @@ impl<'a> PortSockets<'a> {
             listener,
             operators,
             events: Events::with_capacity(rt.alloc(), EVENTS)?,
-            told: Vec::with_capacity(rt.alloc(), EVENTS)?,
+            ready: Vec::with_capacity(rt.alloc(), EVENTS)?,
             taken: 0,
             backups,
         })
@@ -224,18 +224,18 @@ impl<'a> Sockets for PortSockets<'a> {
 
     fn wait(&mut self, patience: Option<Duration>) -> io::Result<()> {
         self.poll.poll(&mut self.events, patience)?;
-        self.told.clear();
+        self.ready.clear();
         self.taken = 0;
         for event in self.events.iter() {
-            self.told.push(told_by(event))?;
+            self.ready.push(socket_event(event))?;
         }
         Ok(())
     }
 
     fn next_event(&mut self) -> Option<SocketEvent> {
-        let told = *self.told.get(self.taken)?;
+        let ready = *self.ready.get(self.taken)?;
         self.taken = self.taken.saturating_add(1);
-        Some(told)
+        Some(ready)
     }
 
     fn monotonic_time(&self) -> io::Result<Duration> {

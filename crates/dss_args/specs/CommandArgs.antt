@@ -35,11 +35,11 @@ use Rattle.dss_args.specs.LineFault.{IsFaultOf}
 use Rattle.dss_args.specs.declared.fault.LineFault.{LineFault}
 use Rattle.dss_args.specs.declared.fault.LineFault.TheVariants as fault
 use Rattle.dss_args.specs.declared.command_args.TheConstants.{
-  GREATEST_BOUND,
-  LAST_MOMENT,
-  LAST_PORT,
-  MOST_CLIENTS,
-  MOST_CONNECTIONS,
+  MAX_QUOTA,
+  MAX_TIME,
+  MAX_PORT,
+  MAX_CONNECTIONS,
+  MAX_COUNT,
 }
 use Rattle.dss_args.specs.declared.command_args.CommandArgs.{CommandArgs}
 use Rattle.dss_args.specs.declared.command_args.CommandArgs.TheVariants.{
@@ -79,8 +79,8 @@ HasChoice id least greatest rows (Some n) = HasNumberIn id least greatest rows n
 -- The maximum number of connections at once: the option's, or the default.
 abbrev pub HasClients : List Row → ℕ → Type 0
 HasClients rows n =
-    HasNumberIn (codes "max-connections") 1 MOST_CLIENTS rows n
-    ⊎ ((first_of (codes "max-connections") rows ≡ None) × (n ≡ MOST_CLIENTS))
+    HasNumberIn (codes "max-connections") 1 MAX_CONNECTIONS rows n
+    ⊎ ((first_of (codes "max-connections") rows ≡ None) × (n ≡ MAX_CONNECTIONS))
 
 -- The address to listen on: the option's, or 127.0.0.1 by default.
 abbrev pub HasListen : List Row → Ipv4Addr → Type 0
@@ -115,12 +115,12 @@ pub record HasServing (rows : List Row) (given : ServeArgs) : Type 0 where
   pub tokens : first_of (codes "tokens") rows ≡ Some given.tokens.now
   pub database : first_of (codes "db") rows ≡ Some given.database.now
   pub listen : HasListen rows given.listen
-  pub port : HasNumberIn (codes "port") 1 LAST_PORT rows given.port
-  pub count : HasChoice (codes "count") 1 MOST_CONNECTIONS rows given.count
+  pub port : HasNumberIn (codes "port") 1 MAX_PORT rows given.port
+  pub count : HasChoice (codes "count") 1 MAX_COUNT rows given.count
   pub max_connections : HasClients rows given.max_connections
-  pub quota : HasChoice (codes "quota") 1 GREATEST_BOUND rows given.quota
-  pub retention : HasChoice (codes "retention") 1 LAST_MOMENT rows given.retention
-  pub admin_port : HasChoice (codes "admin-port") 1 LAST_PORT rows given.admin_port
+  pub quota : HasChoice (codes "quota") 1 MAX_QUOTA rows given.quota
+  pub retention : HasChoice (codes "retention") 1 MAX_TIME rows given.retention
+  pub admin_port : HasChoice (codes "admin-port") 1 MAX_PORT rows given.admin_port
   pub backup_dir : HasText (codes "backup-dir") rows given.backup_dir
   pub access_log : HasText (codes "access-log") rows given.access_log
   pub copies : lacks_port rows ≡ false
@@ -145,13 +145,13 @@ name_of NewSalt = codes "tokens"
 abbrev pub HasValues : List Row → CommandArgs → Type 0
 HasValues rows (Run tokens now database requests) =
     (first_of (codes "tokens") rows ≡ Some tokens.now)
-    × HasNumberIn (codes "now") 0 LAST_MOMENT rows now
+    × HasNumberIn (codes "now") 0 MAX_TIME rows now
     × HasText (codes "db") rows database
     × (first_of (codes "requests") rows ≡ Some requests.now)
 HasValues rows (Serve given) = HasServing rows given
 HasValues rows (Loopback tokens now request) =
     (first_of (codes "tokens") rows ≡ Some tokens.now)
-    × HasNumberIn (codes "now") 0 LAST_MOMENT rows now
+    × HasNumberIn (codes "now") 0 MAX_TIME rows now
     × (first_of (codes "request") rows ≡ Some request.now)
 HasValues rows (Cell token) = first_of (codes "token") rows ≡ Some token.now
 HasValues rows (Report database places) =
@@ -161,8 +161,8 @@ HasValues rows (Backup database to) =
 HasValues rows (Upgrade database) = first_of (codes "db") rows ≡ Some database.now
 HasValues rows (Purge database until now) =
     (first_of (codes "db") rows ≡ Some database.now)
-    × HasNumberIn (codes "until") 0 LAST_MOMENT rows until
-    × HasChoice (codes "now") 0 LAST_MOMENT rows now
+    × HasNumberIn (codes "until") 0 MAX_TIME rows until
+    × HasChoice (codes "now") 0 MAX_TIME rows now
 HasValues rows (CheckTokens file) = HasOptions rows (Some file.now) None None false
 HasValues rows (NewToken uss scopes) = HasOptions rows None (Some uss.now) (Some scopes.now) false
 HasValues rows NewSalt = HasOptions rows None None None true

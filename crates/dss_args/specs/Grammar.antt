@@ -17,11 +17,11 @@ use Rattle.clap.specs.declared.builder.command.Command.TheViews.{out-Command}
 use Rattle.clap.specs.declared.builder.value_parser.ValueParser.TheVariants.{Unsigned}
 use Rattle.clap.specs.declared.builder.action.ArgAction.TheVariants.{SetTrue}
 use Rattle.dss_args.specs.declared.command_args.TheConstants.{
-  GREATEST_BOUND,
-  LAST_MOMENT,
-  LAST_PORT,
-  MOST_CLIENTS,
-  MOST_CONNECTIONS,
+  MAX_QUOTA,
+  MAX_TIME,
+  MAX_PORT,
+  MAX_CONNECTIONS,
+  MAX_COUNT,
 }
 
 -- Holds if the command has this grammar, and none of its arguments is global.
@@ -41,14 +41,14 @@ tokens_rule = record (option_rule (codes "tokens")) { value_names = 1 }
 abbrev pub now_rule : Rule
 now_rule = record (option_rule (codes "now")) {
   value_names = 1;
-  parser = Some (Unsigned 0 LAST_MOMENT);
+  parser = Some (Unsigned 0 MAX_TIME);
 }
 
 -- The end of a purge: a Unix time, up to the last one.
 abbrev pub until_rule : Rule
 until_rule = record (option_rule (codes "until")) {
   value_names = 1;
-  parser = Some (Unsigned 0 LAST_MOMENT);
+  parser = Some (Unsigned 0 MAX_TIME);
 }
 
 -- The database, which is optional.
@@ -63,7 +63,7 @@ store_rule = record (option_rule (codes "db")) { value_names = 1 }
 abbrev pub port_rule : Rule
 port_rule = record (option_rule (codes "port")) {
   value_names = 1;
-  parser = Some (Unsigned 1 LAST_PORT);
+  parser = Some (Unsigned 1 MAX_PORT);
 }
 
 -- An optional argument with a number in this range.
@@ -117,10 +117,10 @@ serve_bounds =
     with_rule
     (with_rule
     (with_rule
-    (with_rule serve_needs (number_rule (codes "count") 1 MOST_CONNECTIONS))
-    (number_rule (codes "max-connections") 1 MOST_CLIENTS))
-    (number_rule (codes "quota") 1 GREATEST_BOUND))
-    (number_rule (codes "retention") 1 LAST_MOMENT)
+    (with_rule serve_needs (number_rule (codes "count") 1 MAX_COUNT))
+    (number_rule (codes "max-connections") 1 MAX_CONNECTIONS))
+    (number_rule (codes "quota") 1 MAX_QUOTA))
+    (number_rule (codes "retention") 1 MAX_TIME)
 
 -- The options of `serve` for its operator.
 abbrev pub serve_watch : App
@@ -128,7 +128,7 @@ serve_watch =
     with_rule
     (with_rule
     (with_rule
-    (with_rule serve_bounds (number_rule (codes "admin-port") 1 LAST_PORT))
+    (with_rule serve_bounds (number_rule (codes "admin-port") 1 MAX_PORT))
     (choice_rule (codes "backup-dir")))
     (choice_rule (codes "listen")))
     (choice_rule (codes "access-log"))
@@ -158,7 +158,7 @@ abbrev pub purge_app : App
 purge_app =
     with_rule
     (with_rule (with_rule (new_app (codes "purge")) store_rule) until_rule)
-    (number_rule (codes "now") 0 LAST_MOMENT)
+    (number_rule (codes "now") 0 MAX_TIME)
 
 abbrev pub tokens_app : App
 tokens_app =

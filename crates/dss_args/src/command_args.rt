@@ -39,19 +39,19 @@ use std::alloc::Global;
 use std::net::Ipv4Addr;
 
 /// The last time that a command line can name, in Unix seconds: the end of the year 9999.
-pub const LAST_MOMENT: u64 = 253_402_300_799;
+pub const MAX_TIME: u64 = 253_402_300_799;
 
 /// The maximum TCP port number.
-pub const LAST_PORT: u64 = 65_535;
+pub const MAX_PORT: u64 = 65_535;
 
 /// The maximum number of connections to serve before exit.
-pub const MOST_CONNECTIONS: u64 = 1_000_000;
+pub const MAX_COUNT: u64 = 1_000_000;
 
 /// The maximum number of connections at once, which is also the default.
-pub const MOST_CLIENTS: u64 = 1_000;
+pub const MAX_CONNECTIONS: u64 = 1_000;
 
 /// The maximum quota of a USS.
-pub const GREATEST_BOUND: u64 = 4_294_967_295;
+pub const MAX_QUOTA: u64 = 4_294_967_295;
 
 // The error message for arguments that are valid one by one but request no command.
 const NO_LINE: &str =
@@ -158,7 +158,7 @@ fn run_line<'a>(matches: &ArgMatches<'a>) -> Option<CommandArgs<'a>>
 {
     Some(CommandArgs::Run {
         tokens: matches.get_str("tokens")?,
-        now: number_in(matches, "now", 0, LAST_MOMENT)?,
+        now: number_in(matches, "now", 0, MAX_TIME)?,
         database: matches.get_str("db"),
         requests: matches.get_str("requests")?,
     })
@@ -166,12 +166,12 @@ fn run_line<'a>(matches: &ArgMatches<'a>) -> Option<CommandArgs<'a>>
 
 // Returns the port, if it is present and in range.
 fn port_in(matches: &ArgMatches<'_>) -> Option<u16>
-    ensures some { IfSome result (HasNumberIn (codes "port") 1 LAST_PORT
+    ensures some { IfSome result (HasNumberIn (codes "port") 1 MAX_PORT
         (rows_of (found_of matches.now))) }
-    ensures none { IfNone result ((n : ℕ) → HasNumberIn (codes "port") 1 LAST_PORT
+    ensures none { IfNone result ((n : ℕ) → HasNumberIn (codes "port") 1 MAX_PORT
         (rows_of (found_of matches.now)) n → ⊥) }
 {
-    let number = number_in(matches, "port", 1, LAST_PORT)?;
+    let number = number_in(matches, "port", 1, MAX_PORT)?;
     match u16::try_from(number) {
         Ok(port) => Some(port),
         Err(_) => None,
@@ -199,9 +199,9 @@ fn clients_in(matches: &ArgMatches<'_>) -> Option<u64>
     ensures none { IfNone result ((n : ℕ) → HasClients (rows_of (found_of matches.now)) n → ⊥) }
 {
     if matches.get_str("max-connections").is_none() {
-        return Some(MOST_CLIENTS);
+        return Some(MAX_CONNECTIONS);
     }
-    number_in(matches, "max-connections", 1, MOST_CLIENTS)
+    number_in(matches, "max-connections", 1, MAX_CONNECTIONS)
 }
 
 // Parses an address.
@@ -229,12 +229,12 @@ fn listen_in(matches: &ArgMatches<'_>) -> Option<Ipv4Addr>
 
 // Returns the admin port, if it is present. Returns `None` if it is out of range.
 fn admin_in(matches: &ArgMatches<'_>) -> Option<Option<u16>>
-    ensures some { IfSome result (HasChoice (codes "admin-port") 1 LAST_PORT
+    ensures some { IfSome result (HasChoice (codes "admin-port") 1 MAX_PORT
         (rows_of (found_of matches.now))) }
-    ensures none { IfNone result ((admin_port : Option ℕ) → HasChoice (codes "admin-port") 1 LAST_PORT
+    ensures none { IfNone result ((admin_port : Option ℕ) → HasChoice (codes "admin-port") 1 MAX_PORT
         (rows_of (found_of matches.now)) admin_port → ⊥) }
 {
-    let Some(number) = choice_in(matches, "admin-port", 1, LAST_PORT)? else {
+    let Some(number) = choice_in(matches, "admin-port", 1, MAX_PORT)? else {
         return Some(None);
     };
     match u16::try_from(number) {
@@ -244,13 +244,13 @@ fn admin_in(matches: &ArgMatches<'_>) -> Option<Option<u16>>
 }
 
 // Returns the quota of each USS, if it is present. Returns `None` if it is out of range.
-fn most_kept_in(matches: &ArgMatches<'_>) -> Option<Option<u32>>
-    ensures some { IfSome result (HasChoice (codes "quota") 1 GREATEST_BOUND
+fn quota_in(matches: &ArgMatches<'_>) -> Option<Option<u32>>
+    ensures some { IfSome result (HasChoice (codes "quota") 1 MAX_QUOTA
         (rows_of (found_of matches.now))) }
-    ensures none { IfNone result ((most : Option ℕ) → HasChoice (codes "quota") 1 GREATEST_BOUND
+    ensures none { IfNone result ((most : Option ℕ) → HasChoice (codes "quota") 1 MAX_QUOTA
         (rows_of (found_of matches.now)) most → ⊥) }
 {
-    let Some(number) = choice_in(matches, "quota", 1, GREATEST_BOUND)? else {
+    let Some(number) = choice_in(matches, "quota", 1, MAX_QUOTA)? else {
         return Some(None);
     };
     match u32::try_from(number) {
@@ -281,10 +281,10 @@ fn serve_line<'a>(matches: &ArgMatches<'a>) -> Option<CommandArgs<'a>>
         database: matches.get_str("db")?,
         listen: listen_in(matches)?,
         port: port_in(matches)?,
-        count: choice_in(matches, "count", 1, MOST_CONNECTIONS)?,
+        count: choice_in(matches, "count", 1, MAX_COUNT)?,
         max_connections: clients_in(matches)?,
-        quota: most_kept_in(matches)?,
-        retention: choice_in(matches, "retention", 1, LAST_MOMENT)?,
+        quota: quota_in(matches)?,
+        retention: choice_in(matches, "retention", 1, MAX_TIME)?,
         admin_port: admin_in(matches)?,
         backup_dir: matches.get_str("backup-dir"),
         access_log: matches.get_str("access-log"),
@@ -302,7 +302,7 @@ fn loopback_line<'a>(matches: &ArgMatches<'a>) -> Option<CommandArgs<'a>>
 {
     Some(CommandArgs::Loopback {
         tokens: matches.get_str("tokens")?,
-        now: number_in(matches, "now", 0, LAST_MOMENT)?,
+        now: number_in(matches, "now", 0, MAX_TIME)?,
         request: matches.get_str("request")?,
     })
 }
@@ -362,8 +362,8 @@ fn purge_line<'a>(matches: &ArgMatches<'a>) -> Option<CommandArgs<'a>>
 {
     Some(CommandArgs::Purge {
         database: matches.get_str("db")?,
-        until: number_in(matches, "until", 0, LAST_MOMENT)?,
-        now: choice_in(matches, "now", 0, LAST_MOMENT)?,
+        until: number_in(matches, "until", 0, MAX_TIME)?,
+        now: choice_in(matches, "now", 0, MAX_TIME)?,
     })
 }
 

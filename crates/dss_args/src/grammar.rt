@@ -30,8 +30,8 @@ ghost use Rattle.dss_args.specs.Grammar.{
   word_rule,
 };
 
-use crate::command_args::{GREATEST_BOUND, LAST_MOMENT, LAST_PORT, MOST_CLIENTS, MOST_CONNECTIONS};
-use crate::version::SHOWN;
+use crate::command_args::{MAX_CONNECTIONS, MAX_COUNT, MAX_PORT, MAX_QUOTA, MAX_TIME};
+use crate::version::VERSION_TEXT;
 use clap::builder::ValueParser;
 use clap::{Arg, ArgAction, Command};
 use std::alloc::{AllocError, Global};
@@ -61,7 +61,7 @@ fn until_option<'a>(alloc: Global) -> Arg<'a>
     option(alloc, "until")
         .value_name("SECONDS")
         .help("Purge what ended at or before this past time, in Unix seconds [0-253402300799]")
-        .value_parser(ValueParser::unsigned(0, LAST_MOMENT))
+        .value_parser(ValueParser::unsigned(0, MAX_TIME))
 }
 
 fn now_option<'a>(alloc: Global) -> Arg<'a>
@@ -71,7 +71,7 @@ fn now_option<'a>(alloc: Global) -> Arg<'a>
     option(alloc, "now")
         .value_name("SECONDS")
         .help("Time of each request, in Unix seconds [0-253402300799]")
-        .value_parser(ValueParser::unsigned(0, LAST_MOMENT))
+        .value_parser(ValueParser::unsigned(0, MAX_TIME))
 }
 
 // Returns the database option of a subcommand that does not require one.
@@ -111,7 +111,7 @@ fn port_option<'a>(alloc: Global) -> Arg<'a>
     option(alloc, "port")
         .value_name("PORT")
         .help("Port to listen on [1-65535]")
-        .value_parser(ValueParser::unsigned(1, LAST_PORT))
+        .value_parser(ValueParser::unsigned(1, MAX_PORT))
 }
 
 // Returns an optional argument with a number from 1.
@@ -126,60 +126,60 @@ fn number_option<'a>(alloc: Global, name: &'a str, value: &'a str, greatest: u64
 }
 
 // Returns the option for the current time.
-fn moment_option<'a>(alloc: Global) -> Arg<'a>
-    ensures rule { rule_of result ≡ number_rule (codes "now") 0 LAST_MOMENT }
+fn time_option<'a>(alloc: Global) -> Arg<'a>
+    ensures rule { rule_of result ≡ number_rule (codes "now") 0 MAX_TIME }
     ensures local { result.global ≡ false }
 {
     Arg::new(alloc, "now")
         .long("now")
         .value_name("SECONDS")
         .help("Current time, in Unix seconds [0-253402300799; default: the clock]")
-        .value_parser(ValueParser::unsigned(0, LAST_MOMENT))
+        .value_parser(ValueParser::unsigned(0, MAX_TIME))
 }
 
 // Returns the option for the retention.
-fn keep_option<'a>(alloc: Global) -> Arg<'a>
-    ensures rule { rule_of result ≡ number_rule (codes "retention") 1 LAST_MOMENT }
+fn retention_option<'a>(alloc: Global) -> Arg<'a>
+    ensures rule { rule_of result ≡ number_rule (codes "retention") 1 MAX_TIME }
     ensures local { result.global ≡ false }
 {
-    number_option(alloc, "retention", "SECONDS", LAST_MOMENT).help(
+    number_option(alloc, "retention", "SECONDS", MAX_TIME).help(
         "Purge what ended at least this many seconds ago [1-253402300799; default: never]",
     )
 }
 
 fn count_option<'a>(alloc: Global) -> Arg<'a>
-    ensures rule { rule_of result ≡ number_rule (codes "count") 1 MOST_CONNECTIONS }
+    ensures rule { rule_of result ≡ number_rule (codes "count") 1 MAX_COUNT }
     ensures local { result.global ≡ false }
 {
-    number_option(alloc, "count", "NUMBER", MOST_CONNECTIONS).help(
+    number_option(alloc, "count", "NUMBER", MAX_COUNT).help(
         "Exit after this many connections [1-1000000; default: unlimited]",
     )
 }
 
 fn clients_option<'a>(alloc: Global) -> Arg<'a>
-    ensures rule { rule_of result ≡ number_rule (codes "max-connections") 1 MOST_CLIENTS }
+    ensures rule { rule_of result ≡ number_rule (codes "max-connections") 1 MAX_CONNECTIONS }
     ensures local { result.global ≡ false }
 {
-    number_option(alloc, "max-connections", "NUMBER", MOST_CLIENTS).help(
+    number_option(alloc, "max-connections", "NUMBER", MAX_CONNECTIONS).help(
         "Max connections at once [1-1000; default: 1000]",
     )
 }
 
-fn most_kept_option<'a>(alloc: Global) -> Arg<'a>
-    ensures rule { rule_of result ≡ number_rule (codes "quota") 1 GREATEST_BOUND }
+fn quota_option<'a>(alloc: Global) -> Arg<'a>
+    ensures rule { rule_of result ≡ number_rule (codes "quota") 1 MAX_QUOTA }
     ensures local { result.global ≡ false }
 {
-    number_option(alloc, "quota", "NUMBER", GREATEST_BOUND).help(
+    number_option(alloc, "quota", "NUMBER", MAX_QUOTA).help(
         "Max entities and subscriptions to store per USS, with 64 cells for each \
          [1-4294967295; default: unlimited]",
     )
 }
 
 fn admin_option<'a>(alloc: Global) -> Arg<'a>
-    ensures rule { rule_of result ≡ number_rule (codes "admin-port") 1 LAST_PORT }
+    ensures rule { rule_of result ≡ number_rule (codes "admin-port") 1 MAX_PORT }
     ensures local { result.global ≡ false }
 {
-    number_option(alloc, "admin-port", "PORT", LAST_PORT).help(
+    number_option(alloc, "admin-port", "PORT", MAX_PORT).help(
         "Admin port on 127.0.0.1, for /health, /metrics and /stop [1-65535; default: none]",
     )
 }
@@ -229,7 +229,7 @@ fn word<'a>(alloc: Global, name: &'a str) -> Arg<'a>
     Arg::new(alloc, name).required(true)
 }
 
-fn requests_word<'a>(alloc: Global) -> Arg<'a>
+fn requests_argument<'a>(alloc: Global) -> Arg<'a>
     ensures rule { rule_of result ≡ requests_rule }
     ensures local { result.global ≡ false }
 {
@@ -238,7 +238,7 @@ fn requests_word<'a>(alloc: Global) -> Arg<'a>
         .help("File of requests, or - for standard input")
 }
 
-fn request_word<'a>(alloc: Global) -> Arg<'a>
+fn request_argument<'a>(alloc: Global) -> Arg<'a>
     ensures rule { rule_of result ≡ request_rule }
     ensures local { result.global ≡ false }
 {
@@ -247,7 +247,7 @@ fn request_word<'a>(alloc: Global) -> Arg<'a>
     )
 }
 
-fn token_word<'a>(alloc: Global) -> Arg<'a>
+fn token_argument<'a>(alloc: Global) -> Arg<'a>
     ensures rule { rule_of result ≡ token_rule }
     ensures local { result.global ≡ false }
 {
@@ -257,7 +257,7 @@ fn token_word<'a>(alloc: Global) -> Arg<'a>
 }
 
 // Returns the argument for the backup file.
-fn to_word<'a>(alloc: Global) -> Arg<'a>
+fn destination_argument<'a>(alloc: Global) -> Arg<'a>
     ensures rule { rule_of result ≡ to_rule }
     ensures local { result.global ≡ false }
 {
@@ -291,9 +291,7 @@ fn scopes_option<'a>(alloc: Global) -> Arg<'a>
     ensures rule { rule_of result ≡ choice_rule (codes "scopes") }
     ensures local { result.global ≡ false }
 {
-    choice(alloc, "scopes", "SCOPES").help(
-        "Scopes of the new token, separated by commas",
-    )
+    choice(alloc, "scopes", "SCOPES").help("Scopes of the new token, separated by commas")
 }
 
 // Returns a flag, which is set or not.
@@ -313,7 +311,7 @@ fn new_salt_flag<'a>(alloc: Global) -> Arg<'a>
 }
 
 // Returns the flag that prints the cells of each reference.
-fn places_flag<'a>(alloc: Global) -> Arg<'a>
+fn cells_flag<'a>(alloc: Global) -> Arg<'a>
     ensures rule { rule_of result ≡ flag_rule (codes "cells") }
     ensures local { result.global ≡ false }
 {
@@ -323,7 +321,7 @@ fn places_flag<'a>(alloc: Global) -> Arg<'a>
 }
 
 // Returns the flag for double sync.
-fn wary_flag<'a>(alloc: Global) -> Arg<'a>
+fn double_sync_flag<'a>(alloc: Global) -> Arg<'a>
     ensures rule { rule_of result ≡ flag_rule (codes "double-sync") }
     ensures local { result.global ≡ false }
 {
@@ -350,7 +348,7 @@ fn run_command<'a>(alloc: Global) -> Result<Command<'a>, AllocError>
         .arg(tokens_option(alloc))?
         .arg(now_option(alloc))?
         .arg(database_option(alloc))?
-        .arg(requests_word(alloc))
+        .arg(requests_argument(alloc))
 }
 
 fn serve_command<'a>(alloc: Global) -> Result<Command<'a>, AllocError>
@@ -363,13 +361,13 @@ fn serve_command<'a>(alloc: Global) -> Result<Command<'a>, AllocError>
         .arg(port_option(alloc))?
         .arg(count_option(alloc))?
         .arg(clients_option(alloc))?
-        .arg(most_kept_option(alloc))?
-        .arg(keep_option(alloc))?
+        .arg(quota_option(alloc))?
+        .arg(retention_option(alloc))?
         .arg(admin_option(alloc))?
         .arg(backups_option(alloc))?
         .arg(listen_option(alloc))?
         .arg(log_option(alloc))?
-        .arg(wary_flag(alloc))?
+        .arg(double_sync_flag(alloc))?
         .arg(verbose_flag(alloc))
 }
 
@@ -380,7 +378,7 @@ fn self_command<'a>(alloc: Global) -> Result<Command<'a>, AllocError>
         .about("Serve one stream of requests in memory, through a loopback socket")
         .arg(tokens_option(alloc))?
         .arg(now_option(alloc))?
-        .arg(request_word(alloc))
+        .arg(request_argument(alloc))
 }
 
 fn cell_command<'a>(alloc: Global) -> Result<Command<'a>, AllocError>
@@ -388,7 +386,7 @@ fn cell_command<'a>(alloc: Global) -> Result<Command<'a>, AllocError>
 {
     Command::new(alloc, "cell")
         .about("Print the cell of a token")
-        .arg(token_word(alloc))
+        .arg(token_argument(alloc))
 }
 
 fn report_command<'a>(alloc: Global) -> Result<Command<'a>, AllocError>
@@ -397,7 +395,7 @@ fn report_command<'a>(alloc: Global) -> Result<Command<'a>, AllocError>
     Command::new(alloc, "report")
         .about("Print the references that a database stores, and its serial")
         .arg(store_option(alloc))?
-        .arg(places_flag(alloc))
+        .arg(cells_flag(alloc))
 }
 
 fn backup_command<'a>(alloc: Global) -> Result<Command<'a>, AllocError>
@@ -406,7 +404,7 @@ fn backup_command<'a>(alloc: Global) -> Result<Command<'a>, AllocError>
     Command::new(alloc, "backup")
         .about("Back up a database that no process has open: all of it, or no file")
         .arg(source_option(alloc))?
-        .arg(to_word(alloc))
+        .arg(destination_argument(alloc))
 }
 
 fn upgrade_command<'a>(alloc: Global) -> Result<Command<'a>, AllocError>
@@ -427,7 +425,7 @@ fn purge_command<'a>(alloc: Global) -> Result<Command<'a>, AllocError>
         )
         .arg(store_option(alloc))?
         .arg(until_option(alloc))?
-        .arg(moment_option(alloc))
+        .arg(time_option(alloc))
 }
 
 fn tokens_command<'a>(alloc: Global) -> Result<Command<'a>, AllocError>
@@ -450,7 +448,7 @@ pub(crate) fn command<'a>(alloc: Global) -> Result<Command<'a>, AllocError>
 {
     Command::new(alloc, "dss")
         .about("Discovery and synchronization service for drone traffic")
-        .version(SHOWN)
+        .version(VERSION_TEXT)
         .subcommand_required(true)
         .subcommand(run_command(alloc)?)?
         .subcommand(serve_command(alloc)?)?

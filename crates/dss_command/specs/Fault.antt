@@ -9,7 +9,7 @@ use Rattle.grid_core.specs.Token as token
 use Rattle.space_sql_open.specs.OpenFault as opening
 use Rattle.token_conf.specs.ConfFault as conf
 use Rattle.wire_http.specs.Fault as streams
-use Rattle.dss_command.specs.CopyFault as copies
+use Rattle.dss_command.specs.BackupFault as copies
 use Rattle.dss_command.specs.declared.fault.Fault.{Fault}
 use Rattle.dss_command.specs.declared.fault.Fault.TheVariants as fault
 use Rattle.dss_report.specs.declared.fault.CellFault.{CellFault}

@@ -1,9 +1,11 @@
-pub mod CopyFault
+pub mod BackupFault
 pub mod Fault
 pub mod Limits
 pub mod Line
 pub mod LogLine
 pub mod Print
+pub mod PurgeCounts
+pub mod Purging
 pub mod Service
 pub mod StoreLines
 pub mod Stream

@@ -20,26 +20,26 @@ IsMoment None text = text ≡ codes "-"
 IsMoment (Some moment) text = (printer : DateTimePrinter)
     × (options printer ≡ (false, 84, Some 3)) × IsTimestampText printer moment text
 
-abbrev pub supplier_word : Option (List ℕ) → List ℕ
-supplier_word None = codes "-"
-supplier_word (Some id) = id
+abbrev pub uss_text : Option (List ℕ) → List ℕ
+uss_text None = codes "-"
+uss_text (Some id) = id
 
-abbrev pub entity_word : Option ℕ → List ℕ
-entity_word None = codes "-"
-entity_word (Some id) = printed id
+abbrev pub entity_text : Option ℕ → List ℕ
+entity_text None = codes "-"
+entity_text (Some id) = printed id
 
 -- A rule by its number: P4 of the policy, H2 of the protocol.
-abbrev pub rule_word : Outcome → List ℕ
-rule_word outcomes.Done = codes "-"
-rule_word (outcomes.Denied rule) = codes "P" ++ decimal (policy.number_of rule)
-rule_word outcomes.Fault = codes "-"
-rule_word outcomes.Stopped = codes "-"
-rule_word (outcomes.Wire rule) = codes "H" ++ decimal (wire.number_of rule)
+abbrev pub rule_text : Outcome → List ℕ
+rule_text outcomes.Done = codes "-"
+rule_text (outcomes.Denied rule) = codes "P" ++ decimal (policy.number_of rule)
+rule_text outcomes.Fault = codes "-"
+rule_text outcomes.Stopped = codes "-"
+rule_text (outcomes.Wire rule) = codes "H" ++ decimal (wire.number_of rule)
 
 -- A duration in whole microseconds.
-abbrev pub microseconds_word : Option Duration → List ℕ
-microseconds_word None = codes "-"
-microseconds_word (Some took) = decimal (as_nanos took / 1_000)
+abbrev pub microseconds_text : Option Duration → List ℕ
+microseconds_text None = codes "-"
+microseconds_text (Some took) = decimal (as_nanos took / 1_000)
 
 -- The time and the caller of a request.
 unfoldable pub who : List ℕ → ℕ → List ℕ → List ℕ
@@ -63,10 +63,10 @@ how rule took size =
 -- The line with its line end, of a request that was answered at that time.
 unfoldable pub log_line : List ℕ → LoggedRequest → List ℕ
 log_line time request =
-    who time request.connection (supplier_word request.noted.now.supplier)
-    ++ what (operation_word request.noted.now.operation) (entity_word request.noted.now.entity)
+    who time request.connection (uss_text request.noted.now.supplier)
+    ++ what (operation_word request.noted.now.operation) (entity_text request.noted.now.entity)
     request.status
-    ++ how (rule_word request.noted.now.outcome) (microseconds_word request.took) request.size
+    ++ how (rule_text request.noted.now.outcome) (microseconds_text request.took) request.size
 
 -- Holds if this is the line of a request that was answered at that time.
 abbrev pub IsLogLine : Option Timestamp → LoggedRequest → List ℕ → Type 0

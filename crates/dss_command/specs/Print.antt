@@ -4,7 +4,7 @@ use Rattle.std.specs.Io.KnownBytes.{Appends}
 use Rattle.entity_core.specs.Airspace.{Airspace}
 use Rattle.dss_report.specs.CellLines.{IsPlacesOf}
 use Rattle.dss_report.specs.Report.{report_of}
-use Rattle.dss_purge.specs.declared.purged.PurgeCounts.{PurgeCounts}
+use Rattle.dss_command.specs.declared.purged.PurgeCounts.{PurgeCounts}
 
 -- Holds if the lines of the cells of its references are written.
 abbrev pub WritesPlaces : Airspace → (before after : Option (List ℕ)) → Type 0
@@ -18,6 +18,6 @@ WritesReport false a before after = Appends before after (report_of a)
 -- The line that reports what was purged.
 abbrev pub purged_line : PurgeCounts → List ℕ
 purged_line purged =
-    codes "swept " ++ (decimal purged.intents
+    codes "purged " ++ (decimal purged.intents
     ++ (codes " intents, " ++ (decimal purged.constraints
     ++ (codes " constraints, " ++ (decimal purged.subscriptions ++ codes " subscriptions\n")))))

@@ -7,8 +7,8 @@ abbrev pub store_line : StoreEvent → List ℕ
 store_line news.CommitFailed =
     codes "dss: store: commit failed; changes are answered with 500 until a commit succeeds\n"
 store_line (news.StillFailing count) =
-    codes "dss: store: changes are still not kept, " ++ (decimal count ++ codes " faults more\n")
+    codes "dss: store: commits still fail: " ++ (decimal count ++ codes " more failures\n")
 store_line (news.Recovered count) =
     codes "dss: store: commits succeed again after " ++ (decimal count ++ codes " failures\n")
 store_line news.Stopped =
-    codes "dss: store: stopped, and no call is answered any more\n"
+    codes "dss: store: stopped: the database failed; restart the service\n"

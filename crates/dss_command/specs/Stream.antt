@@ -10,7 +10,7 @@ use Rattle.entity_core.specs.Airspace.{empty_at}
 use Rattle.space_core.specs.Space.{IsContent}
 use Rattle.space_core.specs.declared.space.Space.{Ghosts}
 use Rattle.token_conf.specs.TokenFile.{TokenFile, callers_of}
-use Rattle.wire_http.specs.Count.{most_requests}
+use Rattle.wire_http.specs.Count.{max_requests}
 use Rattle.wire_http.specs.Input.{IsInput}
 use Rattle.wire_http.specs.Moments.{moment_of}
 use Rattle.wire_http.specs.Wire.{Serves, ServesPart}
@@ -32,7 +32,7 @@ module _ {S : Type 0} (g : Ghosts S) (tokens : TokenFile) (now : ℕ)
     pub clock' : FixedClock
     pub stands : moment_of clock ≡ now
     pub input_is : IsInput remaining input
-    pub serves : Serves g StandsStill (callers_of tokens) most_requests input old new clock clock'
+    pub serves : Serves g StandsStill (callers_of tokens) max_requests input old new clock clock'
         before after served
 
   -- States that it executed the first requests, and that their responses were written, before the
@@ -45,7 +45,7 @@ module _ {S : Type 0} (g : Ghosts S) (tokens : TokenFile) (now : ℕ)
     pub clock' : FixedClock
     pub stands : moment_of clock ≡ now
     pub input_is : IsInput remaining input
-    pub serves : ServesPart g StandsStill (callers_of tokens) most_requests input old new clock
+    pub serves : ServesPart g StandsStill (callers_of tokens) max_requests input old new clock
         clock' before after why
 
   -- States the same of a service over a space, which is returned as it then is.

@@ -15,7 +15,7 @@ fn words(phase: Phase) -> &'static str {
 }
 
 /// Prints one line that says which connection was aborted, and in which phase.
-pub(crate) fn tell_given_up<E: Write>(
+pub(crate) fn print_aborted<E: Write>(
     given_up: AbortedConnection,
     error: &mut E,
 ) -> io::Result<()> {

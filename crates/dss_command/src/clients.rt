@@ -7,11 +7,11 @@ ghost use Rattle.token_conf.specs.TokenFile.{salt_of};
 ghost use Rattle.dss_command.specs.Fault.{EndsServing, TellsClient};
 ghost use Rattle.dss_command.specs.Service.{ServesClients};
 
-use crate::aborted_connection::tell_given_up;
+use crate::aborted_connection::print_aborted;
 use crate::fault::{Fault, io_fault, print_fault};
 use crate::request_log::{LogFile, RequestLog};
-use crate::store_lines::tell_store;
-use crate::tokens::tell_refusal;
+use crate::store_lines::print_store_event;
+use crate::tokens::print_reload_fault;
 use admin_http::build::BuildInfo;
 use dss_args::version::{KIT, VERSION};
 use dss_server::limits::Limits;
@@ -21,7 +21,7 @@ use dss_server::sockets::Sockets;
 use dss_server::token_watch::{TokenReloadFault, TokenSource, TokenWatch};
 use entity_core::salt::Salt;
 use service_calls::service::Service;
-use space_purge::purge_ended::PurgeEnded;
+use space_core::purge_ended::PurgeEnded;
 use space_snapshot::snapshot::SnapshotSource;
 use std::alloc::Global;
 use std::io;
@@ -68,7 +68,7 @@ impl<'a, E: Write, L: LogFile> ServerLog for Lines<'a, E, L> {
     fn connection_failed(&mut self, fault: StreamFault, given_up: AbortedConnection) {
         let _ = print_client_fault(fault, self.error);
         if self.verbose {
-            let _ = tell_given_up(given_up, self.error);
+            let _ = print_aborted(given_up, self.error);
         }
     }
 
@@ -86,12 +86,12 @@ impl<'a, E: Write, L: LogFile> ServerLog for Lines<'a, E, L> {
     }
 
     fn tokens_rejected(&mut self, fault: TokenReloadFault) {
-        let _ = tell_refusal(fault, self.error);
+        let _ = print_reload_fault(fault, self.error);
     }
 
     fn store_event(&mut self, news: StoreEvent) {
         if self.verbose {
-            let _ = tell_store(news, self.error);
+            let _ = print_store_event(news, self.error);
         }
     }
 }

@@ -4,7 +4,7 @@ ghost use Rattle.std.specs.Io.KnownBytes.{Appends};
 ghost use Rattle.std.specs.IoError.{error_kind};
 ghost use Rattle.dss_command.specs.Fault.{line_of, status_of, told_by};
 
-use crate::copy_fault::CopyFault;
+use crate::backup_fault::BackupFault;
 use dss_report::fault::{CellFault, ReportFault};
 use grid_core::token::TokenFault;
 use space_sql_open::open_fault::OpenFault;
@@ -27,7 +27,7 @@ pub enum Fault {
     /// The database failed after it was opened.
     DatabaseFailed,
     /// The backup of the database failed.
-    Copy(CopyFault),
+    Copy(BackupFault),
     /// The file of requests does not open, or the request of `self` fails to be read.
     RequestsUnread,
     /// The end of the purge is in the future.
@@ -121,13 +121,13 @@ impl From<OpenFault> for Fault {
     }
 }
 
-impl From<CopyFault> for Fault {
+impl From<BackupFault> for Fault {
     ghost use Rattle.std.specs.Prelude.{◌≡◌};
     ghost use Rattle.dss_command.specs.declared.fault.Fault.TheVariants as fault;
 
     ghost from_gives = { λ e found. found ≡ fault.Copy e };
 
-    fn from(fault: CopyFault) -> Fault {
+    fn from(fault: BackupFault) -> Fault {
         Fault::Copy(fault)
     }
 }

@@ -2,14 +2,16 @@
 #![tactic(auto)]
 
 mod aborted_connection;
+pub mod backup_fault;
 pub mod clients;
-pub mod copy_fault;
 pub mod fault;
 pub mod limits;
 pub mod line;
 mod log_line;
 pub mod moment;
 pub mod print;
+pub mod purge;
+pub mod purged;
 pub mod request_log;
 mod store_lines;
 pub mod stream;

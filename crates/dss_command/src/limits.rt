@@ -8,16 +8,16 @@ use std::io::Write;
 
 /// Prints one line with the maximum number of clients at once, the number of connections if
 /// limited, and the quota of each USS if there is one.
-pub fn tell_limits<E: Write>(
+pub fn print_limits<E: Write>(
     clients: u64,
     count: Option<u64>,
-    most_kept: Option<u32>,
+    quota: Option<u32>,
     error: &mut E,
 ) -> io::Result<()>
     ensures { OnOk result (Appends (E.contents error.old) (E.contents error.new)
-        (limits_line clients count most_kept)) }
+        (limits_line clients count quota)) }
 {
-    match (count, most_kept) {
+    match (count, quota) {
         (None, None) => writeln!(
             error,
             "dss: limits: {clients} clients at once, any number of connections",

@@ -1,7 +1,7 @@
 //! The line of a request in the access log.
 ghost use Rattle.std.specs.Prelude.{◌≡◌, IfOk};
 ghost use Rattle.std.specs.String.{string_bytes};
-ghost use Rattle.dss_command.specs.LogLine.{IsLogLine, IsMoment, entity_word, how, log_line, microseconds_word, rule_word, supplier_word, what, who};
+ghost use Rattle.dss_command.specs.LogLine.{IsLogLine, IsMoment, entity_text, how, log_line, microseconds_text, rule_text, uss_text, what, who};
 
 use admin_http::operation::operation_name;
 use dss_server::server_log::LoggedRequest;
@@ -14,7 +14,7 @@ use std::time::Duration;
 use wire_http::Outcome;
 
 // Returns the time in UTC with milliseconds, or `-` if it is unknown.
-fn moment_text(alloc: Global, moment: Option<Timestamp>) -> Result<String, AllocError>
+fn time_text(alloc: Global, moment: Option<Timestamp>) -> Result<String, AllocError>
     ensures { IfOk result (λ text. IsMoment moment (string_bytes text)) }
 {
     match moment {
@@ -27,8 +27,8 @@ fn moment_text(alloc: Global, moment: Option<Timestamp>) -> Result<String, Alloc
 }
 
 // Returns the id of a USS, as printed.
-fn supplier_word(supplier: &Option<UssId>) -> &str
-    ensures { result.now ≡ supplier_word supplier.now }
+fn uss_text(supplier: &Option<UssId>) -> &str
+    ensures { result.now ≡ uss_text supplier.now }
 {
     match supplier {
         Some(uss) => uss.text(),
@@ -37,8 +37,8 @@ fn supplier_word(supplier: &Option<UssId>) -> &str
 }
 
 // Returns the id of an entity or a subscription, as printed.
-fn entity_word(alloc: Global, entity: Option<EntityId>) -> Result<String, AllocError>
-    ensures { IfOk result (λ text. string_bytes text ≡ entity_word entity) }
+fn entity_text(alloc: Global, entity: Option<EntityId>) -> Result<String, AllocError>
+    ensures { IfOk result (λ text. string_bytes text ≡ entity_text entity) }
 {
     match entity {
         Some(id) => id.text(alloc),
@@ -47,8 +47,8 @@ fn entity_word(alloc: Global, entity: Option<EntityId>) -> Result<String, AllocE
 }
 
 // Returns the rule that denied the request, such as `P4` or `H2`.
-fn rule_word(alloc: Global, outcome: Outcome) -> Result<String, AllocError>
-    ensures { IfOk result (λ text. string_bytes text ≡ rule_word outcome) }
+fn rule_text(alloc: Global, outcome: Outcome) -> Result<String, AllocError>
+    ensures { IfOk result (λ text. string_bytes text ≡ rule_text outcome) }
 {
     match outcome {
         Outcome::Denied(rule) => {
@@ -64,8 +64,8 @@ fn rule_word(alloc: Global, outcome: Outcome) -> Result<String, AllocError>
 }
 
 // Returns a duration in whole microseconds.
-fn microseconds_word(alloc: Global, took: Option<Duration>) -> Result<String, AllocError>
-    ensures { IfOk result (λ text. string_bytes text ≡ microseconds_word took) }
+fn microseconds_text(alloc: Global, took: Option<Duration>) -> Result<String, AllocError>
+    ensures { IfOk result (λ text. string_bytes text ≡ microseconds_text took) }
 {
     match took {
         Some(took) => {
@@ -106,10 +106,10 @@ fn line_at(alloc: Global, time: &str, request: &LoggedRequest<'_>) -> Result<Str
     ensures { IfOk result (λ line. string_bytes line ≡ log_line time.now request.now) }
 {
     let noted = request.noted;
-    let supplier = supplier_word(&noted.supplier);
-    let entity = entity_word(alloc, noted.entity)?;
-    let rule = rule_word(alloc, noted.outcome)?;
-    let took = microseconds_word(alloc, request.took)?;
+    let supplier = uss_text(&noted.supplier);
+    let entity = entity_text(alloc, noted.entity)?;
+    let rule = rule_text(alloc, noted.outcome)?;
+    let took = microseconds_text(alloc, request.took)?;
     let operation = operation_name(noted.operation);
     let mut line = who(alloc, time, request.connection, supplier)?;
     line.push_str(what(alloc, operation, entity.as_str(), request.status)?.as_str())?;
@@ -126,6 +126,6 @@ pub(crate) fn log_line(
 ) -> Result<String, AllocError>
     ensures { IfOk result (λ line. IsLogLine moment request.now (string_bytes line)) }
 {
-    let time = moment_text(alloc, moment)?;
+    let time = time_text(alloc, moment)?;
     line_at(alloc, time.as_str(), request)
 }

@@ -9,7 +9,7 @@ ghost use Rattle.dss_command.specs.Fault.{IsOfCell};
 ghost use Rattle.dss_command.specs.Print.{WritesPlaces, WritesReport, purged_line};
 
 use crate::fault::Fault;
-use dss_purge::purged::PurgeCounts;
+use crate::purged::PurgeCounts;
 use dss_report::cell::token_line;
 use dss_report::cell_lines::cells_text;
 use dss_report::report::report_text;
@@ -64,7 +64,7 @@ pub fn put_purged<W: Write>(purged: PurgeCounts, output: &mut W) -> Result<(), F
     } = purged;
     let written = writeln!(
         output,
-        "swept {intents} intents, {constraints} constraints, {subscriptions} subscriptions"
+        "purged {intents} intents, {constraints} constraints, {subscriptions} subscriptions"
     );
     let Ok(()) = written else {
         return Err(Fault::Output);
@@ -92,7 +92,7 @@ pub fn put_report<S: Space + Drop, W: Write>(
 }
 
 /// Prints the cells of the airspace of a space, which is only read.
-pub fn put_places<S: Space + Drop, W: Write>(
+pub fn put_cells<S: Space + Drop, W: Write>(
     alloc: Global,
     space: &mut S,
     output: &mut W,
@@ -128,7 +128,7 @@ pub fn report<S: Space + Drop, W: Write>(
         (fault ≡ DatabaseFailed) ⊎ (fault ≡ Memory) ⊎ (fault ≡ Output)) }
 {
     match places {
-        true => put_places(alloc, space, output),
+        true => put_cells(alloc, space, output),
         false => put_report(alloc, space, output),
     }
 }

@@ -25,7 +25,7 @@ pub(crate) struct RequestLog<L> {
     file: L,
     // The line end of a line that was cut off, if any, and then the buffered lines.
     lines: Vec<u8>,
-    lost: u64,
+    dropped: u64,
     // True if the last write ended within a line.
     is_cut: bool,
 }
@@ -42,7 +42,7 @@ fn line_ends(bytes: &[u8]) -> u64 {
 }
 
 // Returns the timestamp of a time since 1970.
-fn moment_at(time: Duration) -> Option<Timestamp> {
+fn timestamp_at(time: Duration) -> Option<Timestamp> {
     let Ok(nanoseconds) = i128::try_from(time.as_nanos()) else {
         return None;
     };
@@ -56,7 +56,7 @@ impl<L: LogFile> RequestLog<L> {
             alloc,
             file,
             lines: Vec::new(alloc),
-            lost: 0,
+            dropped: 0,
             is_cut: false,
         }
     }
@@ -73,7 +73,7 @@ impl<L: LogFile> RequestLog<L> {
     /// Buffers the line of a request that was answered now.
     pub(crate) fn note(&mut self, request: &LoggedRequest<'_>) {
         let moment = match self.file.time() {
-            Some(time) => moment_at(time),
+            Some(time) => timestamp_at(time),
             None => None,
         };
         let held = match log_line(self.alloc, moment, request) {
@@ -81,12 +81,12 @@ impl<L: LogFile> RequestLog<L> {
             Err(_) => Err(AllocError),
         };
         if held.is_err() {
-            self.lost = self.lost.saturating_add(1);
+            self.dropped = self.dropped.saturating_add(1);
         }
     }
 
     // Writes the buffered lines. Drops those that were not written completely.
-    fn write_held(&mut self) {
+    fn write_buffered(&mut self) {
         let start = if self.is_cut { 0 } else { 1 };
         let Some(bytes) = self.lines.get(start..) else {
             return;
@@ -102,16 +102,16 @@ impl<L: LogFile> RequestLog<L> {
         }
         let end = start.saturating_add(count).max(1);
         if let Some(rest) = self.lines.get(end..) {
-            self.lost = self.lost.saturating_add(line_ends(rest));
+            self.dropped = self.dropped.saturating_add(line_ends(rest));
         }
     }
 
     /// Writes the buffered lines. Returns how many were dropped since the start.
     pub(crate) fn write(&mut self) -> u64 {
         if !self.lines.is_empty() {
-            self.write_held();
+            self.write_buffered();
             self.lines.clear();
         }
-        self.lost
+        self.dropped
     }
 }

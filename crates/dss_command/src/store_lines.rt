@@ -8,7 +8,7 @@ use std::io;
 use std::io::Write;
 
 /// Prints one line that reports a change of the store's state.
-pub(crate) fn tell_store<E: Write>(news: StoreEvent, error: &mut E) -> io::Result<()>
+pub(crate) fn print_store_event<E: Write>(news: StoreEvent, error: &mut E) -> io::Result<()>
     ensures { OnOk result (Appends (E.contents error.old) (E.contents error.new)
         (store_line news)) }
 {
@@ -22,7 +22,7 @@ pub(crate) fn tell_store<E: Write>(news: StoreEvent, error: &mut E) -> io::Resul
         StoreEvent::StillFailing(count) => {
             writeln!(
                 error,
-                "dss: store: changes are still not kept, {count} faults more"
+                "dss: store: commits still fail: {count} more failures"
             )
         }
         StoreEvent::Recovered(count) => {
@@ -34,7 +34,7 @@ pub(crate) fn tell_store<E: Write>(news: StoreEvent, error: &mut E) -> io::Resul
         StoreEvent::Stopped => {
             writeln!(
                 error,
-                "dss: store: stopped, and no call is answered any more"
+                "dss: store: stopped: the database failed; restart the service"
             )
         }
     }

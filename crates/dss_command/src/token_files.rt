@@ -27,17 +27,17 @@ fn put_lines<W: Write>(lines: &[String], output: &mut W) -> Result<(), Fault>
 }
 
 // Returns how a check of a file with these errors ends.
-fn refuse_mistakes(mistakes: &[TokenFileError]) -> Result<(), Fault>
-    ensures { Judges mistakes.now result }
+fn reject_errors(errors: &[TokenFileError]) -> Result<(), Fault>
+    ensures { Judges errors.now result }
 {
-    match mistakes.first() {
+    match errors.first() {
         Some(mistake) => Err(Fault::Tokens(mistake.fault())),
         None => Ok(()),
     }
 }
 
 /// Prints the errors and warnings of a token file's text, in the lines of `check_tokens`.
-pub fn tell_tokens<E: Write>(alloc: Global, text: &str, error: &mut E) -> Result<(), Fault>
+pub fn print_token_check<E: Write>(alloc: Global, text: &str, error: &mut E) -> Result<(), Fault>
     ensures { IfErr result (λ fault. (fault ≡ Memory) ⊎ (fault ≡ Output)) }
 {
     let Ok(report) = check_token_file(alloc, text) else {
@@ -61,7 +61,7 @@ pub fn check_tokens<W: Write>(
         return Err(Fault::Memory);
     };
     put_lines(report.lines.as_slice(), output)?;
-    refuse_mistakes(report.mistakes.as_slice())?;
+    reject_errors(report.errors.as_slice())?;
     let Ok(line) = report.summary.line(alloc, file) else {
         return Err(Fault::Memory);
     };

@@ -43,7 +43,7 @@ pub fn salt_of(tokens: &TokenTable) -> Result<Salt, Fault>
 }
 
 /// Prints one line that says why a changed token file was not loaded.
-pub fn tell_refusal<E: Write>(fault: TokenReloadFault, error: &mut E) -> io::Result<()>
+pub fn print_reload_fault<E: Write>(fault: TokenReloadFault, error: &mut E) -> io::Result<()>
     ensures { OnOk result (Appends (E.contents error.old) (E.contents error.new)
         (refusal_line fault ++ codes "\n")) }
 {

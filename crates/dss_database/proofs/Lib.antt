@@ -1,4 +1,4 @@
-mod Telling
+mod Reporting
 mod Serving
 mod Copies
-mod Sweeping
+mod Purging

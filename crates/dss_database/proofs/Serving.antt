@@ -12,11 +12,11 @@ use Rattle.service_calls.specs.declared.service.Service.{Service}
 use Rattle.service_calls.specs.Held.{salt_of, space_of}
 use Rattle.service_calls.specs.Batches.{Batch, uncommitted}
 use Rattle.service_calls.specs.Purged.{Segment}
-use Rattle.service_recovery.specs.Crash.{bound_waiting_of}
+use Rattle.service_recovery.specs.Crash.{quota_pending_of}
 use Rattle.service_recovery.specs.InBatches.{ContinuesInBatchesClosed, IsOnlyRead, IsSoundByStore, StartsOver}
 use Rattle.service_recovery.specs.Life.{Continues, run_purged}
 use Rattle.service_recovery.proofs.Crashes.{words_of}
-use Rattle.service_recovery.proofs.Keeping.{without_empty_purged}
+use Rattle.service_recovery.proofs.Persisting.{without_empty_purged}
 use Rattle.service_recovery.proofs.Lives.{content_found}
 use Rattle.space_core.specs.declared.space.Space.{Ghosts}
 use Rattle.space_quota.specs.QuotaSpace.{QuotaModel}
@@ -28,7 +28,7 @@ use Rattle.token_conf.specs.TokenFile.{TokenFile}
 use Rattle.wire_http.specs.declared.moments.Moments as moments
 use Rattle.dss_command.specs.Service.{ServesClients}
 use Rattle.dss_command.specs.declared.fault.Fault.{Fault}
-use Rattle.dss_database.specs.Files.{ClosesServed, EndsClosing, ServesCopied}
+use Rattle.dss_database.specs.Files.{ClosesServed, EndsClosing, ServesMirrored}
 use Rattle.dss_database.specs.Served.{FindsAgain, ServedIsFound}
 
 finds_again : {S T : Type 0} (again : Ghosts (SqlSpaceModel T)) (before after : Image) (old : Service S) (segments : List Segment) (batches : List Batch) → Continues before (run_purged old segments (batches ++ uncommitted [] ∷ [])) after → FindsAgain again before (run_purged old segments batches) after
@@ -42,7 +42,7 @@ work_done P k (Err why) files p ends = absurd (let wrong = ends in cc)
 
 module _ {D T M : Type 0} {g : disk.Ghosts D} (space : Ghosts (QuotaModel (MirroredModel (SqlSpaceModel (FileStore D g))))) (clocks : moments.Ghosts M) (again : Ghosts (SqlSpaceModel T)) (law : ContinuesInBatchesClosed (words_of over_files) space)
     (before after : Image) (gives : List ℕ → Type 0) (keep : Option ℕ) (tokens : TokenFile) (opened new : SqlSpaceModel (FileStore D g)) (clock clock' : M) (done : Result (Unit {0}) Fault) (files : Files D) (finds : FindsSpelt before (words_of over_files) opened)
-    (copied : ServesCopied (words_of over_files) space clocks gives keep tokens opened new clock clock' done) (clients : ServesClients space (bound_waiting_of (words_of over_files)) clocks gives keep tokens copied.first copied.last clock clock') (closes : ClosesFiles new files) (clean : AreClean g files.log files.db) (have : FilesHave g files after) where
+    (copied : ServesMirrored (words_of over_files) space clocks gives keep tokens opened new clock clock' done) (clients : ServesClients space (quota_pending_of (words_of over_files)) clocks gives keep tokens copied.first copied.last clock clock') (closes : ClosesFiles new files) (clean : AreClean g files.log files.db) (have : FilesHave g files after) where
   read : IsOnlyRead (words_of over_files) opened copied.first.space.store
   read = record { sound = copied.reads.sound; whole = copied.reads.whole; no_other = copied.reads.no_other }
 
@@ -61,7 +61,7 @@ module _ {D T M : Type 0} {g : disk.Ghosts D} (space : Ghosts (QuotaModel (Mirro
   closed : ClosesFiles (space_of clients.last).space.store files
   closed = subst (λ (k : SqlSpaceModel (FileStore D g)). ClosesFiles k files) (copied.released ∙ ap (λ (k : QuotaModel (MirroredModel (SqlSpaceModel (FileStore D g)))). k.space.store) clients.ends) closes
 
-  served_found : ServedIsFound space (bound_waiting_of (words_of over_files)) clocks again gives keep tokens clock clock' before after
+  served_found : ServedIsFound space (quota_pending_of (words_of over_files)) clocks again gives keep tokens clock clock' before after
   served_found =
       let both = law before after clients.first clients.serves.last clients.last clients.last clients.serves.segments clients.serves.batches [] files starts clients.serves.segments_made clients.serves.made refl by_store closed clean have in
       record {
@@ -74,7 +74,7 @@ module _ {D T M : Type 0} {g : disk.Ghosts D} (space : Ghosts (QuotaModel (Mirro
 
 pub next_start_finds : {D T M : Type 0} {g : disk.Ghosts D} (space : Ghosts (QuotaModel (MirroredModel (SqlSpaceModel (FileStore D g))))) (clocks : moments.Ghosts M) (again : Ghosts (SqlSpaceModel T))
     → ContinuesInBatchesClosed (words_of over_files) space → (before after : Image) (gives : List ℕ → Type 0) (keep : Option ℕ) (tokens : TokenFile) (opened : SqlSpaceModel (FileStore D g)) (clock clock' : M) (files : Files D) → FindsSpelt before (words_of over_files) opened
-    → ClosesServed (words_of over_files) space clocks gives keep tokens opened clock clock' (Ok files) → AreClean g files.log files.db → FilesHave g files after → ServedIsFound space (bound_waiting_of (words_of over_files)) clocks again gives keep tokens clock clock' before after
+    → ClosesServed (words_of over_files) space clocks gives keep tokens opened clock clock' (Ok files) → AreClean g files.log files.db → FilesHave g files after → ServedIsFound space (quota_pending_of (words_of over_files)) clocks again gives keep tokens clock clock' before after
 next_start_finds space clocks again law before after gives keep tokens opened clock clock' files finds it clean have =
-    let both = work_done (ServesClients space (bound_waiting_of (words_of over_files)) clocks gives keep tokens it.served.first it.served.last clock clock') it.new it.done files it.served.served it.closed in
+    let both = work_done (ServesClients space (quota_pending_of (words_of over_files)) clocks gives keep tokens it.served.first it.served.last clock clock') it.new it.done files it.served.served it.closed in
     served_found space clocks again law before after gives keep tokens opened it.new clock clock' it.done files finds it.served both.0 both.1 clean have

@@ -11,13 +11,13 @@ use Rattle.sqlite.specs.Recovery.{Image}
 use Rattle.sqlite.specs.WalReads.{AreClean}
 use Rattle.entity_core.specs.Airspace.{Airspace}
 use Rattle.entity_purge.specs.Purge.{IsPartlyPurged, purged}
-use Rattle.service_recovery.specs.Crash.{bound_waiting_of}
+use Rattle.service_recovery.specs.Crash.{quota_pending_of}
 use Rattle.service_recovery.specs.Life.{StandFor}
 use Rattle.space_core.specs.declared.space.Space as spaces
 use Rattle.space_core.specs.Space.{Reads}
 use Rattle.space_core.specs.declared.space.SpaceFault.{SpaceFault}
 use Rattle.space_sql_open.specs.declared.open_fault.OpenFault.{OpenFault}
-use Rattle.space_sql_load.specs.Judging.{loaded_airspace}
+use Rattle.space_sql_load.specs.Checking.{loaded_airspace}
 use Rattle.space_sql_load.specs.declared.table_check.LoadedAirspace.{LoadedAirspace}
 use Rattle.space_quota.specs.QuotaSpace.{QuotaModel}
 use Rattle.space_mirror.specs.Mirrored.{MirroredModel, is_pending_in}
@@ -30,9 +30,9 @@ use Rattle.token_conf.specs.TokenFile.{TokenFile}
 use Rattle.wire_http.specs.declared.moments.Moments as moments
 use Rattle.dss_command.specs.Print.{WritesReport, purged_line}
 use Rattle.dss_command.specs.Service.{ServesClients}
-use Rattle.dss_purge.specs.PurgeCounts.{IsLess}
-use Rattle.dss_purge.specs.Sweeping.{PurgesSpace}
-use Rattle.dss_purge.specs.declared.purged.PurgeCounts.{PurgeCounts}
+use Rattle.dss_command.specs.PurgeCounts.{IsLess}
+use Rattle.dss_command.specs.Purging.{PurgesSpace}
+use Rattle.dss_command.specs.declared.purged.PurgeCounts.{PurgeCounts}
 use Rattle.dss_command.specs.Stream.{ServesOver, ServesPartOver}
 use Rattle.dss_command.specs.declared.fault.Fault.{Fault}
 use Rattle.dss_command.specs.declared.fault.Fault.TheVariants.{Database, DatabaseFailed, Memory, Output}
@@ -140,7 +140,7 @@ pub record ServesClosing {D : Type 0} {g : disk.Ghosts D}
 -- read at most once for the mirror. All calls were in batches that have ended, with purges between
 -- them. After a fault some calls were executed, or none. Then the space is returned, without the
 -- mirror.
-pub record ServesCopied {S M : Type 0} (tables : spaces.Ghosts (SqlSpaceModel S))
+pub record ServesMirrored {S M : Type 0} (tables : spaces.Ghosts (SqlSpaceModel S))
     (space : spaces.Ghosts (QuotaModel (MirroredModel (SqlSpaceModel S))))
     (m : moments.Ghosts M) (gives : List ℕ → Type 0) (keep : Option ℕ) (tokens : TokenFile)
     (old new : SqlSpaceModel S) (clock clock' : M) (done : Result (Unit {0}) Fault) : Type 0 where
@@ -151,9 +151,9 @@ pub record ServesCopied {S M : Type 0} (tables : spaces.Ghosts (SqlSpaceModel S)
       (λ a found. loaded_airspace found ≡ a)
   pub calm : is_pending_in first.space ≡ false
   pub served : OnOk done
-      (ServesClients space (bound_waiting_of tables) m gives keep tokens first last clock clock')
+      (ServesClients space (quota_pending_of tables) m gives keep tokens first last clock clock')
   pub part : OnErr done ((last ≡ first) × (clock' ≡ clock)
-      ⊎ ServesClients space (bound_waiting_of tables) m gives keep tokens first last clock clock')
+      ⊎ ServesClients space (quota_pending_of tables) m gives keep tokens first last clock clock')
   pub sound : tables.is_sound last.space.store → space.is_sound last
   pub released : new ≡ last.space.store
 
@@ -165,5 +165,5 @@ pub record ClosesServed {D M : Type 0} {g : disk.Ghosts D}
     (old : SqlSpaceModel (FileStore D g)) (clock clock' : M) (result : Result (Files D) Fault) : Type 0 where
   pub new : SqlSpaceModel (FileStore D g)
   pub done : Result (Unit {0}) Fault
-  pub served : ServesCopied tables space m gives keep tokens old new clock clock' done
+  pub served : ServesMirrored tables space m gives keep tokens old new clock clock' done
   pub closed : EndsClosing done new result

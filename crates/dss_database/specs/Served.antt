@@ -6,7 +6,7 @@ use Rattle.sqlite_store.specs.declared.store.FileStore.{FileStore}
 use Rattle.sqlite.specs.Recovery.{Image}
 use Rattle.sqlite.specs.WalReads.{AreClean}
 use Rattle.entity_core.specs.Airspace.{Airspace}
-use Rattle.service_recovery.specs.Crash.{bound_waiting_of}
+use Rattle.service_recovery.specs.Crash.{quota_pending_of}
 use Rattle.service_recovery.specs.Life.{MayCome, Run, StandFor, run_purged}
 use Rattle.space_core.specs.Space.{IsContent}
 use Rattle.space_core.specs.declared.group_commit.GroupCommit as settles
@@ -55,5 +55,5 @@ NextStartFinds {D} {T} {M} {g} tables space m again gives =
     → FindsSpelt before tables opened
     → ClosesServed tables space m gives keep tokens opened clock clock' (Ok files)
     → AreClean g files.log files.db → FilesHave g files after
-    → ServedIsFound space (bound_waiting_of tables) m again gives keep tokens clock clock' before
+    → ServedIsFound space (quota_pending_of tables) m again gives keep tokens clock clock' before
     after

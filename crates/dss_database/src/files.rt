@@ -11,18 +11,18 @@ ghost use Rattle.dss_command.specs.Stream.{ServesOver, ServesPartOver};
 ghost use Rattle.dss_command.specs.declared.fault.Fault.TheVariants.{DatabaseFailed, Memory, Output};
 ghost use Rattle.dss_database.specs.Files.{ClosesServed, EndsClosing, IsOfDatabase, IsRefusal};
 ghost use Rattle.dss_database.specs.Files.{KeepsAirspace};
-ghost use Rattle.dss_database.specs.Files.{ReportsFiles, ReportsSpace, ServesClosing, ServesCopied};
+ghost use Rattle.dss_database.specs.Files.{ReportsFiles, ReportsSpace, ServesClosing, ServesMirrored};
 ghost use Rattle.dss_database.specs.Files.{PurgesFiles, PurgesPartly, UpgradesFiles};
-ghost use Rattle.dss_purge.specs.Sweeping.{PurgesSpace};
+ghost use Rattle.dss_command.specs.Purging.{PurgesSpace};
 
 use crate::with_mirror::with_mirror;
 use dss_command::clients::{Listen, ServeConfig, serve_port};
 use dss_command::fault::Fault;
 use dss_command::print;
 use dss_command::print::{put_format, put_purged};
+use dss_command::purge::purge_space;
+use dss_command::purged::PurgeCounts;
 use dss_command::stream::serve_stream_over;
-use dss_purge::purge::purge_space;
-use dss_purge::purged::PurgeCounts;
 use dss_server::token_watch::{TokenSource, TokenWatch};
 use entity_core::salt::Salt;
 use space_core::space::{Space, SpaceFault};
@@ -144,16 +144,16 @@ pub fn checkpoint_database<F: Start>(
 }
 
 // Purges tables in some store through a mirror.
-fn purged_by_copy<A: Alter + Drop>(
+fn purged_with_mirror<A: Alter + Drop>(
     alloc: Global,
     space: SqlSpace<A>,
-    listed: Option<LoadedAirspace>,
+    loaded: Option<LoadedAirspace>,
     until: u64,
 ) -> (Result<PurgeCounts, SpaceFault>, SqlSpace<A>)
-    requires { IfSome listed (IsAllOf A.Store space) }
+    requires { IfSome loaded (IsAllOf A.Store space) }
     ensures { PurgesSpace ⟦<SqlSpace<A> as Space>⟧ until space result.1 result.0 }
 {
-    let mut grouped = with_mirror(alloc, space, listed, &mut None);
+    let mut grouped = with_mirror(alloc, space, loaded, &mut None);
     let done = purge_space(&mut grouped, until);
     (done, grouped.into_store())
 }
@@ -175,8 +175,8 @@ pub fn purge<F: Start, W: Write>(
     ensures told { IfErr result (λ fault.
         (IsOfDatabase fault × (output.new ≡ output.old)) ⊎ (fault ≡ Output)) }
 {
-    let (space, listed) = open_database(rt, name, start)?;
-    let (done, space) = purged_by_copy(rt.alloc(), space, listed, until);
+    let (space, loaded) = open_database(rt, name, start)?;
+    let (done, space) = purged_with_mirror(rt.alloc(), space, loaded, until);
     match done {
         Ok(purged) => {
             let files = close_database(Ok(()), space)?;
@@ -228,19 +228,25 @@ pub fn run<F: Start, R: Read, W: Write>(
 }
 
 // Creates a usage table of all USSs, if there is a quota.
-fn tally_of(alloc: Global, most_kept: Option<u32>) -> Option<UsageTable> {
-    match most_kept {
+fn tally_of(alloc: Global, quota: Option<u32>) -> Option<UsageTable> {
+    match quota {
         Some(most) => Some(UsageTable::new(alloc, most)),
         None => None,
     }
 }
 
 // Answers the clients of a port over tables in some store, with a mirror.
-fn served_by_copy<A: Alter + Drop, M: Moments, L: Listen + Drop, T: TokenSource + Drop, E: Write>(
+fn served_with_mirror<
+    A: Alter + Drop,
+    M: Moments,
+    L: Listen + Drop,
+    T: TokenSource + Drop,
+    E: Write,
+>(
     alloc: Global,
     space: SqlSpace<A>,
-    listed: Option<LoadedAirspace>,
-    most_kept: Option<u32>,
+    loaded: Option<LoadedAirspace>,
+    quota: Option<u32>,
     salt: Salt,
     given: ServeConfig<'_>,
     watch: TokenWatch<T>,
@@ -249,15 +255,15 @@ fn served_by_copy<A: Alter + Drop, M: Moments, L: Listen + Drop, T: TokenSource 
     error: &mut E,
 ) -> (Result<(), Fault>, SqlSpace<A>)
     requires salt { salt ≡ salt_of given.tokens.now }
-    requires listed { IfSome listed (IsAllOf A.Store space) }
-    ensures served { ServesCopied ⟦<SqlSpace<A> as Space>⟧
+    requires loaded { IfSome loaded (IsAllOf A.Store space) }
+    ensures served { ServesMirrored ⟦<SqlSpace<A> as Space>⟧
         ⟦<QuotaSpace<Mirrored<SqlSpace<A>>> as Space>⟧ M.Moments T.gives
         given.entry.keep given.entry.tokens.now space result.1 moments.old moments.new result.0 }
     ensures counted { OnOk result.0 (IsSome given.entry.limits.count
         ⊎ IsSome given.entry.operated) }
 {
-    let mut tally = tally_of(alloc, most_kept);
-    let grouped = with_mirror(alloc, space, listed, &mut tally);
+    let mut tally = tally_of(alloc, quota);
+    let grouped = with_mirror(alloc, space, loaded, &mut tally);
     let bounded = QuotaSpace::new(grouped, tally);
     let (done, served) = serve_port(alloc, bounded, salt, given, watch, moments, listener, error);
     let inside = served.into_inner();
@@ -273,8 +279,8 @@ fn served_by_copy<A: Alter + Drop, M: Moments, L: Listen + Drop, T: TokenSource 
 pub fn serve<F: Start, M: Moments, L: Listen + Drop, T: TokenSource + Drop, E: Write>(
     alloc: Global,
     space: SqlSpace<FileStore<FileFrom<F>>>,
-    listed: Option<LoadedAirspace>,
-    most_kept: Option<u32>,
+    loaded: Option<LoadedAirspace>,
+    quota: Option<u32>,
     salt: Salt,
     given: ServeConfig<'_>,
     watch: TokenWatch<T>,
@@ -283,15 +289,15 @@ pub fn serve<F: Start, M: Moments, L: Listen + Drop, T: TokenSource + Drop, E: W
     error: &mut E,
 ) -> Result<Files<FileFrom<F>>, Fault>
     requires salt { salt ≡ salt_of given.tokens.now }
-    requires listed { IfSome listed (IsAllOf over_files space) }
+    requires loaded { IfSome loaded (IsAllOf over_files space) }
     ensures served { ClosesServed ⟦<SqlSpace<FileStore<FileFrom<F>>> as Space>⟧
         ⟦<QuotaSpace<Mirrored<SqlSpace<FileStore<FileFrom<F>>>>> as Space>⟧ M.Moments T.gives
         given.entry.keep given.entry.tokens.now space moments.old moments.new result }
     ensures counted { OnOk result (IsSome given.entry.limits.count
         ⊎ IsSome given.entry.operated) }
 {
-    let (done, space) = served_by_copy(
-        alloc, space, listed, most_kept, salt, given, watch, moments, listener, error,
+    let (done, space) = served_with_mirror(
+        alloc, space, loaded, quota, salt, given, watch, moments, listener, error,
     );
     close_database(done, space)
 }

@@ -2,7 +2,7 @@
 ghost use Rattle.std.specs.Prelude.{◌≡◌, false, IfSome, Result};
 ghost use Rattle.space_core.specs.Space.{Reads, ReportsFault};
 ghost use Rattle.space_core.specs.declared.space.SpaceFault.{SpaceFault};
-ghost use Rattle.space_sql_load.specs.Judging.{loaded_airspace};
+ghost use Rattle.space_sql_load.specs.Checking.{loaded_airspace};
 ghost use Rattle.space_sql_load.specs.declared.table_check.LoadedAirspace.{LoadedAirspace};
 ghost use Rattle.space_mirror.specs.Mirrored.{is_pending_in};
 ghost use Rattle.space_sql.specs.Holding.{holds_of, is_sound_of, is_whole_of};
@@ -35,10 +35,10 @@ fn give_up(tally: &mut Option<UsageTable>) {
 fn with_lists<S: Alter + Drop>(
     alloc: Global,
     space: SqlSpace<S>,
-    listed: LoadedAirspace,
+    loaded: LoadedAirspace,
     tally: &mut Option<UsageTable>,
 ) -> Mirrored<SqlSpace<S>>
-    requires { IsAllOf S.Store space listed }
+    requires { IsAllOf S.Store space loaded }
     ensures same { result.store ≡ space }
     ensures calm { is_pending_in result ≡ false }
     ensures fresh { result.refusals ≡ 0 }
@@ -48,7 +48,7 @@ fn with_lists<S: Alter + Drop>(
         subscriptions,
         availabilities,
         serial,
-    } = listed;
+    } = loaded;
     count(tally, &entities, &subscriptions);
     match MemorySpace::from_parts(alloc, entities, subscriptions, availabilities, serial) {
         Ok(list) => Mirrored::new(alloc, space, list),
@@ -71,7 +71,7 @@ fn read_whole<S: Alter + Drop>(
 {
     let mut space = space;
     match space.load_airspace() {
-        Ok(listed) => with_lists(alloc, space, listed, tally),
+        Ok(loaded) => with_lists(alloc, space, loaded, tally),
         Err(_) => {
             give_up(tally);
             Mirrored::without_mirror(alloc, space)
@@ -86,10 +86,10 @@ fn read_whole<S: Alter + Drop>(
 pub(crate) fn with_mirror<S: Alter + Drop>(
     alloc: Global,
     space: SqlSpace<S>,
-    listed: Option<LoadedAirspace>,
+    loaded: Option<LoadedAirspace>,
     tally: &mut Option<UsageTable>,
 ) -> Mirrored<SqlSpace<S>>
-    requires { IfSome listed (IsAllOf S.Store space) }
+    requires { IfSome loaded (IsAllOf S.Store space) }
     ensures read { (answer : Result LoadedAirspace SpaceFault)
         × ReportsFault space.refusals result.store.refusals space.broken result.store.broken answer
         × Reads (holds_of S.Store) (is_sound_of S.Store) (is_whole_of S.Store) space result.store
@@ -97,8 +97,8 @@ pub(crate) fn with_mirror<S: Alter + Drop>(
     ensures calm { is_pending_in result ≡ false }
     ensures fresh { result.refusals ≡ 0 }
 {
-    match listed {
-        Some(listed) => with_lists(alloc, space, listed, tally),
+    match loaded {
+        Some(loaded) => with_lists(alloc, space, loaded, tally),
         None => read_whole(alloc, space, tally),
     }
 }

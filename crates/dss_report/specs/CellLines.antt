@@ -11,7 +11,7 @@ use Rattle.entity_core.specs.EntityId.{printed}
 use Rattle.entity_core.specs.Search.{all_in}
 use Rattle.entity_core.specs.declared.entity.Entity.{Entity}
 use Rattle.entity_core.specs.declared.nature.Kind.TheVariants.{Constraint, Intent}
-use Rattle.dss_report.specs.Report.{kind_word, state_word}
+use Rattle.dss_report.specs.Report.{kind_text, state_text}
 use Rattle.dss_report.specs.declared.contents.Contents.{Contents}
 
 -- A cell of a volume of an entity.
@@ -34,16 +34,16 @@ abbrev pub places_of : List Entity → List Place
 places_of es = flat_map places_of_entity es
 
 -- The kind, id, manager and state of an entity, separated by spaces.
-abbrev pub place_front : Entity → List ℕ
-place_front e =
-    kind_word (kind_of e.nature)
+abbrev pub cell_prefix : Entity → List ℕ
+cell_prefix e =
+    kind_text (kind_of e.nature)
     ++ (codes " " ++ (printed e.id
     ++ (codes " " ++ (e.manager
-    ++ (codes " " ++ state_word e.nature)))))
+    ++ (codes " " ++ state_text e.nature)))))
 
 -- The lower and upper altitude of a volume in decimetres, its first and last time, and a line end.
-abbrev pub place_bounds : Extent → List ℕ
-place_bounds v =
+abbrev pub volume_text : Extent → List ℕ
+volume_text v =
     signed_decimal v.altitude.0
     ++ (codes " " ++ (signed_decimal v.altitude.1
     ++ (codes " " ++ (decimal v.time.0
@@ -52,7 +52,7 @@ place_bounds v =
 -- Both, with the token of a cell between them.
 abbrev pub place_text : List ℕ → Entity → Extent → List ℕ
 place_text token e v =
-    place_front e ++ (codes " " ++ (token ++ (codes " " ++ place_bounds v)))
+    cell_prefix e ++ (codes " " ++ (token ++ (codes " " ++ volume_text v)))
 
 -- Holds if the text is the line of the cell, with its shortest token.
 abbrev pub IsPlaceLine : List ℕ → Place → Type 0

@@ -28,22 +28,22 @@ right_in width text = spaces (width - length text) ++ text
 
 -- ---- a line
 
-abbrev pub kind_word : Kind → List ℕ
-kind_word kind.Intent = codes "intent"
-kind_word kind.Constraint = codes "constraint"
+abbrev pub kind_text : Kind → List ℕ
+kind_text kind.Intent = codes "intent"
+kind_text kind.Constraint = codes "constraint"
 
 -- The state of an intent; `-` for a constraint.
-abbrev pub state_word : Nature → List ℕ
-state_word (nature.Intent state named) = state_name state
-state_word nature.Constraint = codes "-"
+abbrev pub state_text : Nature → List ℕ
+state_text (nature.Intent state named) = state_name state
+state_text nature.Constraint = codes "-"
 
 -- The kind, id, version and state, separated by spaces.
 abbrev pub front_of : Entity → List ℕ
 front_of e =
-    left_in 10 (kind_word (kind_of e.nature))
+    left_in 10 (kind_text (kind_of e.nature))
     ++ (codes " " ++ (printed e.id
     ++ (codes " " ++ (right_in 10 (decimal e.version)
-    ++ (codes " " ++ left_in 13 (state_word e.nature))))))
+    ++ (codes " " ++ left_in 13 (state_text e.nature))))))
 
 -- The line of an entity: those columns, the first and last time, the manager, and a line end.
 abbrev pub line_of : Entity → List ℕ

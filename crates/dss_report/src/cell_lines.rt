@@ -4,8 +4,8 @@ ghost use Rattle.dss_report.specs.CellLines.{
   AddsPlaces,
   IsPlacesIn,
   IsPlacesOf,
-  place_bounds,
-  place_front,
+  volume_text,
+  cell_prefix,
   place_in,
   place_text,
   places_of,
@@ -16,7 +16,7 @@ ghost use Rattle.dss_report.specs.Reading.{Reports};
 
 use crate::contents::{Contents, read_contents};
 use crate::fault::ReportFault;
-use crate::line::{kind_word, state_word};
+use crate::line::{kind_text, state_text};
 use entity_core::entity::Entity;
 use grid_core::cell::CellId;
 use grid_core::token::token;
@@ -25,19 +25,19 @@ use space_core::space::Space;
 use std::alloc::{AllocError, Global};
 
 // Returns the first columns of the lines of an entity.
-fn place_front(alloc: Global, entity: &Entity) -> Result<String, AllocError>
-    ensures { IfOk result (λ front. string_bytes front ≡ place_front entity.now) }
+fn cell_prefix(alloc: Global, entity: &Entity) -> Result<String, AllocError>
+    ensures { IfOk result (λ front. string_bytes front ≡ cell_prefix entity.now) }
 {
-    let kind = kind_word(entity.nature.kind());
+    let kind = kind_text(entity.nature.kind());
     let id = entity.id.text(alloc)?;
     let manager = entity.manager.text();
-    let state = state_word(entity.nature);
+    let state = state_text(entity.nature);
     format!(in alloc; "{kind} {id} {manager} {state}")
 }
 
 // Returns the last columns of the lines of a volume.
-fn place_bounds(alloc: Global, volume: &Volume) -> Result<String, AllocError>
-    ensures { IfOk result (λ bounds. string_bytes bounds ≡ place_bounds volume.now) }
+fn volume_text(alloc: Global, volume: &Volume) -> Result<String, AllocError>
+    ensures { IfOk result (λ bounds. string_bytes bounds ≡ volume_text volume.now) }
 {
     let altitude = volume.altitude();
     let (lower, upper) = (altitude.0, altitude.1);
@@ -47,7 +47,7 @@ fn place_bounds(alloc: Global, volume: &Volume) -> Result<String, AllocError>
 }
 
 // Returns the line of a cell with this token.
-fn place_line(
+fn cell_line(
     alloc: Global,
     entity: &Entity,
     volume: &Volume,
@@ -56,8 +56,8 @@ fn place_line(
     ensures { IfOk result (λ line. string_bytes line
         ≡ place_text token.now entity.now volume.now) }
 {
-    let front = place_front(alloc, entity)?;
-    let bounds = place_bounds(alloc, volume)?;
+    let front = cell_prefix(alloc, entity)?;
+    let bounds = volume_text(alloc, volume)?;
     format!(in alloc; "{front} {token} {bounds}")
 }
 
@@ -73,7 +73,7 @@ fn put_cell(
         text.old.items text.new.items) }
 {
     let name = token(alloc, cell)?;
-    let line = place_line(alloc, entity, volume, name.as_str())?;
+    let line = cell_line(alloc, entity, volume, name.as_str())?;
     text.extend_from_slice(line.as_bytes())?;
     Ok(())
 }
@@ -116,7 +116,7 @@ fn put_entities(alloc: Global, text: &mut Vec<u8>, entities: &[Entity]) -> Resul
 }
 
 // Returns the text of what a space stores.
-fn text_of_places(alloc: Global, kept: &Contents) -> Result<Vec<u8>, AllocError>
+fn text_of_cells(alloc: Global, kept: &Contents) -> Result<Vec<u8>, AllocError>
     ensures { IfOk result (λ text. IsPlacesIn kept.now text.items) }
 {
     let mut text = Vec::new(alloc);
@@ -138,5 +138,5 @@ pub fn cells_text<S: Space + Drop>(alloc: Global, space: &mut S) -> Result<Vec<u
         Ok(kept) => kept,
         Err(_) => return Err(ReportFault::Space),
     };
-    Ok(text_of_places(alloc, &kept)?)
+    Ok(text_of_cells(alloc, &kept)?)
 }

@@ -2,14 +2,14 @@
 ghost use Rattle.std.specs.Prelude.{◌≡◌, ◌-◌, ◌++◌, IfOk, OnOk, decimal, string_bytes};
 ghost use Rattle.dss_report.specs.Report.{
   front_of,
-  kind_word,
+  kind_text,
   left_in,
   line_of,
   lines_of,
   right_in,
   serial_line,
   spaces,
-  state_word,
+  state_text,
 };
 
 use entity_core::entity::Entity;
@@ -17,8 +17,8 @@ use entity_core::nature::{Kind, Nature};
 use std::alloc::{AllocError, Global};
 
 /// Returns the word of a kind.
-pub(crate) fn kind_word(kind: Kind) -> &'static str
-    ensures { result.now ≡ kind_word kind }
+pub(crate) fn kind_text(kind: Kind) -> &'static str
+    ensures { result.now ≡ kind_text kind }
 {
     match kind {
         Kind::Intent => "intent",
@@ -27,8 +27,8 @@ pub(crate) fn kind_word(kind: Kind) -> &'static str
 }
 
 /// Returns the word of a state: its name, or `-` for a constraint.
-pub(crate) fn state_word(nature: Nature) -> &'static str
-    ensures { result.now ≡ state_word nature }
+pub(crate) fn state_text(nature: Nature) -> &'static str
+    ensures { result.now ≡ state_text nature }
 {
     match nature {
         Nature::Intent(state, _) => state.name(),
@@ -64,10 +64,10 @@ fn right_in(alloc: Global, width: usize, number: u64) -> Result<String, AllocErr
 fn front(alloc: Global, entity: &Entity) -> Result<String, AllocError>
     ensures { IfOk result (λ front. string_bytes front ≡ front_of entity.now) }
 {
-    let kind = left_in(alloc, 10, kind_word(entity.nature.kind()))?;
+    let kind = left_in(alloc, 10, kind_text(entity.nature.kind()))?;
     let id = entity.id.text(alloc)?;
     let version = right_in(alloc, 10, u64::from(entity.version.number()))?;
-    let state = left_in(alloc, 13, state_word(entity.nature))?;
+    let state = left_in(alloc, 13, state_text(entity.nature))?;
     format!(in alloc; "{kind} {id} {version} {state}")
 }
 

@@ -152,11 +152,11 @@ module _ {S M : Type 0} (g : spaces.Ghosts S) (k : settles.Ghosts S) (m : moment
   }
 
   -- A batch of calls is committed.
-  pub serves_batch : (old mid new : Service S) (clock clock' : M) (settled : Result (Unit {0}) SpaceFault) → GoesOn g k m callers old mid clock clock'
-      → IsCommitted g k mid new settled → ServesBy g k m callers old new clock clock'
-  serves_batch old mid new clock clock' settled h is_settled = record {
+  pub serves_batch : (old mid new : Service S) (clock clock' : M) (committed : Result (Unit {0}) SpaceFault) → GoesOn g k m callers old mid clock clock'
+      → IsCommitted g k mid new committed → ServesBy g k m callers old new clock clock'
+  serves_batch old mid new clock clock' committed h is_settled = record {
     all = h.all;
-    batches = record { calls = h.batch; settled = settled } ∷ [];
+    batches = record { calls = h.batch; committed = committed } ∷ [];
     told = h.told;
     requests = h.requests;
     calls = append-nil (map (λ (x : CallRecord). x.timed) h.batch) ∙ h.calls;
@@ -168,20 +168,20 @@ module _ {S M : Type 0} (g : spaces.Ghosts S) (k : settles.Ghosts S) (m : moment
   pub so_far_none : (s : Service S) (clock : M) → ServesSoFar g k m callers s s clock clock
   so_far_none s clock = (s, clock, serves_none s clock, goes_still s clock)
 
-  pub so_far_settled : (old mid new : Service S) (clock clock' : M) (settled : Result (Unit {0}) SpaceFault) → ServesSoFar g k m callers old mid clock clock'
-      → IsCommitted g k mid new settled → ServesBy g k m callers old new clock clock'
-  so_far_settled old mid new clock clock' settled p is_settled =
-      serves_then old p.0 new clock p.1 clock' p.2 (serves_batch p.0 mid new p.1 clock' settled p.3 is_settled)
+  pub so_far_settled : (old mid new : Service S) (clock clock' : M) (committed : Result (Unit {0}) SpaceFault) → ServesSoFar g k m callers old mid clock clock'
+      → IsCommitted g k mid new committed → ServesBy g k m callers old new clock clock'
+  so_far_settled old mid new clock clock' committed p is_settled =
+      serves_then old p.0 new clock p.1 clock' p.2 (serves_batch p.0 mid new p.1 clock' committed p.3 is_settled)
 
   -- A client's turn, after which the batch may have been committed.
   pub so_far_goes_on : (old mid next new : Service S) (clock between clock' : M) → ServesSoFar g k m callers old mid clock between
-      → GoesOn g k m callers mid next between clock' → (new ≡ next) ⊎ ((settled : Result (Unit {0}) SpaceFault) × IsCommitted g k next new settled)
+      → GoesOn g k m callers mid next between clock' → (new ≡ next) ⊎ ((committed : Result (Unit {0}) SpaceFault) × IsCommitted g k next new committed)
       → ServesSoFar g k m callers old new clock clock'
   so_far_goes_on old mid next new clock between clock' p q settles =
       let far : ServesSoFar g k m callers old next clock clock' = (p.0, p.1, p.2, goes_on_then p.0 mid next p.1 between clock' p.3 q) in
       elim settles [
         | inl same ↦ subst (λ (s : Service S). ServesSoFar g k m callers old s clock clock') (sym same) far
-        | inr settled ↦ (new, clock', so_far_settled old next new clock clock' settled.0 far settled.1, goes_still new clock')
+        | inr committed ↦ (new, clock', so_far_settled old next new clock clock' committed.0 far committed.1, goes_still new clock')
       ]
 
   -- Nothing was purged, whatever the clock returned.

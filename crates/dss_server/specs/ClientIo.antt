@@ -6,8 +6,8 @@ use Rattle.service_step.specs.declared.call_fault.CallFault.TheVariants as halts
 use Rattle.service_step.specs.declared.reply.Reply.{Reply}
 use Rattle.space_core.specs.declared.space.SpaceFault.{SpaceFault}
 use Rattle.wire_http.specs.declared.connection.Connection.{Connection}
-use Rattle.wire_http.specs.Connection.{has_ended, held_of, is_done, left_of, output_of, ready_of, slot_of}
-use Rattle.wire_http.specs.Count.{most_requests}
+use Rattle.wire_http.specs.Connection.{has_ended, buffered_of, is_done, left_of, output_of, ready_of, slot_of}
+use Rattle.wire_http.specs.Count.{max_requests}
 use Rattle.wire_http.specs.DeferredResponse.{text_at}
 use Rattle.dss_server.specs.declared.client_io.ReadOutcome.{ReadOutcome}
 use Rattle.dss_server.specs.declared.client_io.ReadOutcome.TheVariants as came
@@ -23,16 +23,16 @@ connection_of link = link.connection
 
 -- Holds if no bytes have arrived and no request was made.
 pub record IsFresh (c : Connection) : Type 0 where
-  pub held : held_of c ≡ []
+  pub held : buffered_of c ≡ []
   pub output : output_of c ≡ []
   pub slot : slot_of c ≡ None
-  pub left : left_of c ≡ most_requests
+  pub left : left_of c ≡ max_requests
   pub ended : has_ended c ≡ false
   pub done : is_done c ≡ false
 
 -- Holds if these bytes arrived and are buffered behind the earlier ones.
 pub record TakesIn (old new : Connection) (bytes : List ℕ) (ended : Bool) : Type 0 where
-  pub held : held_of new ≡ held_of old ++ bytes
+  pub held : buffered_of new ≡ buffered_of old ++ bytes
   pub output : output_of new ≡ output_of old
   pub ready : ready_of new ≡ ready_of old
   pub slot : slot_of new ≡ slot_of old
@@ -42,7 +42,7 @@ pub record TakesIn (old new : Connection) (bytes : List ℕ) (ended : Bool) : Ty
 
 -- Holds if all output may be sent and no byte of it changed.
 pub record ReleasesDeferred (old new : Connection) : Type 0 where
-  pub held : held_of new ≡ held_of old
+  pub held : buffered_of new ≡ buffered_of old
   pub output : output_of new ≡ output_of old
   pub ready : ready_of new ≡ output_of old
   pub slot : slot_of new ≡ None
@@ -59,7 +59,7 @@ ReleasesUnless false old new = ReleasesDeferred old new
 -- sent.
 pub record TellsInstead {E : Type 0} (reply : Reply) (old new : Connection)
     (told : Result (Unit {0}) E) : Type 0 where
-  pub held : held_of new ≡ held_of old
+  pub held : buffered_of new ≡ buffered_of old
   pub output : OnOk told (output_of new ≡ ready_of old ++ text_at (slot_of old) reply)
   pub dropped : OnErr told (output_of new ≡ ready_of old)
   pub ready : ready_of new ≡ output_of new
@@ -98,7 +98,7 @@ module _ {T : Type 0} (coming gone : T → Option (List ℕ)) (old new : ClientI
     pub output : output_of (connection_of new) ≡ drop count (output_of (connection_of old))
     pub ready : ready_of (connection_of new) ≡ drop count (ready_of (connection_of old))
     pub slot : slot_of (connection_of new) ≡ slot_of (connection_of old)
-    pub held : held_of (connection_of new) ≡ held_of (connection_of old)
+    pub held : buffered_of (connection_of new) ≡ buffered_of (connection_of old)
     pub left : left_of (connection_of new) ≡ left_of (connection_of old)
     pub ended : has_ended (connection_of new) ≡ has_ended (connection_of old)
     pub done : is_done (connection_of new) ≡ is_done (connection_of old)

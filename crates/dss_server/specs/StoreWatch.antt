@@ -4,7 +4,7 @@ use Rattle.std.specs.Duration.{as_nanos}
 use Rattle.dss_server.specs.declared.server_log.StoreEvent.{StoreEvent}
 use Rattle.dss_server.specs.declared.server_log.StoreEvent.TheVariants as news
 use Rattle.dss_server.specs.declared.store_watch.CommitOutcome.{CommitOutcome}
-use Rattle.dss_server.specs.declared.store_watch.CommitOutcome.TheVariants as fate
+use Rattle.dss_server.specs.declared.store_watch.CommitOutcome.TheVariants as outcome
 use Rattle.dss_server.specs.declared.store_watch.StoreWatch.{StoreWatch}
 use Rattle.dss_server.specs.declared.purger.PurgeFault.{PurgeFault}
 use Rattle.dss_server.specs.declared.purger.PurgeFault.TheVariants as purge
@@ -14,25 +14,25 @@ use Rattle.space_core.specs.declared.space.SpaceFault.TheVariants as space
 -- The outcome of a batch's changes, given the result of its commit. There is none if the batch had
 -- no changes.
 abbrev pub outcome_of_batch : (waited : Bool) → Result (Unit {0}) SpaceFault → Option CommitOutcome
-outcome_of_batch true (Ok done) = Some fate.Committed
+outcome_of_batch true (Ok done) = Some outcome.Committed
 outcome_of_batch false (Ok done) = None
-outcome_of_batch waited (Err space.Unchanged) = Some fate.RolledBack
-outcome_of_batch waited (Err space.Broken) = Some fate.Unknown
+outcome_of_batch waited (Err space.Unchanged) = Some outcome.RolledBack
+outcome_of_batch waited (Err space.Broken) = Some outcome.Unknown
 
 -- The outcome of a purge chunk, given the number of purged items or the failure.
 abbrev pub outcome_of_purge : Result ℕ PurgeFault → Option CommitOutcome
 outcome_of_purge (Ok zero) = None
-outcome_of_purge (Ok (suc n)) = Some fate.Committed
+outcome_of_purge (Ok (suc n)) = Some outcome.Committed
 outcome_of_purge (Err purge.Clock) = None
 outcome_of_purge (Err (purge.Space space.Unchanged)) = None
-outcome_of_purge (Err (purge.Space space.Broken)) = Some fate.Unknown
+outcome_of_purge (Err (purge.Space space.Broken)) = Some outcome.Unknown
 
 -- Failures since the last commit, and how many of them are not reported yet
 abbrev pub failures_of : StoreWatch → ℕ
 failures_of watch = watch.failures
 
-abbrev pub untold_of : StoreWatch → ℕ
-untold_of watch = watch.untold
+abbrev pub unreported_of : StoreWatch → ℕ
+unreported_of watch = watch.unreported
 
 -- The time until which further failures are not reported, in nanoseconds.
 abbrev pub silent_until : StoreWatch → ℕ

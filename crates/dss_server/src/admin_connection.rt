@@ -1,6 +1,6 @@
 //! One connection to the admin port: one request, one response, and the end. It has no access to
 //! the service.
-use crate::limits::{LAST_CHUNKS, OPERATOR_BYTES, OPERATOR_CHUNK, OPERATOR_STEPS};
+use crate::limits::{ADMIN_CHUNK, ADMIN_REQUEST_BYTES, LAST_CHUNKS, OPERATOR_STEPS};
 use crate::phase::Phase;
 use crate::sockets::{Socket, SocketEvent};
 use admin_http::admin_route::{AdminRequest, AdminRoute};
@@ -19,7 +19,7 @@ use std::time::Duration;
 #[derive(Clone, Copy)]
 pub(crate) struct AdminContext<'a> {
     pub(crate) alloc: Global,
-    pub(crate) figures: &'a ServiceMetrics,
+    pub(crate) metrics: &'a ServiceMetrics,
     pub(crate) build: BuildInfo<'a>,
     /// True if there is a backup directory.
     pub(crate) backs_up: bool,
@@ -108,7 +108,7 @@ impl<T: Socket> AdminConnection<T> {
     }
 
     /// Returns the name of the backup that it requested, once.
-    pub(crate) fn take_wanted(&mut self) -> Option<String> {
+    pub(crate) fn take_requested_backup(&mut self) -> Option<String> {
         self.wanted.take()
     }
 
@@ -152,7 +152,7 @@ impl<T: Socket> AdminConnection<T> {
     fn take_in(
         &mut self,
         bytes: &[u8],
-        board: AdminContext<'_>,
+        admin_context: AdminContext<'_>,
         now: Duration,
     ) -> AdminTurnOutcome {
         if self.held.extend_from_slice(bytes).is_err() {
@@ -164,39 +164,47 @@ impl<T: Socket> AdminConnection<T> {
         let made = match parse_admin_request(self.held.as_slice()) {
             RequestParse::Incomplete => return AdminTurnOutcome::Again,
             RequestParse::Request(AdminRequest::Does(AdminRoute::Backup), query)
-                if board.backs_up => {
+                if admin_context.backs_up => {
                 let Some(name) = name_in(query) else {
-                    return self.give(backup_answer(board.alloc, BackupResult::InvalidName), now);
+                    return self.give(
+                        backup_answer(admin_context.alloc, BackupResult::InvalidName),
+                        now,
+                    );
                 };
-                let Ok(name) = String::from_str(board.alloc, name) else {
+                let Ok(name) = String::from_str(admin_context.alloc, name) else {
                     return AdminTurnOutcome::Gone;
                 };
                 return self.want(name);
             }
             RequestParse::Request(AdminRequest::Does(AdminRoute::Airspace), query) => {
-                airspace_answer(board.alloc, query, board.shown)
+                airspace_answer(admin_context.alloc, query, admin_context.shown)
             }
             RequestParse::Request(asked, _) => {
                 self.stops = asked == AdminRequest::Does(AdminRoute::Stop);
-                answer(board.alloc, asked, board.figures, board.build)
+                answer(
+                    admin_context.alloc,
+                    asked,
+                    admin_context.metrics,
+                    admin_context.build,
+                )
             }
-            RequestParse::Invalid(rule) => refusal(board.alloc, rule),
+            RequestParse::Invalid(rule) => refusal(admin_context.alloc, rule),
         };
         self.give(made, now)
     }
 
     // Reads one chunk of the request.
-    fn receive(&mut self, board: AdminContext<'_>, now: Duration) -> AdminTurnOutcome {
+    fn receive(&mut self, admin_context: AdminContext<'_>, now: Duration) -> AdminTurnOutcome {
         if !self.readable {
             return AdminTurnOutcome::Rests;
         }
-        let mut chunk = [0; OPERATOR_CHUNK];
-        let most = OPERATOR_BYTES
+        let mut chunk = [0; ADMIN_CHUNK];
+        let most = ADMIN_REQUEST_BYTES
             .saturating_sub(self.held.len())
-            .min(OPERATOR_CHUNK);
+            .min(ADMIN_CHUNK);
         match self.socket.receive(&mut chunk[..most]) {
             Ok(0) => AdminTurnOutcome::Gone,
-            Ok(count) => self.take_in(&chunk[..count], board, now),
+            Ok(count) => self.take_in(&chunk[..count], admin_context, now),
             Err(cause) => self.rests_after(cause.kind()),
         }
     }
@@ -253,7 +261,7 @@ impl<T: Socket> AdminConnection<T> {
         if !self.readable {
             return AdminTurnOutcome::Rests;
         }
-        let mut chunk = [0; OPERATOR_CHUNK];
+        let mut chunk = [0; ADMIN_CHUNK];
         match self.socket.receive(&mut chunk) {
             Ok(0) => AdminTurnOutcome::Gone,
             Ok(_) => {
@@ -269,24 +277,28 @@ impl<T: Socket> AdminConnection<T> {
     }
 
     // Makes one step: reads a chunk or sends. Does nothing while it waits for a backup.
-    fn step(&mut self, board: AdminContext<'_>, now: Duration) -> AdminTurnOutcome {
+    fn step(&mut self, admin_context: AdminContext<'_>, now: Duration) -> AdminTurnOutcome {
         if self.waits {
             return AdminTurnOutcome::Rests;
         }
         match self.phase {
-            Phase::Idle | Phase::Sending => self.receive(board, now),
+            Phase::Idle | Phase::Sending => self.receive(admin_context, now),
             Phase::Taking => self.send(now),
             Phase::Ending => self.skip(now),
         }
     }
 
     /// Runs one turn: a few steps.
-    pub(crate) fn turn(&mut self, board: AdminContext<'_>, now: Duration) -> AdminTurnOutcome {
+    pub(crate) fn turn(
+        &mut self,
+        admin_context: AdminContext<'_>,
+        now: Duration,
+    ) -> AdminTurnOutcome {
         if self.reset {
             return AdminTurnOutcome::Gone;
         }
         for _ in 0..OPERATOR_STEPS {
-            match self.step(board, now) {
+            match self.step(admin_context, now) {
                 AdminTurnOutcome::Again => {}
                 AdminTurnOutcome::Rests => return AdminTurnOutcome::Rests,
                 AdminTurnOutcome::Gone => return AdminTurnOutcome::Gone,

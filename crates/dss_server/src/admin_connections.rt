@@ -1,7 +1,7 @@
 //! All connections to the admin port.
 use crate::admin_connection::{AdminConnection, AdminContext, AdminTurnOutcome};
 use crate::backup_job::BackupJob;
-use crate::limits::{FULL, LOOKS, LOOKS_SOON, MOST_OPERATORS};
+use crate::limits::{FULL, LOOKS, LOOKS_SOON, MAX_ADMIN_CONNECTIONS};
 use crate::sockets::{AcceptFault, EventSource, SocketEvent, Sockets};
 use admin_http::backup::BackupResult;
 use slab::Slab;
@@ -25,7 +25,7 @@ pub(crate) struct AdminConnections<N: Sockets> {
 impl<N: Sockets + Drop> AdminConnections<N> {
     /// Creates an empty set. Connections may come only if there is an admin port.
     pub(crate) fn new(alloc: Global, may_come: bool) -> Result<AdminConnections<N>, AllocError> {
-        let room = if may_come { MOST_OPERATORS } else { 0 };
+        let room = if may_come { MAX_ADMIN_CONNECTIONS } else { 0 };
         Ok(AdminConnections {
             alloc,
             all: Slab::with_capacity(alloc, room)?,
@@ -39,12 +39,12 @@ impl<N: Sockets + Drop> AdminConnections<N> {
 
     // Returns true if one more can be accepted, if the system has room for it.
     fn has_room(&self) -> bool {
-        self.waiting && self.all.len() < MOST_OPERATORS
+        self.waiting && self.all.len() < MAX_ADMIN_CONNECTIONS
     }
 
     // Returns true if one of them waits for its client to close.
     fn is_any_ending(&self) -> bool {
-        for key in 0..MOST_OPERATORS {
+        for key in 0..MAX_ADMIN_CONNECTIONS {
             if let Some(operator) = self.all.get(key)
                 && operator.is_ending()
             {
@@ -74,7 +74,7 @@ impl<N: Sockets + Drop> AdminConnections<N> {
 
     /// Returns true if each client that was answered has read its response.
     pub(crate) fn are_served(&self) -> bool {
-        for key in 0..MOST_OPERATORS {
+        for key in 0..MAX_ADMIN_CONNECTIONS {
             if let Some(operator) = self.all.get(key)
                 && operator.is_owed()
             {
@@ -86,7 +86,7 @@ impl<N: Sockets + Drop> AdminConnections<N> {
 
     /// Returns true if there is no connection, and no backup is in progress.
     pub(crate) fn is_idle(&self) -> bool {
-        self.all.is_empty() && !self.backing_up.goes_on()
+        self.all.is_empty() && !self.backing_up.is_running()
     }
 
     /// Returns true if one requested the stop of the service.
@@ -121,7 +121,7 @@ impl<N: Sockets + Drop> AdminConnections<N> {
 
     /// Accepts waiting connections, as far as there is room.
     pub(crate) fn accept(&mut self, sockets: &mut N, now: Duration) {
-        for _ in 0..MOST_OPERATORS {
+        for _ in 0..MAX_ADMIN_CONNECTIONS {
             if !self.has_room() || now < self.full_until {
                 return;
             }
@@ -137,11 +137,11 @@ impl<N: Sockets + Drop> AdminConnections<N> {
     }
 
     // Runs the turn of one connection, and closes the connection if it has ended.
-    fn turn(&mut self, key: usize, board: AdminContext<'_>, now: Duration) {
+    fn turn(&mut self, key: usize, admin_context: AdminContext<'_>, now: Duration) {
         let Some(operator) = self.all.get_mut(key) else {
             return;
         };
-        let moved = operator.turn(board, now);
+        let moved = operator.turn(admin_context, now);
         self.stops = self.stops || operator.stops();
         let is_late = operator.is_late(now);
         if moved == AdminTurnOutcome::Again {
@@ -152,16 +152,21 @@ impl<N: Sockets + Drop> AdminConnections<N> {
     }
 
     /// Runs the turn of each connection, and one step of the requested backup.
-    pub(crate) fn run_once(&mut self, board: AdminContext<'_>, sockets: &mut N, now: Duration) {
+    pub(crate) fn run_once(
+        &mut self,
+        admin_context: AdminContext<'_>,
+        sockets: &mut N,
+        now: Duration,
+    ) {
         self.again = false;
-        for key in 0..MOST_OPERATORS {
-            self.turn(key, board, now);
+        for key in 0..MAX_ADMIN_CONNECTIONS {
+            self.turn(key, admin_context, now);
             self.begin_wanted(key, sockets, now);
         }
         if let Some((key, backup)) = self.backing_up.go_on(sockets.backups()) {
             self.tell(key, backup, now);
         }
-        self.again = self.again || self.backing_up.goes_on();
+        self.again = self.again || self.backing_up.is_running();
     }
 
     // Begins the backup that a connection requested.
@@ -169,7 +174,7 @@ impl<N: Sockets + Drop> AdminConnections<N> {
         let Some(operator) = self.all.get_mut(key) else {
             return;
         };
-        let Some(name) = operator.take_wanted() else {
+        let Some(name) = operator.take_requested_backup() else {
             return;
         };
         let told = self.backing_up.begin(key, name.as_str(), sockets.backups());

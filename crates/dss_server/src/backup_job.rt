@@ -6,18 +6,18 @@ use admin_http::backup::BackupResult;
 #[derive(Drop)]
 pub(crate) struct BackupJob {
     // The key of the connection that requested it.
-    asked_by: Option<usize>,
+    requested_by: Option<usize>,
 }
 
 impl BackupJob {
     /// Creates a job without a backup.
     pub(crate) fn new() -> BackupJob {
-        BackupJob { asked_by: None }
+        BackupJob { requested_by: None }
     }
 
     /// Returns true if a backup is in progress.
-    pub(crate) fn goes_on(&self) -> bool {
-        self.asked_by.is_some()
+    pub(crate) fn is_running(&self) -> bool {
+        self.requested_by.is_some()
     }
 
     /// Begins a backup for the connection under that key. Returns the result at once if the backup
@@ -28,7 +28,7 @@ impl BackupJob {
         name: &str,
         backups: Option<&mut B>,
     ) -> Option<BackupResult> {
-        if self.asked_by.is_some() {
+        if self.requested_by.is_some() {
             return Some(BackupResult::Busy);
         }
         let Some(backups) = backups else {
@@ -36,7 +36,7 @@ impl BackupJob {
         };
         match backups.begin(name) {
             Progress::GoesOn => {
-                self.asked_by = Some(key);
+                self.requested_by = Some(key);
                 None
             }
             Progress::Ended(backup) => Some(backup),
@@ -49,12 +49,12 @@ impl BackupJob {
         &mut self,
         backups: Option<&mut B>,
     ) -> Option<(usize, BackupResult)> {
-        let key = self.asked_by?;
+        let key = self.requested_by?;
         let backups = backups?;
         match backups.go_on() {
             Progress::GoesOn => None,
             Progress::Ended(backup) => {
-                self.asked_by = None;
+                self.requested_by = None;
                 Some((key, backup))
             }
         }
@@ -62,11 +62,11 @@ impl BackupJob {
 
     /// Aborts the backup in progress, because the service ends.
     pub(crate) fn give_up<B: MakeBackups>(&mut self, backups: Option<&mut B>) {
-        if self.asked_by.is_some()
+        if self.requested_by.is_some()
             && let Some(backups) = backups
         {
             backups.give_up();
         }
-        self.asked_by = None;
+        self.requested_by = None;
     }
 }

@@ -23,7 +23,7 @@ pub(crate) enum TurnOutcome {
     /// It waits for its socket.
     Rests,
     /// Its response is deferred until the batch ends.
-    HeldBack,
+    Deferred,
     /// It waits for one of the slots of large requests.
     WantsPlace,
     /// Its connection is to be closed.
@@ -58,8 +58,8 @@ pub(crate) struct ClientConnection<T> {
     // True if no complete request is buffered, so that the socket is read before the next request.
     lacks: bool,
     // True if it has a slot for a large request, and true if it waits for one.
-    has_place: bool,
-    wants_place: bool,
+    has_large_buffer: bool,
+    wants_large_buffer: bool,
     // True if it is queued for its next turn.
     queued: bool,
     // The response prepared in its turn, and the time when the turn began, if the clock returned
@@ -82,8 +82,8 @@ impl<T: Socket> ClientConnection<T> {
             ended: false,
             reset: false,
             lacks: true,
-            has_place: false,
-            wants_place: false,
+            has_large_buffer: false,
+            wants_large_buffer: false,
             queued: false,
             answer: None,
             asked: None,
@@ -130,7 +130,7 @@ impl<T: Socket> ClientConnection<T> {
     /// Returns true if its timeout has passed. A client that waits for its turn, or for a slot, is
     /// never late, because the service keeps it waiting.
     pub(crate) fn is_late(&self, now: Duration) -> bool {
-        !self.queued && !self.wants_place && self.until < now
+        !self.queued && !self.wants_large_buffer && self.until < now
     }
 
     /// Returns true if it waits for the client to close, after its last response.
@@ -139,35 +139,35 @@ impl<T: Socket> ClientConnection<T> {
     }
 
     /// Returns true if it waits for a slot.
-    pub(crate) fn wants_place(&self) -> bool {
-        self.wants_place
+    pub(crate) fn wants_large_buffer(&self) -> bool {
+        self.wants_large_buffer
     }
 
     /// Returns true if it has a slot.
-    pub(crate) fn has_place(&self) -> bool {
-        self.has_place
+    pub(crate) fn has_large_buffer(&self) -> bool {
+        self.has_large_buffer
     }
 
     /// Returns true if it has a slot and no large request.
-    pub(crate) fn can_leave_place(&self) -> bool {
-        self.has_place && self.link.bytes_held() <= SMALL
+    pub(crate) fn can_return_large_buffer(&self) -> bool {
+        self.has_large_buffer && self.link.buffered_bytes() <= SMALL
     }
 
     /// Makes it wait for a slot.
-    pub(crate) fn ask_for_place(&mut self) {
-        self.wants_place = true;
+    pub(crate) fn request_large_buffer(&mut self) {
+        self.wants_large_buffer = true;
     }
 
     /// Gives it a slot, and restarts the timeout of its request.
-    pub(crate) fn take_place(&mut self, now: Duration) {
-        self.has_place = true;
-        self.wants_place = false;
+    pub(crate) fn take_large_buffer(&mut self, now: Duration) {
+        self.has_large_buffer = true;
+        self.wants_large_buffer = false;
         self.wait(Phase::Sending, now);
     }
 
     /// Takes its slot away.
-    pub(crate) fn leave_place(&mut self) {
-        self.has_place = false;
+    pub(crate) fn return_large_buffer(&mut self) {
+        self.has_large_buffer = false;
     }
 
     /// Returns the fault of a client whose timeout has passed. Returns `None` if the client is idle
@@ -187,7 +187,7 @@ impl<T: Socket> ClientConnection<T> {
     }
 
     // Waits for the next request.
-    fn wait_for_request(&mut self, now: Duration) {
+    fn restart_request_timeout(&mut self, now: Duration) {
         if self.link.holds_any() {
             self.wait(Phase::Sending, now);
         } else {
@@ -205,7 +205,7 @@ impl<T: Socket> ClientConnection<T> {
         }
         self.wait(Phase::Ending, now);
         self.readable = true;
-        self.wants_place = false;
+        self.wants_large_buffer = false;
         TurnOutcome::Again
     }
 
@@ -223,7 +223,7 @@ impl<T: Socket> ClientConnection<T> {
     }
 
     /// Takes the response prepared in its turn, so that it is logged once.
-    pub(crate) fn take_answer(&mut self) -> Option<ResponseInfo> {
+    pub(crate) fn take_response(&mut self) -> Option<ResponseInfo> {
         let answer = self.answer;
         self.answer = None;
         answer
@@ -235,7 +235,7 @@ impl<T: Socket> ClientConnection<T> {
     }
 
     /// Sets the time when a turn of it begins.
-    pub(crate) fn set_asked(&mut self, asked: Option<Duration>) {
+    pub(crate) fn set_requested_at(&mut self, asked: Option<Duration>) {
         self.asked = asked;
     }
 
@@ -264,10 +264,10 @@ impl<T: Socket> ClientConnection<T> {
     // Returns how many bytes may be read now.
     fn most(&self) -> usize {
         let room = self.link.room().min(CHUNK);
-        if self.has_place {
+        if self.has_large_buffer {
             return room;
         }
-        room.min(SMALL.saturating_sub(self.link.bytes_held()))
+        room.min(SMALL.saturating_sub(self.link.buffered_bytes()))
     }
 
     // Sends as much of the responses as the socket takes. Each byte taken restarts the timeout.
@@ -325,7 +325,7 @@ impl<T: Socket> ClientConnection<T> {
             if self.link.wants_write() {
                 return Ok(Some(again_if(self.writable)));
             }
-            self.wait_for_request(now);
+            self.restart_request_timeout(now);
         }
         if self.link.is_done() || !self.lacks {
             return Ok(None);
@@ -346,19 +346,19 @@ impl<T: Socket> ClientConnection<T> {
         if self.link.wants_write() {
             return Ok(again_if(self.writable));
         }
-        self.wait_for_request(now);
+        self.restart_request_timeout(now);
         Ok(again_if(self.readable || !self.lacks || self.link.is_done()))
     }
 
     // Answers the next request. Reads one chunk for it if it is not buffered.
     fn serve<S: GroupCommit + Drop, M: Moments>(
         &mut self,
-        desk: RequestContext<'_>,
+        context: RequestContext<'_>,
         service: &mut Service<S>,
         moments: &mut M,
         now: Duration,
     ) -> Result<TurnOutcome, StreamFault>
-        ensures { GoesOn S.Space S.GroupCommit.own M.Moments (callers_of desk.entry.tokens.now)
+        ensures { GoesOn S.Space S.GroupCommit.own M.Moments (callers_of context.entry.tokens.now)
             service.old service.new moments.old moments.new }
     {
         if let Some(turned) = self.prepare(now)? {
@@ -368,9 +368,9 @@ impl<T: Socket> ClientConnection<T> {
             return Ok(self.end(now));
         }
         if self.link.holds_back() {
-            return Ok(TurnOutcome::HeldBack);
+            return Ok(TurnOutcome::Deferred);
         }
-        let step = self.link.ask(desk, service, moments)?;
+        let step = self.link.ask(context, service, moments)?;
         self.lacks = match step {
             Step::NeedsInput => true,
             Step::Answered(left) => left > 0 && !self.link.holds_any(),
@@ -380,7 +380,7 @@ impl<T: Socket> ClientConnection<T> {
             return Ok(again_if(self.readable));
         }
         if self.link.holds_back() {
-            return Ok(TurnOutcome::HeldBack);
+            return Ok(TurnOutcome::Deferred);
         }
         self.answered(now)
     }
@@ -389,12 +389,12 @@ impl<T: Socket> ClientConnection<T> {
     /// request of a client that is known to be gone.
     pub(crate) fn turn<S: GroupCommit + Drop, M: Moments>(
         &mut self,
-        desk: RequestContext<'_>,
+        context: RequestContext<'_>,
         service: &mut Service<S>,
         moments: &mut M,
         now: Duration,
     ) -> TurnOutcome
-        ensures { GoesOn S.Space S.GroupCommit.own M.Moments (callers_of desk.entry.tokens.now)
+        ensures { GoesOn S.Space S.GroupCommit.own M.Moments (callers_of context.entry.tokens.now)
             service.old service.new moments.old moments.new }
     {
         if self.is_ending() {
@@ -403,25 +403,25 @@ impl<T: Socket> ClientConnection<T> {
         if self.reset {
             return TurnOutcome::Failed(StreamFault::Read);
         }
-        match self.serve(desk, service, moments, now) {
+        match self.serve(context, service, moments, now) {
             Ok(turned) => turned,
             Err(fault) => TurnOutcome::Failed(fault),
         }
     }
 
     /// Returns the size of the deferred response in bytes.
-    pub(crate) fn bytes_held_back(&self) -> usize {
-        self.link.bytes_held_back()
+    pub(crate) fn deferred_bytes(&self) -> usize {
+        self.link.deferred_bytes()
     }
 
     /// Completes its turn once the batch has ended: sends its response.
     pub(crate) fn tell(
         &mut self,
         alloc: Global,
-        settled: Result<(), SpaceFault>,
+        committed: Result<(), SpaceFault>,
         now: Duration,
     ) -> TurnOutcome {
-        if self.link.tell(alloc, settled).is_err() {
+        if self.link.tell(alloc, committed).is_err() {
             return TurnOutcome::Failed(StreamFault::Memory);
         }
         match self.answered(now) {

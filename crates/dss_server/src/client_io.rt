@@ -118,7 +118,7 @@ impl<T: Socket> ClientIo<T> {
     ghost use Rattle.std.specs.Prelude.{◌<◌, ◌-◌, ◌↔◌, ◌||◌, false, length, IfOk, IfErr, IsTrue, option_map};
     ghost use Rattle.token_conf.specs.TokenFile.{callers_of};
     ghost use Rattle.service_calls.specs.Held.{Stays, space_of};
-    ghost use Rattle.wire_http.specs.Connection.{held_of, held_back_of, holds_back, is_done, noted_of, ready_of, IsStep, IsStepPart};
+    ghost use Rattle.wire_http.specs.Connection.{buffered_of, deferred_of, holds_back, is_done, noted_of, ready_of, IsStep, IsStepPart};
     ghost use Rattle.wire_http.specs.declared.connection.Connection.{Connection};
     ghost use Rattle.wire_http.specs.BufferState.{max_buffered};
     ghost use Rattle.dss_server.specs.Serve.{GoesOn};
@@ -140,22 +140,22 @@ impl<T: Socket> ClientIo<T> {
     }
 
     /// Returns the number of buffered bytes of requests.
-    pub(crate) fn bytes_held(&self) -> usize
-        ensures { result ≡ length (held_of (connection_of self.now)) }
+    pub(crate) fn buffered_bytes(&self) -> usize
+        ensures { result ≡ length (buffered_of (connection_of self.now)) }
     {
         self.connection.buffered_len()
     }
 
     /// Returns how many more bytes of requests fit the buffer.
     pub(crate) fn room(&self) -> usize
-        ensures { result ≡ max_buffered - length (held_of (connection_of self.now)) }
+        ensures { result ≡ max_buffered - length (buffered_of (connection_of self.now)) }
     {
         self.connection.remaining_capacity()
     }
 
     /// Returns true if bytes are buffered that belong to no earlier request.
     pub(crate) fn holds_any(&self) -> bool
-        ensures { IsTrue result ↔ (0 < length (held_of (connection_of self.now))) }
+        ensures { IsTrue result ↔ (0 < length (buffered_of (connection_of self.now))) }
     {
         self.connection.has_buffered()
     }
@@ -175,8 +175,8 @@ impl<T: Socket> ClientIo<T> {
     }
 
     /// Returns the size of the deferred response in bytes.
-    pub(crate) fn bytes_held_back(&self) -> usize
-        ensures { result ≡ length (held_back_of (connection_of self.now)) }
+    pub(crate) fn deferred_bytes(&self) -> usize
+        ensures { result ≡ length (deferred_of (connection_of self.now)) }
     {
         self.connection.deferred().len()
     }
@@ -252,7 +252,7 @@ impl<T: Socket> ClientIo<T> {
     }
 
     // Releases the last response, unless changes were pending before it or are pending after it.
-    fn let_go_unless(&mut self, waited: bool, waits: bool)
+    fn release_unless(&mut self, waited: bool, waits: bool)
         ensures goes { ReleasesUnless (waited || waits)
             (connection_of self.old) (connection_of self.new) }
         ensures socket { socket_of self.new ≡ socket_of self.old }
@@ -270,31 +270,35 @@ impl<T: Socket> ClientIo<T> {
     /// the response if changes are pending before the call or after it.
     pub(crate) fn ask<S: GroupCommit + Drop, M: Moments>(
         &mut self,
-        desk: RequestContext<'_>,
+        context: RequestContext<'_>,
         service: &mut Service<S>,
         moments: &mut M,
     ) -> Result<Step, StreamFault>
         requires open { is_done (connection_of self.old) ≡ false }
         requires none_back { holds_back (connection_of self.old) ≡ false }
         ensures step { IfOk result (λ step. (c : Connection)
-            × IsStep S.Space M.gives (callers_of desk.entry.tokens.now)
+            × IsStep S.Space M.gives (callers_of context.entry.tokens.now)
             service.old service.new moments.old moments.new (connection_of self.old) c step
             × ReleasesUnless (S.is_pending (space_of service.old) || S.is_pending (space_of service.new))
             c (connection_of self.new)) }
-        ensures part { IfErr result (IsStepPart S.Space M.gives (callers_of desk.entry.tokens.now)
+        ensures part { IfErr result (IsStepPart S.Space M.gives (callers_of context.entry.tokens.now)
             service.old service.new moments.old moments.new
             (connection_of self.old) (connection_of self.new)) }
         ensures socket { socket_of self.new ≡ socket_of self.old }
-        ensures goes_on { GoesOn S.Space S.GroupCommit.own M.Moments (callers_of desk.entry.tokens.now)
+        ensures is_running { GoesOn S.Space S.GroupCommit.own M.Moments (callers_of context.entry.tokens.now)
             service.old service.new moments.old moments.new }
         ensures stays { Stays S.Space service.old service.new }
     {
         let waited = service.has_pending();
-        let step = self
-            .connection
-            .advance(desk.alloc, desk.routes, service, desk.tokens, moments)?;
+        let step = self.connection.advance(
+            context.alloc,
+            context.routes,
+            service,
+            context.tokens,
+            moments,
+        )?;
         let waits = service.has_pending();
-        self.let_go_unless(waited, waits);
+        self.release_unless(waited, waits);
         Ok(step)
     }
 
@@ -303,12 +307,12 @@ impl<T: Socket> ClientIo<T> {
     pub(crate) fn tell(
         &mut self,
         alloc: Global,
-        settled: Result<(), SpaceFault>,
+        committed: Result<(), SpaceFault>,
     ) -> Result<(), AllocError>
-        ensures told { IsAnsweredBy settled (connection_of self.old) (connection_of self.new) result }
+        ensures told { IsAnsweredBy committed (connection_of self.old) (connection_of self.new) result }
         ensures socket { socket_of self.new ≡ socket_of self.old }
     {
-        match settled {
+        match committed {
             Ok(()) => {
                 self.connection.release_deferred();
                 Ok(())

@@ -1,5 +1,5 @@
 //! The clients whose responses are deferred until the batch ends.
-use crate::limits::{HELD_BACK_BYTES, MOST_HELD_BACK};
+use crate::limits::{DEFERRED_BYTES, MAX_DEFERRED};
 use std::alloc::{AllocError, Global};
 use std::collections::VecDeque;
 
@@ -14,7 +14,7 @@ impl DeferredClients {
     /// Creates an empty queue with room for the maximum number of clients.
     pub(crate) fn new(alloc: Global) -> Result<DeferredClients, AllocError> {
         Ok(DeferredClients {
-            keys: VecDeque::with_capacity(alloc, MOST_HELD_BACK)?,
+            keys: VecDeque::with_capacity(alloc, MAX_DEFERRED)?,
             bytes: 0,
         })
     }
@@ -28,7 +28,7 @@ impl DeferredClients {
     /// Returns true if the maximum number of clients waits, or their responses reach the maximum
     /// size.
     pub(crate) fn are_enough(&self) -> bool {
-        self.keys.len() >= MOST_HELD_BACK || self.bytes >= HELD_BACK_BYTES
+        self.keys.len() >= MAX_DEFERRED || self.bytes >= DEFERRED_BYTES
     }
 
     /// Removes and returns the first client.

@@ -9,7 +9,7 @@ use crate::admin_connection::AdminContext;
 use crate::admin_connections::AdminConnections;
 use crate::client_connection::{ClientConnection, TurnOutcome};
 use crate::deferred_clients::DeferredClients;
-use crate::limits::{FULL, LARGE_PLACES, LOOKS, LOOKS_SOON, Limits, MAX_CONNECTIONS, STOPPING};
+use crate::limits::{FULL, LARGE_BUFFERS, LOOKS, LOOKS_SOON, Limits, MAX_CONNECTIONS, STOPPING};
 use crate::purger::Purger;
 use crate::request_context::RequestContext;
 use crate::server_log::{LoggedRequest, ServerLog};
@@ -26,8 +26,8 @@ use admin_http::tokens::TokenMetrics;
 use service_calls::service::Service;
 use slab::Slab;
 use space_core::group_commit::GroupCommit;
+use space_core::purge_ended::PurgeEnded;
 use space_core::space::SpaceFault;
-use space_purge::purge_ended::PurgeEnded;
 use space_snapshot::snapshot::{NoMirror, Snapshot, SnapshotSource};
 use std::alloc::{AllocError, Global};
 use std::collections::VecDeque;
@@ -60,7 +60,7 @@ pub(crate) struct EventLoop<N: Sockets> {
     wanting: VecDeque<usize>,
     places: usize,
     // The clients whose responses are deferred in a batch. Empty after it.
-    held_back: DeferredClients,
+    deferred: DeferredClients,
     // How many connections may still be accepted (if limited), how many were accepted, whether one
     // may wait, and until when the system has no room for it.
     left: Option<u64>,
@@ -72,7 +72,7 @@ pub(crate) struct EventLoop<N: Sockets> {
     looked: Duration,
     // The metrics, the store watch, the purger, the admin port, and the deadline of a requested
     // stop.
-    figures: ServiceMetrics,
+    metrics: ServiceMetrics,
     store: StoreWatch,
     purger: Purger,
     operators: AdminConnections<N>,
@@ -93,7 +93,7 @@ impl<N: Sockets + Drop> EventLoop<N> {
         let next = Vec::with_capacity(alloc, clients)?;
         let spare = Vec::with_capacity(alloc, clients)?;
         let wanting = VecDeque::with_capacity(alloc, clients)?;
-        let held_back = DeferredClients::new(alloc)?;
+        let deferred = DeferredClients::new(alloc)?;
         let operators = AdminConnections::new(alloc, is_operated)?;
         Ok(EventLoop {
             alloc,
@@ -103,15 +103,15 @@ impl<N: Sockets + Drop> EventLoop<N> {
             next,
             spare,
             wanting,
-            places: LARGE_PLACES,
-            held_back,
+            places: LARGE_BUFFERS,
+            deferred,
             left: limits.count,
             accepted: 0,
             waiting: true,
             full_until: Duration::from_millis(0),
             ending: 0,
             looked: Duration::from_millis(0),
-            figures: ServiceMetrics::new(),
+            metrics: ServiceMetrics::new(),
             store: StoreWatch::new(),
             purger: Purger::new(),
             operators,
@@ -140,7 +140,7 @@ impl<N: Sockets + Drop> EventLoop<N> {
     // Returns how long the system may wait for events: at most until the token file is checked, and
     // not at all while a purge is in progress.
     fn patience(&self, now: Duration) -> Duration {
-        if self.purger.goes_on() {
+        if self.purger.is_running() {
             return Duration::from_millis(0);
         }
         let clients = self.patience_for_clients(now);
@@ -208,7 +208,7 @@ impl<N: Sockets + Drop> EventLoop<N> {
             self.left = Some(left.saturating_sub(1));
         }
         self.accepted = self.accepted.saturating_add(1);
-        self.figures.connections.accept();
+        self.metrics.connections.accept();
         let key = self.peers.vacant_key();
         let watched = self.sockets.watch(&mut socket, EventSource::Client(key));
         if watched.is_err()
@@ -217,7 +217,7 @@ impl<N: Sockets + Drop> EventLoop<N> {
                 .insert(ClientConnection::new(self.alloc, socket, self.accepted, now))
                 .is_err()
         {
-            self.figures.connections.refuse();
+            self.metrics.connections.refuse();
         }
     }
 
@@ -243,7 +243,7 @@ impl<N: Sockets + Drop> EventLoop<N> {
     }
 
     // Gives free slots to the clients that wait for one, in the order of their arrival.
-    fn give_places(&mut self, now: Duration) {
+    fn grant_large_buffers(&mut self, now: Duration) {
         for _ in 0..usize::MAX {
             if self.places == 0 {
                 return;
@@ -252,9 +252,9 @@ impl<N: Sockets + Drop> EventLoop<N> {
                 return;
             };
             if let Some(peer) = self.peers.get_mut(key)
-                && peer.wants_place()
+                && peer.wants_large_buffer()
             {
-                peer.take_place(now);
+                peer.take_large_buffer(now);
                 self.places = self.places.saturating_sub(1);
                 self.queue(key);
             }
@@ -262,24 +262,24 @@ impl<N: Sockets + Drop> EventLoop<N> {
     }
 
     // Makes a client wait for a slot. If memory runs out, the client times out.
-    fn ask_for_place(&mut self, key: usize, now: Duration) {
+    fn request_large_buffer(&mut self, key: usize, now: Duration) {
         if let Some(peer) = self.peers.get_mut(key)
-            && !peer.wants_place()
+            && !peer.wants_large_buffer()
             && self.wanting.push_back(key).is_ok()
         {
-            peer.ask_for_place();
+            peer.request_large_buffer();
         }
-        self.give_places(now);
+        self.grant_large_buffers(now);
     }
 
     // Frees the slot of a client that no longer needs it.
-    fn free_place(&mut self, key: usize, now: Duration) {
+    fn free_large_buffer(&mut self, key: usize, now: Duration) {
         if let Some(peer) = self.peers.get_mut(key)
-            && peer.can_leave_place()
+            && peer.can_return_large_buffer()
         {
-            peer.leave_place();
+            peer.return_large_buffer();
             self.places = self.places.saturating_add(1);
-            self.give_places(now);
+            self.grant_large_buffers(now);
         }
     }
 
@@ -291,9 +291,9 @@ impl<N: Sockets + Drop> EventLoop<N> {
         if peer.is_ending() {
             self.ending = self.ending.saturating_sub(1);
         }
-        if peer.has_place() {
+        if peer.has_large_buffer() {
             self.places = self.places.saturating_add(1);
-            self.give_places(now);
+            self.grant_large_buffers(now);
         }
     }
 
@@ -318,8 +318,8 @@ impl<N: Sockets + Drop> EventLoop<N> {
         let Some(peer) = self.peers.get(key) else {
             return TurnOutcome::Gone;
         };
-        if self.held_back.push(key, peer.bytes_held_back()) {
-            TurnOutcome::HeldBack
+        if self.deferred.push(key, peer.deferred_bytes()) {
+            TurnOutcome::Deferred
         } else {
             TurnOutcome::Failed(StreamFault::Memory)
         }
@@ -334,7 +334,7 @@ impl<N: Sockets + Drop> EventLoop<N> {
         journal: &mut J,
     ) {
         let turned = match turned {
-            TurnOutcome::HeldBack => self.hold_back(key),
+            TurnOutcome::Deferred => self.hold_back(key),
             _ => turned,
         };
         let turned = match turned {
@@ -342,7 +342,7 @@ impl<N: Sockets + Drop> EventLoop<N> {
                 if let Some(peer) = self.peers.get(key) {
                     journal.connection_failed(fault, peer.given_up());
                 }
-                self.figures.fail(cause_of(fault));
+                self.metrics.fail(cause_of(fault));
                 self.give_up(key, now)
             }
             TurnOutcome::Rests | TurnOutcome::WantsPlace if self.stopping.is_some() => {
@@ -352,11 +352,11 @@ impl<N: Sockets + Drop> EventLoop<N> {
         };
         match turned {
             TurnOutcome::Again => self.queue(key),
-            TurnOutcome::Rests | TurnOutcome::HeldBack => {}
-            TurnOutcome::WantsPlace => return self.ask_for_place(key, now),
+            TurnOutcome::Rests | TurnOutcome::Deferred => {}
+            TurnOutcome::WantsPlace => return self.request_large_buffer(key, now),
             TurnOutcome::Gone | TurnOutcome::Failed(_) => return self.close(key, now),
         }
-        self.free_place(key, now);
+        self.free_large_buffer(key, now);
     }
 
     // Returns true if a client has its last response.
@@ -385,12 +385,12 @@ impl<N: Sockets + Drop> EventLoop<N> {
         let Some(peer) = self.peers.get_mut(key) else {
             return;
         };
-        if let Some(answer) = peer.take_answer() {
+        if let Some(answer) = peer.take_response() {
             let took = match (peer.asked(), self.sockets.monotonic_time()) {
                 (Some(asked), Ok(told)) => Some(told.saturating_sub(asked)),
                 _ => None,
             };
-            self.figures.requests.note(&ResponseRecord {
+            self.metrics.requests.note(&ResponseRecord {
                 operation: answer.operation,
                 denial: answer.denial(),
                 status: answer.status(),
@@ -414,13 +414,13 @@ impl<N: Sockets + Drop> EventLoop<N> {
     fn turn<S: GroupCommit + Drop, M: Moments, J: ServerLog>(
         &mut self,
         key: usize,
-        desk: RequestContext<'_>,
+        context: RequestContext<'_>,
         service: &mut Service<S>,
         moments: &mut M,
         now: Duration,
         journal: &mut J,
     )
-        ensures { GoesOn S.Space S.GroupCommit.own M.Moments (callers_of desk.entry.tokens.now)
+        ensures { GoesOn S.Space S.GroupCommit.own M.Moments (callers_of context.entry.tokens.now)
             service.old service.new moments.old moments.new }
     {
         let Some(peer) = self.peers.get_mut(key) else {
@@ -428,11 +428,11 @@ impl<N: Sockets + Drop> EventLoop<N> {
         };
         peer.set_queued(false);
         let was_ending = peer.is_ending();
-        peer.set_asked(self.sockets.monotonic_time().ok());
-        let turned = peer.turn(desk, service, moments, now);
+        peer.set_requested_at(self.sockets.monotonic_time().ok());
+        let turned = peer.turn(context, service, moments, now);
         if let Some(answer) = peer.answer() {
-            let fate = outcome_of_change(answer, self.store.is_failing());
-            self.record_commit(fate, now, journal);
+            let outcome = outcome_of_change(answer, self.store.is_failing());
+            self.record_commit(outcome, now, journal);
         }
         self.conclude(key, turned, now, journal);
         self.count_ending(key, was_ending);
@@ -442,7 +442,7 @@ impl<N: Sockets + Drop> EventLoop<N> {
     fn tell<J: ServerLog>(
         &mut self,
         key: usize,
-        settled: Result<(), SpaceFault>,
+        committed: Result<(), SpaceFault>,
         now: Duration,
         journal: &mut J,
     ) {
@@ -450,7 +450,7 @@ impl<N: Sockets + Drop> EventLoop<N> {
             return;
         };
         let was_ending = peer.is_ending();
-        let turned = peer.tell(self.alloc, settled, now);
+        let turned = peer.tell(self.alloc, committed, now);
         self.conclude(key, turned, now, journal);
         self.count_ending(key, was_ending);
     }
@@ -458,24 +458,24 @@ impl<N: Sockets + Drop> EventLoop<N> {
     // Counts the outcome of a commit, and logs a change of the store's state.
     fn record_commit<J: ServerLog>(
         &mut self,
-        fate: Option<CommitOutcome>,
+        outcome: Option<CommitOutcome>,
         now: Duration,
         journal: &mut J,
     ) {
-        let Some(fate) = fate else {
+        let Some(outcome) = outcome else {
             return;
         };
-        let news = match fate {
+        let news = match outcome {
             CommitOutcome::Committed => {
-                self.figures.keep();
+                self.metrics.keep();
                 self.store.keep()
             }
             CommitOutcome::RolledBack => {
-                self.figures.fail_store();
+                self.metrics.fail_store();
                 self.store.fail(now)
             }
             CommitOutcome::Unknown => {
-                self.figures.break_store();
+                self.metrics.break_store();
                 self.store.break_down()
             }
         };
@@ -491,17 +491,17 @@ impl<N: Sockets + Drop> EventLoop<N> {
         now: Duration,
         journal: &mut J,
     )
-        ensures { (settled : Result (Unit {0}) SpaceFault)
-            × IsCommitted S.Space S.GroupCommit.own service.old service.new settled }
+        ensures { (committed : Result (Unit {0}) SpaceFault)
+            × IsCommitted S.Space S.GroupCommit.own service.old service.new committed }
     {
         let waited = service.has_pending();
-        let settled = service.commit();
-        self.record_commit(outcome_of_batch(waited, settled), now, journal);
+        let committed = service.commit();
+        self.record_commit(outcome_of_batch(waited, committed), now, journal);
         for _ in 0..usize::MAX {
-            let Some(key) = self.held_back.pop() else {
+            let Some(key) = self.deferred.pop() else {
                 return;
             };
-            self.tell(key, settled, now, journal);
+            self.tell(key, committed, now, journal);
         }
     }
 
@@ -512,10 +512,10 @@ impl<N: Sockets + Drop> EventLoop<N> {
         now: Duration,
         journal: &mut J,
     )
-        ensures { (service.new ≡ service.old) ⊎ ((settled : Result (Unit {0}) SpaceFault)
-            × IsCommitted S.Space S.GroupCommit.own service.old service.new settled) }
+        ensures { (service.new ≡ service.old) ⊎ ((committed : Result (Unit {0}) SpaceFault)
+            × IsCommitted S.Space S.GroupCommit.own service.old service.new committed) }
     {
-        if !self.held_back.are_enough() {
+        if !self.deferred.are_enough() {
             return;
         }
         self.commit_batch(service, now, journal);
@@ -527,13 +527,13 @@ impl<N: Sockets + Drop> EventLoop<N> {
     /// clients wait, it commits more than once.
     pub(crate) fn run_once<S: GroupCommit + Drop, M: Moments, J: ServerLog>(
         &mut self,
-        desk: RequestContext<'_>,
+        context: RequestContext<'_>,
         service: &mut Service<S>,
         moments: &mut M,
         now: Duration,
         journal: &mut J,
     )
-        ensures { ServesBy S.Space S.GroupCommit.own M.Moments (callers_of desk.entry.tokens.now)
+        ensures { ServesBy S.Space S.GroupCommit.own M.Moments (callers_of context.entry.tokens.now)
             service.old service.new moments.old moments.new }
     {
         if self.next.is_empty() {
@@ -542,7 +542,7 @@ impl<N: Sockets + Drop> EventLoop<N> {
         let spare = mem::replace(&mut self.spare, Vec::new(self.alloc));
         let mut keys = mem::replace(&mut self.next, spare);
         for key in &keys {
-            self.turn(*key, desk, service, moments, now, journal);
+            self.turn(*key, context, service, moments, now, journal);
             self.commit_if_full(service, now, journal);
         }
         self.commit_batch(service, now, journal);
@@ -552,7 +552,7 @@ impl<N: Sockets + Drop> EventLoop<N> {
 
     /// Flushes the log lines of the iteration.
     pub(crate) fn flush_log<J: ServerLog>(&mut self, journal: &mut J) {
-        self.figures.faults.lost_lines = journal.flush();
+        self.metrics.faults.dropped_lines = journal.flush();
     }
 
     /// Purges a chunk of what ended at least `keep` seconds ago, if a purge is due. Without a
@@ -575,8 +575,8 @@ impl<N: Sockets + Drop> EventLoop<N> {
             return;
         };
         match purged {
-            Ok(count) => self.figures.purged.note_gone(count),
-            Err(_) => self.figures.purged.note_fault(),
+            Ok(count) => self.metrics.purged.note_purged(count),
+            Err(_) => self.metrics.purged.note_fault(),
         }
         self.record_commit(outcome_of_purge(purged), now, journal);
     }
@@ -611,11 +611,11 @@ impl<N: Sockets + Drop> EventLoop<N> {
     }
 
     // Returns how many clients wait for a slot.
-    fn waiting_for_places(&self) -> usize {
+    fn waiting_for_buffers(&self) -> usize {
         let mut count = 0_usize;
         for key in &self.wanting {
             if let Some(peer) = self.peers.get(*key)
-                && peer.wants_place()
+                && peer.wants_large_buffer()
             {
                 count = count.saturating_add(1);
             }
@@ -626,7 +626,7 @@ impl<N: Sockets + Drop> EventLoop<N> {
     // Begins the stop: accepts no more clients, and queues a turn for each.
     fn stop(&mut self, now: Duration) {
         self.stopping = Some(now.saturating_add(Duration::from_millis(STOPPING)));
-        self.figures.stop();
+        self.metrics.stop();
         for key in 0..MAX_CONNECTIONS {
             self.queue(key);
         }
@@ -652,7 +652,7 @@ impl<N: Sockets + Drop> EventLoop<N> {
 
     /// Sets the metrics of the token file.
     pub(crate) fn show_tokens(&mut self, tokens: TokenMetrics) {
-        self.figures.tokens = tokens;
+        self.metrics.tokens = tokens;
     }
 
     // Answers the admin port.
@@ -665,17 +665,18 @@ impl<N: Sockets + Drop> EventLoop<N> {
         if self.operators.is_idle() {
             return;
         }
-        self.figures.connections.open = self.peers.len();
-        self.figures.connections.waiting = self.waiting_for_places();
-        self.figures.kept = StoreMetrics::of(shown);
-        let board = AdminContext {
+        self.metrics.connections.open = self.peers.len();
+        self.metrics.connections.waiting = self.waiting_for_buffers();
+        self.metrics.kept = StoreMetrics::of(shown);
+        let admin_context = AdminContext {
             alloc: self.alloc,
-            figures: &self.figures,
+            metrics: &self.metrics,
             build,
             backs_up: self.sockets.backups().is_some(),
             shown,
         };
-        self.operators.run_once(board, &mut self.sockets, now);
+        self.operators
+            .run_once(admin_context, &mut self.sockets, now);
     }
 
     // Answers the admin port. Returns true if a requested stop is complete.

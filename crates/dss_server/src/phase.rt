@@ -1,5 +1,5 @@
 //! The phases of a connection.
-use crate::limits::{ENDING, IDLE, SENDING, TAKING};
+use crate::limits::{CLOSE_TIMEOUT, IDLE_TIMEOUT, REQUEST_TIMEOUT, RESPONSE_TIMEOUT};
 use std::time::Duration;
 
 /// The event that a connection waits for.
@@ -19,10 +19,10 @@ impl Phase {
     /// Returns the timeout of the phase.
     pub(crate) fn patience(self) -> Duration {
         Duration::from_millis(match self {
-            Phase::Idle => IDLE,
-            Phase::Sending => SENDING,
-            Phase::Taking => TAKING,
-            Phase::Ending => ENDING,
+            Phase::Idle => IDLE_TIMEOUT,
+            Phase::Sending => REQUEST_TIMEOUT,
+            Phase::Taking => RESPONSE_TIMEOUT,
+            Phase::Ending => CLOSE_TIMEOUT,
         })
     }
 }

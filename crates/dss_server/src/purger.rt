@@ -3,8 +3,8 @@ ghost use Rattle.std.specs.Prelude.{Some};
 ghost use Rattle.dss_server.specs.Serve.{MayPurge};
 
 use service_calls::service::Service;
+use space_core::purge_ended::PurgeEnded;
 use space_core::space::SpaceFault;
-use space_purge::purge_ended::PurgeEnded;
 use std::mem;
 use std::time::Duration;
 use wire_http::Moments;
@@ -52,7 +52,7 @@ fn chunk<S: PurgeEnded + Drop, M: Moments>(
 #[derive(Clone, Copy, Debug)]
 pub(crate) struct Purger {
     due: Duration,
-    goes_on: bool,
+    is_running: bool,
     // True if the next iteration runs no chunk.
     rests: bool,
 }
@@ -62,14 +62,14 @@ impl Purger {
     pub(crate) fn new() -> Purger {
         Purger {
             due: Duration::from_secs(0),
-            goes_on: false,
+            is_running: false,
             rests: false,
         }
     }
 
     /// Returns true if the last chunk purged something, so that there may be more.
-    pub(crate) fn goes_on(&self) -> bool {
-        self.goes_on
+    pub(crate) fn is_running(&self) -> bool {
+        self.is_running
     }
 
     /// Purges a chunk of what ended at least `keep` seconds ago, if one is due. Returns how many
@@ -88,12 +88,12 @@ impl Purger {
             return None;
         }
         let purged = chunk(keep, service, moments);
-        self.goes_on = match purged {
+        self.is_running = match purged {
             Ok(count) => count > 0,
             Err(_) => false,
         };
-        self.rests = self.goes_on;
-        if !self.goes_on {
+        self.rests = self.is_running;
+        if !self.is_running {
             self.due = now.saturating_add(Duration::from_secs(GAP));
         }
         Some(purged)

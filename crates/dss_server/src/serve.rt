@@ -10,7 +10,7 @@ use crate::sockets::Sockets;
 use crate::token_watch::{TokenSource, TokenWatch};
 use admin_http::build::BuildInfo;
 use service_calls::service::Service;
-use space_purge::purge_ended::PurgeEnded;
+use space_core::purge_ended::PurgeEnded;
 use space_snapshot::snapshot::SnapshotSource;
 use std::alloc::Global;
 use std::io;
@@ -96,12 +96,12 @@ pub fn serve_clients<
         port.accept(now)?;
         newer = watch.look(alloc, tokens, now, journal).or(newer);
         port.show_tokens(watch.tokens());
-        let desk = RequestContext {
+        let context = RequestContext {
             alloc,
             routes,
             tokens: in_force(tokens, &newer),
         };
-        port.run_once(desk, service, moments, now, journal);
+        port.run_once(context, service, moments, now, journal);
         port.flush_log(journal);
         port.purge(keep, service, moments, now, journal);
         port.look(now, journal);

@@ -1,7 +1,7 @@
 //! The state of the store, and when to report it.
 ghost use Rattle.std.specs.Prelude.{◌≡◌, ◌<◌, ◌↔◌, Some, IfSome, IfNone, IsNone, IsTrue, true};
 ghost use Rattle.std.specs.Duration.{as_nanos};
-ghost use Rattle.dss_server.specs.StoreWatch.{failures_of, outcome_of_batch, outcome_of_purge, is_broken, news_of_breaking, news_of_keeping, one_more, silent_until, untold_of};
+ghost use Rattle.dss_server.specs.StoreWatch.{failures_of, outcome_of_batch, outcome_of_purge, is_broken, news_of_breaking, news_of_keeping, one_more, silent_until, unreported_of};
 ghost use Rattle.dss_server.specs.declared.server_log.StoreEvent.TheVariants as news;
 
 use crate::client_io::ResponseInfo;
@@ -26,11 +26,11 @@ pub(crate) enum CommitOutcome {
 /// changes were pending.
 pub(crate) fn outcome_of_batch(
     waited: bool,
-    settled: Result<(), SpaceFault>,
+    committed: Result<(), SpaceFault>,
 ) -> Option<CommitOutcome>
-    ensures { result ≡ outcome_of_batch waited settled }
+    ensures { result ≡ outcome_of_batch waited committed }
 {
-    match settled {
+    match committed {
         Ok(()) if waited => Some(CommitOutcome::Committed),
         Ok(()) => None,
         Err(SpaceFault::Unchanged) => Some(CommitOutcome::RolledBack),
@@ -74,7 +74,7 @@ const SILENCE: u64 = 60;
 pub(crate) struct StoreWatch {
     failures: u64,
     // The number of failures not reported yet, and the time until which none is reported.
-    untold: u64,
+    unreported: u64,
     silent_until: Duration,
     is_broken: bool,
 }
@@ -86,7 +86,7 @@ impl StoreWatch {
     {
         StoreWatch {
             failures: 0,
-            untold: 0,
+            unreported: 0,
             silent_until: Duration::from_secs(0),
             is_broken: false,
         }
@@ -102,9 +102,9 @@ impl StoreWatch {
     // Suppresses reports for a while.
     fn tell(&mut self, now: Duration)
         ensures failures { failures_of self.new ≡ failures_of self.old }
-        ensures untold { untold_of self.new ≡ 0 }
+        ensures unreported { unreported_of self.new ≡ 0 }
     {
-        self.untold = 0;
+        self.unreported = 0;
         self.silent_until = now.saturating_add(Duration::from_secs(SILENCE));
     }
 
@@ -114,11 +114,11 @@ impl StoreWatch {
         ensures counted { failures_of self.new ≡ one_more (failures_of self.old) }
         ensures first { failures_of self.old ≡ 0 → result ≡ Some news.CommitFailed }
         ensures more { 0 < failures_of self.old
-            → IfSome result (λ it. it ≡ news.StillFailing (one_more (untold_of self.old))) }
+            → IfSome result (λ it. it ≡ news.StillFailing (one_more (unreported_of self.old))) }
         ensures silent { 0 < failures_of self.old → as_nanos now < silent_until self.old
             → IsNone result }
-        ensures told { IfSome result (λ it. untold_of self.new ≡ 0) }
-        ensures untold { IfNone result (untold_of self.new ≡ one_more (untold_of self.old)) }
+        ensures told { IfSome result (λ it. unreported_of self.new ≡ 0) }
+        ensures unreported { IfNone result (unreported_of self.new ≡ one_more (unreported_of self.old)) }
     {
         let is_first = !self.is_failing();
         self.failures = self.failures.saturating_add(1);
@@ -126,9 +126,9 @@ impl StoreWatch {
             self.tell(now);
             return Some(StoreEvent::CommitFailed);
         }
-        let count = self.untold.saturating_add(1);
+        let count = self.unreported.saturating_add(1);
         if now < self.silent_until {
-            self.untold = count;
+            self.unreported = count;
             return None;
         }
         self.tell(now);
@@ -145,7 +145,7 @@ impl StoreWatch {
         }
         let failures = self.failures;
         self.failures = 0;
-        self.untold = 0;
+        self.unreported = 0;
         Some(StoreEvent::Recovered(failures))
     }
 

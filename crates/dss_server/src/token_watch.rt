@@ -60,7 +60,7 @@ fn table_of(alloc: Global, text: &str, first: &TokenTable) -> Result<TokenTable,
 pub struct TokenWatch<T: TokenSource> {
     source: T,
     // The bytes that were last checked.
-    judged: Vec<u8>,
+    checked: Vec<u8>,
     looked: Duration,
     // How many times in a row the file could not be read, and whether memory ran out at the last
     // check.
@@ -75,7 +75,7 @@ impl<T: TokenSource> TokenWatch<T> {
     pub fn new(source: T, text: String) -> TokenWatch<T> {
         TokenWatch {
             source,
-            judged: text.into_bytes(),
+            checked: text.into_bytes(),
             looked: Duration::from_millis(0),
             misses: 0,
             is_lacking: false,
@@ -120,21 +120,21 @@ impl<T: TokenSource> TokenWatch<T> {
             }
         };
         self.misses = 0;
-        if bytes == self.judged {
+        if bytes == self.checked {
             return Ok(None);
         }
-        let judged = match str::from_utf8(&bytes) {
+        let checked = match str::from_utf8(&bytes) {
             Ok(text) => table_of(alloc, text, first),
             Err(_) => Err(TokenReloadFault::Unread),
         };
-        match judged {
+        match checked {
             Ok(table) => {
-                self.judged = bytes;
+                self.checked = bytes;
                 Ok(Some(table))
             }
             Err(fault) => {
                 if !is_memory(fault) {
-                    self.judged = bytes;
+                    self.checked = bytes;
                 }
                 Err(fault)
             }

@@ -1,8 +1,8 @@
 pub mod Keys
 pub mod Maps
-pub mod Places
+pub mod Positions
 pub mod EntityLists
-pub mod Told
+pub mod Notified
 pub mod Trees
 pub mod EntityTrees
 pub mod SubscriptionTrees

@@ -56,7 +56,7 @@ fn search_settings(items: &[AvailabilityEntry], uss: &UssId) -> Result<usize, us
 }
 
 // Returns the index of a USS's entry, or as an error the index at which to insert it.
-fn setting_place(items: &[AvailabilityEntry], uss: &UssId) -> Result<usize, usize>
+fn availability_position(items: &[AvailabilityEntry], uss: &UssId) -> Result<usize, usize>
     ensures hit { InOrder items.now → IfOk result (Hit text_cmp pair_of items.now uss.now) }
     ensures gap { InOrder items.now → IfErr result (Gap text_cmp pair_of items.now uss.now) }
 {
@@ -72,7 +72,7 @@ fn find_setting(
         found ≡ find text_cmp uss.now (keyed pair_of items.now)) }
     ensures none { IsNone (find text_cmp uss.now (keyed pair_of items.now)) → IsOk result }
 {
-    match setting_place(items, uss) {
+    match availability_position(items, uss) {
         Ok(i) => Ok(Some(items[i].stated()?)),
         Err(_) => Ok(None),
     }
@@ -85,7 +85,7 @@ fn present(items: &[AvailabilityEntry], uss: &UssId) -> Availability
     ensures { result ≡ (unwrap_or (find text_cmp uss.now (keyed pair_of items.now))
         (Availability.Unknown, [])).0 }
 {
-    match setting_place(items, uss) {
+    match availability_position(items, uss) {
         Ok(i) => items[i].availability,
         Err(_) => Availability::Unknown,
     }
@@ -103,7 +103,7 @@ fn put_setting(
     ensures over { IsSome (find text_cmp setting.uss (keyed pair_of items.old.items))
         → IsOk result }
 {
-    match setting_place(items, &setting.uss) {
+    match availability_position(items, &setting.uss) {
         Ok(i) => {
             items[i] = setting;
             Ok(())

@@ -72,7 +72,7 @@ fn are_rising(ids: &[EntityId]) -> bool
 }
 
 // Notifies the subscription with this id, if it exists.
-fn tell_one(tree: &mut BTreeMap<u128, Sub>, id: EntityId)
+fn notify_one(tree: &mut BTreeMap<u128, Sub>, id: EntityId)
     requires keyed { AreKeyed tree.old.entries }
     requires rises { IfSome (trees.get nat_cmp tree.old id) (λ s. s.index < max_serial) }
     ensures keyed { AreKeyed tree.new.entries }
@@ -85,7 +85,7 @@ fn tell_one(tree: &mut BTreeMap<u128, Sub>, id: EntityId)
 
 // Notifies the subscriptions with these ids, each once. Looks for repeated ids only if the ids are
 // not ascending.
-fn tell_those(tree: &mut BTreeMap<u128, Sub>, ids: &[EntityId])
+fn notify_ids(tree: &mut BTreeMap<u128, Sub>, ids: &[EntityId])
     requires keyed { AreKeyed tree.old.entries }
     requires rises { TreeCanNotify tree.old }
     ensures keyed { AreKeyed tree.new.entries }
@@ -95,7 +95,7 @@ fn tell_those(tree: &mut BTreeMap<u128, Sub>, ids: &[EntityId])
     for i in 0..ids.len() {
         let id = ids[i];
         if rising || !is_among(&ids[..i], id) {
-            tell_one(tree, id);
+            notify_one(tree, id);
         }
     }
 }
@@ -243,7 +243,7 @@ impl Subscriptions {
         ensures { subscription_map self.new
             ≡ notified_where (is_one_of ids.now) (subscription_map self.old) }
     {
-        tell_those(&mut self.tree, ids);
+        notify_ids(&mut self.tree, ids);
     }
 
     /// Puts a subscription, replacing the one with the same id.

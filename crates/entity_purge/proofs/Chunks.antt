@@ -9,7 +9,7 @@ use Rattle.entity_core.specs.declared.entity.Entity.{Entity}
 use Rattle.entity_core.specs.declared.subscription.Sub.{Sub}
 use Rattle.entity_core.proofs.Changes.{stayed, stayed_sub}
 use Rattle.entity_core.proofs.Keys.{key_total, key_exact}
-use Rattle.entity_purge.specs.Purge.{IsPartlyPurged, ChunksMakePurges, PurgedIsPartly, is_due_for_purge, is_due_by, has_ended, has_not_ended, is_named_in, less_entity, less_subscription, retained, retained_subs, sub_has_ended, purged}
+use Rattle.entity_purge.specs.Purge.{IsPartlyPurged, ChunksMakePurges, PurgedIsPartly, is_due_for_purge, is_due_by, has_ended, has_not_ended, is_referenced_in, less_entity, less_subscription, retained, retained_subs, sub_has_ended, purged}
 use Rattle.entity_purge.proofs.Maps.{apart, kept_all, kept_less, kept_was}
 use Rattle.entity_purge.proofs.Purges.{entity_was, found_staying, named_by_one, once_purged, sub_was, purges_join, who_names}
 
@@ -65,27 +65,27 @@ nothing_goes until b lasts stay =
     λ i. record { entities = es i; subscriptions = ss i; availabilities = b.availabilities; serial = b.serial }
 
 -- A subscription that a retained intent references is referenced.
-staying_named : (until : ℕ) (m : Entities) (id : ℕ) → is_named_in (retained until m) id ≡ true → is_named_in m id ≡ true
+staying_named : (until : ℕ) (m : Entities) (id : ℕ) → is_referenced_in (retained until m) id ≡ true → is_referenced_in m id ≡ true
 staying_named until m id h =
     let by = who_names (retained until m) id h in
     let was = kept_was (λ e. not (has_ended until e)) (get m by.0) by.1 (sym (found_staying until m by.0) ∙ by.2) in
     named_by_one m id by.0 by.1 was.0 by.3
 
-unnamed_goes : (until : ℕ) (m : Entities) (id : ℕ) (s : Sub) → sub_has_ended until s ≡ true → is_named_in m id ≡ false → is_due_by until (retained until m) (id, s) ≡ true
+unnamed_goes : (until : ℕ) (m : Entities) (id : ℕ) (s : Sub) → sub_has_ended until s ≡ true → is_referenced_in m id ≡ false → is_due_by until (retained until m) (id, s) ≡ true
 unnamed_goes until m id s ended free =
-    elim (is_named_in (retained until m) id) as (λ b. is_named_in (retained until m) id ≡ b → sub_has_ended until s && not b ≡ true) [
-      | true ↦ λ t. absurd (apart (is_named_in m id) (staying_named until m id t) free)
+    elim (is_referenced_in (retained until m) id) as (λ b. is_referenced_in (retained until m) id ≡ b → sub_has_ended until s && not b ≡ true) [
+      | true ↦ λ t. absurd (apart (is_referenced_in m id) (staying_named until m id t) free)
       | false ↦ λ t. ap (λ (b : Bool). b && true) ended
     ] refl
 
-named_on : (until : ℕ) (m : Entities) (id : ℕ) (s : Sub) → (sub_has_ended until s ≡ true → is_named_in m id ≡ true) → is_due_by until m (id, s) ≡ false
+named_on : (until : ℕ) (m : Entities) (id : ℕ) (s : Sub) → (sub_has_ended until s ≡ true → is_referenced_in m id ≡ true) → is_due_by until m (id, s) ≡ false
 named_on until m id s named =
-    elim (sub_has_ended until s) as (λ b. sub_has_ended until s ≡ b → b && not (is_named_in m id) ≡ false) [
+    elim (sub_has_ended until s) as (λ b. sub_has_ended until s ≡ b → b && not (is_referenced_in m id) ≡ false) [
       | true ↦ λ t. ap not (named t)
       | false ↦ λ t. refl
     ] refl
 
-all_done : (until : ℕ) (b : Airspace) → ((k : EntityKey) (e : Entity) → get b.entities k ≡ Some e → has_ended until e ≡ false) → ((id : ℕ) (s : Sub) → get b.subscriptions id ≡ Some s → sub_has_ended until s ≡ true → is_named_in b.entities id ≡ true) → purged until b ≡ b
+all_done : (until : ℕ) (b : Airspace) → ((k : EntityKey) (e : Entity) → get b.entities k ≡ Some e → has_ended until e ≡ false) → ((id : ℕ) (s : Sub) → get b.subscriptions id ≡ Some s → sub_has_ended until s ≡ true → is_referenced_in b.entities id ≡ true) → purged until b ≡ b
 all_done until b lasts named =
     let es : retained until b.entities ≡ b.entities = kept_all key_total key_exact (has_not_ended until) b.entities (λ k e h. ap not (lasts k e h)) in
     nothing_goes until b lasts (λ id s there. ap (λ (m : Entities). is_due_by until m (id, s)) es ∙ named_on until b.entities id s (named id s there))

@@ -1,4 +1,4 @@
 pub mod Maps
 pub mod Purges
 pub mod Chunks
-pub mod LetGo
+pub mod PurgeItems

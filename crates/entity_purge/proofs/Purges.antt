@@ -13,7 +13,7 @@ use Rattle.entity_core.specs.Search.{is_naming, is_id}
 use Rattle.entity_core.specs.declared.entity.Entity.{Entity}
 use Rattle.entity_core.specs.declared.subscription.Sub.{Sub}
 use Rattle.entity_core.proofs.Keys.{key_total, key_exact}
-use Rattle.entity_purge.specs.Purge.{SameOncePurged, HaveEnded, PurgeIsExact, PurgeKeeps, PurgeKeepsNames, PurgesJoin, EndedIsAll, is_due_for_purge, is_due_by, has_ended, has_not_ended, have_ended, if_kept, is_named_in, retained, retained_subs, sub_has_ended, purged}
+use Rattle.entity_purge.specs.Purge.{SameOncePurged, HaveEnded, PurgeIsExact, PurgeKeeps, PurgeKeepsReferences, PurgesJoin, EndedIsAll, is_due_for_purge, is_due_by, has_ended, has_not_ended, have_ended, if_kept, is_referenced_in, retained, retained_subs, sub_has_ended, purged}
 use Rattle.entity_purge.proofs.Maps.{and_false, apart, both_hold, get_kept, got_some, kept_was, kept_whole, maps_twice, not_back, same_number, some_got, turned_true}
 
 -- ---- what has ended
@@ -94,20 +94,20 @@ purge_keeps until a proper = record {
 
 -- ---- references to a subscription
 
-pub who_names : (m : Entities) (id : ℕ) → is_named_in m id ≡ true → (k : EntityKey) × (e : Entity) × (get m k ≡ Some e) × (is_naming id (k, e) ≡ true)
+pub who_names : (m : Entities) (id : ℕ) → is_referenced_in m id ≡ true → (k : EntityKey) × (e : Entity) × (get m k ≡ Some e) × (is_naming id (k, e) ≡ true)
 who_names m id h = some_got key_total key_exact (is_naming id) m h
 
-pub named_by_one : (m : Entities) (id : ℕ) (k : EntityKey) (e : Entity) → get m k ≡ Some e → is_naming id (k, e) ≡ true → is_named_in m id ≡ true
+pub named_by_one : (m : Entities) (id : ℕ) (k : EntityKey) (e : Entity) → get m k ≡ Some e → is_naming id (k, e) ≡ true → is_referenced_in m id ≡ true
 named_by_one m id k e h t = got_some key_total key_exact (is_naming id) m k e h t
 
 -- A subscription that a retained entity references is not purged.
-pub named_stays : (until : ℕ) (m : Entities) (id : ℕ) (s : Sub) → is_named_in m id ≡ true → is_due_by until m (id, s) ≡ false
+pub named_stays : (until : ℕ) (m : Entities) (id : ℕ) (s : Sub) → is_referenced_in m id ≡ true → is_due_by until m (id, s) ≡ false
 named_stays until m id s h = ap (λ (b : Bool). sub_has_ended until s && not b) h ∙ and_false (sub_has_ended until s)
 
-pub gone_unnamed : (until : ℕ) (m : Entities) (id : ℕ) (s : Sub) → is_due_by until m (id, s) ≡ true → (sub_has_ended until s ≡ true) × (is_named_in m id ≡ false)
+pub gone_unnamed : (until : ℕ) (m : Entities) (id : ℕ) (s : Sub) → is_due_by until m (id, s) ≡ true → (sub_has_ended until s ≡ true) × (is_referenced_in m id ≡ false)
 gone_unnamed until m id s h =
-    let both = both_hold (sub_has_ended until s) (not (is_named_in m id)) h in
-    (both.0, turned_true (is_named_in m id) both.1)
+    let both = both_hold (sub_has_ended until s) (not (is_referenced_in m id)) h in
+    (both.0, turned_true (is_referenced_in m id) both.1)
 
 naming : (id : ℕ) (k : EntityKey) (e : Entity) → subscription_of e.nature ≡ Some id → is_naming id (k, e) ≡ true
 naming id k e h = ap (is_id id) h ∙ same_number id
@@ -115,10 +115,10 @@ naming id k e h = ap (is_id id) h ∙ same_number id
 kept_there : (p : Sub → Bool) (o : Option Sub) → is_some o ≡ true → ((s : Sub) → o ≡ Some s → p s ≡ true) → is_some (if_kept p o) ≡ true
 kept_there p o there passes = ap is_some (kept_whole p o passes) ∙ there
 
-pub purge_keeps_names : PurgeKeepsNames
+pub purge_keeps_names : PurgeKeepsReferences
 purge_keeps_names until a stand k e id h names =
     let m : Entities = retained until a.entities in
-    let named : is_named_in m id ≡ true = named_by_one m id k e h (naming id k e names) in
+    let named : is_referenced_in m id ≡ true = named_by_one m id k e h (naming id k e names) in
     ap is_some (found_subs until m a.subscriptions id)
     ∙ kept_there (λ s. not (is_due_by until m (id, s))) (get a.subscriptions id) (stand k e id (entity_was until a k e h).0 names) (λ s there. ap not (named_stays until m id s named))
 
@@ -135,7 +135,7 @@ pub staying_join : (u v : ℕ) (m : Entities) → u ≤ v → retained v (retain
 staying_join u v m h = maps_twice key_total key_exact (has_not_ended v) (has_not_ended u) m (λ k e there t. stays_since u v k e h t)
 
 -- A subscription that is referenced after a later purge is referenced after an earlier one.
-named_since : (u v : ℕ) (m : Entities) (id : ℕ) → u ≤ v → is_named_in (retained v m) id ≡ true → is_named_in (retained u m) id ≡ true
+named_since : (u v : ℕ) (m : Entities) (id : ℕ) → u ≤ v → is_referenced_in (retained v m) id ≡ true → is_referenced_in (retained u m) id ≡ true
 named_since u v m id h t =
     let by = who_names (retained v m) id t in
     let was = kept_was (λ x. not (has_ended v x)) (get m by.0) by.1 (sym (found_staying v m by.0) ∙ by.2) in
@@ -146,8 +146,8 @@ named_since u v m id h t =
 goes_since : (u v : ℕ) (m : Entities) (id : ℕ) (s : Sub) → u ≤ v → is_due_by u (retained u m) (id, s) ≡ true → is_due_by v (retained v m) (id, s) ≡ true
 goes_since u v m id s h t =
     let gone = gone_unnamed u (retained u m) id s t in
-    elim (is_named_in (retained v m) id) as (λ b. is_named_in (retained v m) id ≡ b → sub_has_ended v s && not b ≡ true) [
-      | true ↦ λ n. absurd (apart (is_named_in (retained u m) id) (named_since u v m id h n) gone.1)
+    elim (is_referenced_in (retained v m) id) as (λ b. is_referenced_in (retained v m) id ≡ b → sub_has_ended v s && not b ≡ true) [
+      | true ↦ λ n. absurd (apart (is_referenced_in (retained u m) id) (named_since u v m id h n) gone.1)
       | false ↦ λ n. ap (λ (b : Bool). b && true) (sub_ended_later u v s h gone.0)
     ] refl
 

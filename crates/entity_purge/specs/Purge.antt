@@ -45,13 +45,13 @@ abbrev pub retained : ℕ → Entities → Entities
 retained until m = kept_where (has_not_ended until) m
 
 -- True if some intent references the subscription with this id.
-abbrev pub is_named_in : Entities → ℕ → Bool
-is_named_in m id = list_any (is_naming id) (entries m)
+abbrev pub is_referenced_in : Entities → ℕ → Bool
+is_referenced_in m id = list_any (is_naming id) (entries m)
 
 -- True if a subscription is purged when these entities are retained: it has ended, and none of them
 -- references it.
 abbrev pub is_due_by : ℕ → Entities → ℕ × Sub → Bool
-is_due_by until m s = sub_has_ended until s.1 && not (is_named_in m s.0)
+is_due_by until m s = sub_has_ended until s.1 && not (is_referenced_in m s.0)
 
 abbrev pub is_due_for_purge : ℕ → Airspace → ℕ × Sub → Bool
 is_due_for_purge until a s = is_due_by until (retained until a.entities) s
@@ -121,13 +121,13 @@ abbrev pub PurgeKeeps : Type 0
 PurgeKeeps = (until : ℕ) (a : Airspace) → IsAirspace a → IsAirspace (purged until a)
 
 -- Holds if each subscription that an intent references exists.
-abbrev pub NamesStand : Airspace → Type 0
-NamesStand a = (k : EntityKey) (e : Entity) (id : ℕ) → get a.entities k ≡ Some e
+abbrev pub ReferencesExist : Airspace → Type 0
+ReferencesExist a = (k : EntityKey) (e : Entity) (id : ℕ) → get a.entities k ≡ Some e
     → subscription_of e.nature ≡ Some id → is_some (get a.subscriptions id) ≡ true
 
--- States that a purge preserves `NamesStand`.
-abbrev pub PurgeKeepsNames : Type 0
-PurgeKeepsNames = (until : ℕ) (a : Airspace) → NamesStand a → NamesStand (purged until a)
+-- States that a purge preserves `ReferencesExist`.
+abbrev pub PurgeKeepsReferences : Type 0
+PurgeKeepsReferences = (until : ℕ) (a : Airspace) → ReferencesExist a → ReferencesExist (purged until a)
 
 -- States that a purge up to a time, followed by one up to the same or a later time, equals the
 -- later one.
@@ -148,12 +148,12 @@ pub record PurgedInChunks (until : ℕ) (a b : Airspace) : Type 0 where
   pub further : (c : Airspace) → IsPartlyPurged until b c → IsPartlyPurged until a c
   -- A subscription that has ended can be purged if no intent references it.
   pub unnamed : (id : ℕ) (s : Sub) → get b.subscriptions id ≡ Some s
-      → sub_has_ended until s ≡ true → is_named_in b.entities id ≡ false
+      → sub_has_ended until s ≡ true → is_referenced_in b.entities id ≡ false
       → IsPartlyPurged until a (less_subscription b id)
   -- The purge is complete if only referenced subscriptions have ended.
   pub done : ((k : EntityKey) (e : Entity) → get b.entities k ≡ Some e → has_ended until e ≡ false)
       → ((id : ℕ) (s : Sub) → get b.subscriptions id ≡ Some s → sub_has_ended until s ≡ true
-      → is_named_in b.entities id ≡ true)
+      → is_referenced_in b.entities id ≡ true)
       → b ≡ purged until a
   pub all : ((k : EntityKey) (e : Entity) → get b.entities k ≡ Some e → has_ended until e ≡ false)
       → ((id : ℕ) (s : Sub) → get b.subscriptions id ≡ Some s → is_due_for_purge until b (id, s) ≡ false)

@@ -7,7 +7,7 @@ use Rattle.entity_core.specs.declared.entity.Entity.{Entity}
 use Rattle.entity_core.specs.declared.subscription.Sub.{Sub}
 use Rattle.entity_purge.specs.declared.purge_item.PurgeItem.{PurgeItem}
 use Rattle.entity_purge.specs.declared.purge_item.PurgeItem.TheVariants as gone
-use Rattle.entity_purge.specs.Purge.{IsPartlyPurged, has_ended, is_named_in, less_entity, less_subscription, sub_has_ended, purged}
+use Rattle.entity_purge.specs.Purge.{IsPartlyPurged, has_ended, is_referenced_in, less_entity, less_subscription, sub_has_ended, purged}
 
 -- The airspace after one item is purged. The serial stays.
 abbrev pub without_item : Airspace → PurgeItem → Airspace
@@ -34,7 +34,7 @@ abbrev pub IsDueForPurge : ℕ → PurgeItem → Airspace → Type 0
 IsDueForPurge until (gone.Entity kind id) a =
     (e : Entity) × (get a.entities (kind, id) ≡ Some e) × (has_ended until e ≡ true)
 IsDueForPurge until (gone.Subscription id) a = (s : Sub) × (get a.subscriptions id ≡ Some s)
-    × (sub_has_ended until s ≡ true) × (is_named_in a.entities id ≡ false)
+    × (sub_has_ended until s ≡ true) × (is_referenced_in a.entities id ≡ false)
 
 -- Holds if each item is due for a purge after the ones before it.
 abbrev pub AreDueForPurge : ℕ → List PurgeItem → Airspace → Type 0

@@ -1,6 +1,6 @@
 //! Laws of a purge. Each is the contract of a function that does nothing.
 ghost use Rattle.entity_purge.specs.PurgeItem.{GoneIsPurged};
-ghost use Rattle.entity_purge.specs.Purge.{EndedIsAll, ChunksMakePurges, PurgeIsExact, PurgeKeeps, PurgeKeepsNames, PurgesJoin, PurgedIsPartly};
+ghost use Rattle.entity_purge.specs.Purge.{EndedIsAll, ChunksMakePurges, PurgeIsExact, PurgeKeeps, PurgeKeepsReferences, PurgesJoin, PurgedIsPartly};
 
 /// States that volumes have ended by a time exactly if each of them has.
 pub fn ended_when_all_volumes_ended()
@@ -20,7 +20,7 @@ pub fn purge_is_exact()
 /// If each referenced subscription existed before the purge, each referenced one exists after it.
 pub fn purge_keeps()
     ensures airspace { PurgeKeeps }
-    ensures names { PurgeKeepsNames }
+    ensures names { PurgeKeepsReferences }
 {}
 
 /// States that two consecutive purges equal the later one.

@@ -3,5 +3,5 @@ pub mod Index
 pub mod Finds
 pub mod Filters
 pub mod Members
-pub mod Veils
+pub mod Redactions
 pub mod Puts

@@ -224,16 +224,16 @@ breaks_ended now op = false
 -- P16 SUBSCRIPTION
 
 -- True if the referenced subscription does not exist or another USS manages it.
-abbrev pub names_wrongly : Option Caller → Option ℕ → Option Sub → Bool
-names_wrongly (Some caller) named sub =
+abbrev pub references_wrongly : Option Caller → Option ℕ → Option Sub → Bool
+references_wrongly (Some caller) named sub =
     is_some named && (is_none sub || is_sub_of_another (Some caller) sub)
-names_wrongly None named sub = false
+references_wrongly None named sub = false
 
 -- Broken if the put of an intent references such a subscription.
 abbrev pub breaks_subscription : Option Caller → Operation → Option Sub → Bool
-breaks_subscription caller (Create id put) sub = names_wrongly caller (subscription_of put.nature) sub
+breaks_subscription caller (Create id put) sub = references_wrongly caller (subscription_of put.nature) sub
 breaks_subscription caller (Update id ovn put) sub =
-    names_wrongly caller (subscription_of put.nature) sub
+    references_wrongly caller (subscription_of put.nature) sub
 breaks_subscription caller op sub = false
 
 -- P17 DEPENDED

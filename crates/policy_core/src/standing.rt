@@ -2,7 +2,7 @@
 ghost use Rattle.std.specs.Prelude.{◌≡◌, find};
 ghost use Rattle.entity_core.specs.IdTexts.{same_text};
 ghost use Rattle.entity_core.specs.Airspace.{Airspace};
-ghost use Rattle.policy_core.specs.Policy.{availability_version, breaks, breaks_given, breaks_found, breaks_fresh, breaks_manager, breaks_version, breaks_role, breaks_change, breaks_ended, breaks_limit, breaks_subscription, breaks_depended, has_another_ovn, has_another_version, has_last_version, is_barred_for, is_barred_from, is_of_another, is_sub_of_another, lacks_interest, lacks_role, may_become, may_turn, names_wrongly, next_states, standing_rules};
+ghost use Rattle.policy_core.specs.Policy.{availability_version, breaks, breaks_given, breaks_found, breaks_fresh, breaks_manager, breaks_version, breaks_role, breaks_change, breaks_ended, breaks_limit, breaks_subscription, breaks_depended, has_another_ovn, has_another_version, has_last_version, is_barred_for, is_barred_from, is_of_another, is_sub_of_another, lacks_interest, lacks_role, may_become, may_turn, references_wrongly, next_states, standing_rules};
 ghost use Rattle.policy_core.specs.Standing.{Regards, lent_entity, lent_facts, lent_stated, lent_sub};
 
 use crate::call::{Call, Operation};
@@ -265,14 +265,14 @@ fn breaks_subscription(call: &Call, sub: Option<&Sub>) -> bool
 {
     match &call.op {
         Operation::Create(_, put) | Operation::Update(_, _, put) => {
-            names_wrongly(&call.caller, put.nature.subscription(), sub)
+            references_wrongly(&call.caller, put.nature.subscription(), sub)
         }
         _ => false,
     }
 }
 
-fn names_wrongly(caller: &Option<Caller>, named: Option<EntityId>, sub: Option<&Sub>) -> bool
-    ensures { result ≡ names_wrongly caller.now named (lent_sub sub.entry) }
+fn references_wrongly(caller: &Option<Caller>, named: Option<EntityId>, sub: Option<&Sub>) -> bool
+    ensures { result ≡ references_wrongly caller.now named (lent_sub sub.entry) }
 {
     match caller {
         Some(_) => named.is_some() && (sub.is_none() || is_sub_of_another(caller, sub)),

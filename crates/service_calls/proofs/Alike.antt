@@ -37,7 +37,7 @@ use Rattle.policy_core.specs.SubView.{sub_view_of}
 use Rattle.policy_core.specs.View.{view_of, view_with}
 use Rattle.policy_core.proofs.Filters.{both_at_once}
 use Rattle.policy_core.proofs.Finds.{or_else, find-append, none_passes}
-use Rattle.policy_core.proofs.Veils.{one_uss, get_like, get_sub_like, under_like, dependents_like, found_like, rules_like}
+use Rattle.policy_core.proofs.Redactions.{one_uss, get_like, get_sub_like, under_like, dependents_like, found_like, rules_like}
 use Rattle.entity_core.proofs.Changes.{entries-told}
 use Rattle.entity_core.proofs.Keys.{key_total, key_exact}
 use Rattle.entity_core.proofs.Entries.{entries-remove}

@@ -38,7 +38,7 @@ use Rattle.service_calls.specs.Stale.{IsNumbered, AllNumbered}
 use Rattle.service_calls.specs.declared.service.Service.{Service}
 use Rattle.service_step.specs.Step.{step, step_by, effect, created, updated, update_effect, delete_effect, read_effect, sub_stored_as, read_sub_effect, update_sub_effect, delete_sub_effect}
 use Rattle.entity_core.proofs.Changes.{got, stayed, proper_with, proper_with_told, proper_without, proper_without_told, proper_stated, proper_sub, proper_without_sub, proper_empty}
-use Rattle.service_step.proofs.Keeps.{told_within}
+use Rattle.service_step.proofs.Preserves.{told_within}
 use Rattle.service_calls.proofs.Kept.{all_found, all_put, all_where, all_turned}
 
 -- ---- the invariant

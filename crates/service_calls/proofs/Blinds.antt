@@ -21,8 +21,8 @@ use Rattle.policy_core.specs.Blind.{redacted, redacted_entry, redacted_sub, reda
 use Rattle.policy_core.specs.Policy.{breaks, early_rules, standing_rules, last_rules, first_broken, breaks_found, breaks_fresh, breaks_manager, breaks_version, breaks_role, breaks_change, breaks_ended, breaks_subscription, breaks_depended, has_another_ovn, has_another_version}
 use Rattle.policy_core.specs.Standing.{depended_of, found_of, stated_of, sub_of}
 use Rattle.policy_core.proofs.Finds.{or_else, find-append}
-use Rattle.policy_core.proofs.Veils.{found_like, under_like, depended_like}
-use Rattle.service_calls.specs.Blind.{AllMadeAlike, replies_to}
+use Rattle.policy_core.proofs.Redactions.{found_like, under_like, depended_like}
+use Rattle.service_calls.specs.Blind.{AllCalledAlike, replies_to}
 use Rattle.service_calls.specs.Run.{TimedCall, replies_of, airspace_after}
 use Rattle.service_step.specs.Step.{step}
 use Rattle.service_calls.proofs.Alike.{last_like, stays_like, own_call}
@@ -190,7 +190,7 @@ others_first m a b t (Some caller) op l k n v =
 
 -- ---- lists of calls
 
-pub run_blind : (salt m : List ℕ) (cs : List TimedCall) (a b : Airspace) → IsLike m a b → AllMadeAlike salt m cs a b
+pub run_blind : (salt m : List ℕ) (cs : List TimedCall) (a b : Airspace) → IsLike m a b → AllCalledAlike salt m cs a b
     → (replies_to m cs (replies_of salt a cs) ≡ replies_to m cs (replies_of salt b cs)) × IsLike m (airspace_after salt a cs) (airspace_after salt b cs)
 run_blind salt m [] a b l h = (refl, l)
 run_blind salt m (c ∷ cs) a b l h =

@@ -1,6 +1,6 @@
 pub mod Outcome
 pub mod Runs
-pub mod Judged
+pub mod Evaluated
 pub mod Alike
 pub mod Blinds
 pub mod Kept
@@ -11,6 +11,6 @@ pub mod Counts
 pub mod Joined
 pub mod InBatches
 pub mod BatchLaws
-pub mod Sweeping
+pub mod Purging
 pub mod Segments
 pub mod SegmentLaws

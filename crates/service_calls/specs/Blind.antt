@@ -9,15 +9,15 @@ use Rattle.service_calls.specs.Run.{TimedCall, replies_of, airspace_after}
 
 -- Holds if a call knows as much in both airspaces. For a call of the USS this is by its key; for a
 -- call of another USS, by its key and its path.
-pub record MadeAlike (m : List ℕ) (c : Call) (a b : Airspace) : Type 0 where
+pub record CalledAlike (m : List ℕ) (c : Call) (a b : Airspace) : Type 0 where
   pub own : is_by m c ≡ true → KnowsTheSame m c a b
   pub others : is_by m c ≡ false → ToldTheSame m c a b
 
 -- Holds if each call of a list knows as much in both airspaces at its time.
-abbrev pub AllMadeAlike : List ℕ → List ℕ → List TimedCall → Airspace → Airspace → Type 0
-AllMadeAlike salt m [] a b = Unit {0}
-AllMadeAlike salt m (c ∷ cs) a b = MadeAlike m c.1 a b
-    × AllMadeAlike salt m cs (step salt a c.0 c.1).0 (step salt b c.0 c.1).0
+abbrev pub AllCalledAlike : List ℕ → List ℕ → List TimedCall → Airspace → Airspace → Type 0
+AllCalledAlike salt m [] a b = Unit {0}
+AllCalledAlike salt m (c ∷ cs) a b = CalledAlike m c.1 a b
+    × AllCalledAlike salt m cs (step salt a c.0 c.1).0 (step salt b c.0 c.1).0
 
 -- The replies to the calls that the USS made.
 abbrev pub replies_to : List ℕ → List TimedCall → List Reply → List Reply
@@ -39,6 +39,6 @@ CallIsBlind = (salt m : List ℕ) (a b : Airspace) (now : ℕ) (c : Call) → Is
 -- airspaces stay alike.
 abbrev pub RunIsBlind : Type 0
 RunIsBlind = (salt m : List ℕ) (cs : List TimedCall) (a b : Airspace) → IsLike m a b
-    → AllMadeAlike salt m cs a b
+    → AllCalledAlike salt m cs a b
     → (replies_to m cs (replies_of salt a cs) ≡ replies_to m cs (replies_of salt b cs))
     × IsLike m (airspace_after salt a cs) (airspace_after salt b cs)

@@ -14,7 +14,7 @@ use Rattle.policy_core.specs.View.{view_of}
 use Rattle.space_core.specs.declared.space.Change.{Change}
 use Rattle.service_step.specs.declared.admitted.Admitted.{Admitted}
 use Rattle.service_step.specs.declared.look_up.OwnedFacts.{OwnedFacts}
-use Rattle.service_step.specs.declared.needed.JudgedPut.{JudgedPut}
+use Rattle.service_step.specs.declared.needed.EvaluatedPut.{EvaluatedPut}
 use Rattle.service_step.specs.declared.reply.Answer.{Answer}
 use Rattle.service_step.specs.Admitted.{BreaksNone}
 use Rattle.service_step.specs.Looks.{AreFacts, IsReady, Makes, facts_in}
@@ -26,14 +26,14 @@ use Rattle.service_calls.specs.declared.decide.Decision.TheVariants as decisions
 -- ---- missing references
 
 -- The references that a put needs of a kind and its key lacks, as the caller sees them.
-abbrev pub missing_kind_by : Kind → Airspace → JudgedPut → List Reference
-missing_kind_by kind a judged =
-    map (view_of a judged.caller.now.uss)
-    (missing_from judged.put.now.key (needed_by kind a judged))
+abbrev pub missing_kind_by : Kind → Airspace → EvaluatedPut → List Reference
+missing_kind_by kind a evaluated =
+    map (view_of a evaluated.caller.now.uss)
+    (missing_from evaluated.put.now.key (needed_by kind a evaluated))
 
-abbrev pub missing_by : Airspace → JudgedPut → Missing
-missing_by a judged =
-    missing_with a judged.caller.now judged.sub.now judged.id judged.put.now
+abbrev pub missing_by : Airspace → EvaluatedPut → Missing
+missing_by a evaluated =
+    missing_with a evaluated.caller.now evaluated.sub.now evaluated.id evaluated.put.now
 
 -- Holds if the references are those that the call needs and its key lacks, given the subscription
 -- that it references.

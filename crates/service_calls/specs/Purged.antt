@@ -32,7 +32,7 @@ LeavesPartly g until a new (Err Broken) = (b : Airspace) → g.holds new b → I
 
 -- Holds if `n` items were purged, at most `most`, and each was due for the purge. The content is
 -- the airspace `a` without them.
-pub record HaveGone {S : Type 0} (g : spaces.Ghosts S) (until most n : ℕ) (a : Airspace) (new : S)
+pub record ArePurged {S : Type 0} (g : spaces.Ghosts S) (until most n : ℕ) (a : Airspace) (new : S)
     : Type 0 where
   pub gone : List PurgeItem
   pub count : length gone ≡ n
@@ -56,7 +56,7 @@ module _ {S : Type 0} (g : spaces.Ghosts S) (k : settles.Ghosts S) where
     pub left : g.is_sound (space_of new) → (a : Airspace) → IsContent g.holds (space_of old) a
         → LeavesPartly g until a (space_of new) result
     pub gone : g.is_sound (space_of new) → (a : Airspace) → IsContent g.holds (space_of old) a
-        → IfOk result (λ n. HaveGone g until most n a (space_of new))
+        → IfOk result (λ n. ArePurged g until most n a (space_of new))
     pub last : g.is_sound (space_of new) → IfOk result (λ n. n ≡ 0 → 0 < most
         → (a : Airspace) → g.holds (space_of new) a → IsPurgedAlready until a)
 

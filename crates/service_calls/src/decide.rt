@@ -20,7 +20,7 @@ use policy_core::standing::standing;
 use service_step::admitted::Admitted;
 use service_step::call_fault::CallFault;
 use service_step::look_up::{OwnedFacts, look_up};
-use service_step::needed::{JudgedPut, missing_from, needed_with};
+use service_step::needed::{EvaluatedPut, missing_from, needed_with};
 use space_core::space::{Space, SpaceFault};
 use std::alloc::Global;
 
@@ -45,13 +45,13 @@ fn missing_for<S: Space>(
 {
     match &admitted.call.op {
         Operation::Create(id, put) | Operation::Update(id, _, put) => {
-            let judged = JudgedPut {
+            let evaluated = EvaluatedPut {
                 id: *id,
                 put,
                 sub,
                 caller: admitted.caller,
             };
-            missing_with(space, alloc, &judged)
+            missing_with(space, alloc, &evaluated)
         }
         _ => Ok(Missing::empty(alloc)),
     }
@@ -61,29 +61,29 @@ fn missing_for<S: Space>(
 fn missing_with<S: Space>(
     space: &mut S,
     alloc: Global,
-    judged: &JudgedPut<'_>,
+    evaluated: &EvaluatedPut<'_>,
 ) -> Result<Missing, CallFault>
     ensures { LooksUp S.Space space.old space.new result
-        (λ a missing. missing ≡ missing_by a judged.now) }
+        (λ a missing. missing ≡ missing_by a evaluated.now) }
 {
-    if !needs_key(judged.put.nature) {
+    if !needs_key(evaluated.put.nature) {
         return Ok(Missing::empty(alloc));
     }
-    missing_kinds(space, alloc, judged)
+    missing_kinds(space, alloc, evaluated)
 }
 
 // Returns the missing references of both kinds.
 fn missing_kinds<S: Space>(
     space: &mut S,
     alloc: Global,
-    judged: &JudgedPut<'_>,
+    evaluated: &EvaluatedPut<'_>,
 ) -> Result<Missing, CallFault>
     ensures { LooksUp S.Space space.old space.new result
-        (λ a missing. missing ≡ missing_by a judged.now) }
+        (λ a missing. missing ≡ missing_by a evaluated.now) }
 {
-    let areas = judged.put.volumes.areas(alloc)?;
-    let intents = missing_kind(space, alloc, Kind::Intent, judged, &areas)?;
-    let constraints = missing_kind(space, alloc, Kind::Constraint, judged, &areas)?;
+    let areas = evaluated.put.volumes.areas(alloc)?;
+    let intents = missing_kind(space, alloc, Kind::Intent, evaluated, &areas)?;
+    let constraints = missing_kind(space, alloc, Kind::Constraint, evaluated, &areas)?;
     Ok(Missing {
         intents,
         constraints,
@@ -95,15 +95,20 @@ fn missing_kind<S: Space>(
     space: &mut S,
     alloc: Global,
     kind: Kind,
-    judged: &JudgedPut<'_>,
+    evaluated: &EvaluatedPut<'_>,
     areas: &[Area],
 ) -> Result<References, CallFault>
-    requires areas { areas.now ≡ map region_of judged.now.put.now.volumes }
+    requires areas { areas.now ≡ map region_of evaluated.now.put.now.volumes }
     ensures { LooksUp S.Space space.old space.new result
-        (λ a references. references ≡ missing_kind_by kind a judged.now) }
+        (λ a references. references ≡ missing_kind_by kind a evaluated.now) }
 {
-    let needed = needed_with(space, alloc, kind, judged, areas)?;
-    Ok(missing_from(alloc, &judged.caller.uss, judged.put.key.items(), &needed)?)
+    let needed = needed_with(space, alloc, kind, evaluated, areas)?;
+    Ok(missing_from(
+        alloc,
+        &evaluated.caller.uss,
+        evaluated.put.key.items(),
+        &needed,
+    )?)
 }
 
 // Returns true if P14 KEY is broken.
@@ -114,7 +119,7 @@ fn breaks_key(missing: &Missing) -> bool
 }
 
 // Returns the first broken stateful rule, and the missing references.
-fn judge<S: Space>(
+fn evaluate<S: Space>(
     space: &mut S,
     alloc: Global,
     admitted: &Admitted<'_>,
@@ -141,10 +146,10 @@ fn judge<S: Space>(
     Ok(None)
 }
 
-fn decision_of(facts: OwnedFacts, judged: Option<(Rule, Missing)>) -> Decision
-    ensures { result ≡ decision_of facts judged }
+fn decision_of(facts: OwnedFacts, evaluated: Option<(Rule, Missing)>) -> Decision
+    ensures { result ≡ decision_of facts evaluated }
 {
-    match judged {
+    match evaluated {
         Some((broken, missing)) => Decision::Refused(broken, missing),
         None => Decision::Allowed(facts),
     }
@@ -167,6 +172,6 @@ pub fn decide<S: Space>(
         → IsErrOf result (CallFault.Space SpaceFault.Broken) }
 {
     let facts = look_up(space, &admitted.call.op)?;
-    let judged = judge(space, alloc, admitted, &facts)?;
-    Ok(decision_of(facts, judged))
+    let evaluated = evaluate(space, alloc, admitted, &facts)?;
+    Ok(decision_of(facts, evaluated))
 }

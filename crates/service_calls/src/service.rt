@@ -14,7 +14,7 @@ ghost use Rattle.service_calls.specs.Run.{Answered, IsReplyTo};
 ghost use Rattle.service_calls.specs.FromEmpty.{RunIsAware, RunIsCounted, RunIsNumbered};
 ghost use Rattle.service_calls.specs.Stale.{RefusesStale};
 ghost use Rattle.service_calls.specs.Held.{space_of, salt_of, is_shut, with_space};
-ghost use Rattle.service_calls.specs.Purged.{HaveGone, LeavesPartly};
+ghost use Rattle.service_calls.specs.Purged.{ArePurged, LeavesPartly};
 
 use crate::decide::{Decision, decide};
 use entity_core::salt::Salt;
@@ -29,12 +29,12 @@ use service_step::look_up::OwnedFacts;
 use service_step::prepared::Prepared;
 use service_step::reply::{Answer, Reply};
 use space_core::group_commit::GroupCommit;
+use space_core::purge_ended::PurgeEnded;
 use space_core::space::{Change, Space, SpaceFault};
-use space_purge::purge_ended::PurgeEnded;
 use std::alloc::{AllocError, Global};
 
 // Returns the reply to an aborted call.
-fn gave_up(halt: CallFault) -> Reply
+fn reply_to_fault(halt: CallFault) -> Reply
     ensures { result ≡ reply_of halt }
 {
     match halt {
@@ -53,7 +53,7 @@ fn answer_admitted<S: Space>(space: &mut S, alloc: Global, admitted: &Admitted<'
     match decide(space, alloc, admitted) {
         Ok(Decision::Refused(broken, missing)) => Reply::Denied(broken, missing),
         Ok(Decision::Allowed(facts)) => answer_allowed(space, alloc, admitted, &facts),
-        Err(halt) => gave_up(halt),
+        Err(halt) => reply_to_fault(halt),
     }
 }
 
@@ -76,7 +76,7 @@ fn answer_allowed<S: Space>(
         answer,
     } = match prepare(space, alloc, admitted, facts) {
         Ok(made) => made,
-        Err(halt) => return gave_up(halt),
+        Err(halt) => return reply_to_fault(halt),
     };
     match change {
         Some(change) => answer_changed(space, admitted, change, &notify, answer),
@@ -100,7 +100,7 @@ fn answer_changed<S: Space>(
     let _admitted = admitted;
     match space.apply(change, notify.items()) {
         Ok(()) => Reply::Done(answer),
-        Err(fault) => gave_up(CallFault::Space(fault)),
+        Err(fault) => reply_to_fault(CallFault::Space(fault)),
     }
 }
 
@@ -113,7 +113,7 @@ fn purged<S: PurgeEnded>(space: &mut S, until: u64, most: usize) -> Result<usize
     ensures left { S.is_sound space.new → (a : Airspace) → IsContent S.holds space.old a
         → LeavesPartly S.Space until a space.new result }
     ensures gone { S.is_sound space.new → (a : Airspace) → IsContent S.holds space.old a
-        → IfOk result (λ n. HaveGone S.Space until most n a space.new) }
+        → IfOk result (λ n. ArePurged S.Space until most n a space.new) }
     ensures last { S.is_sound space.new → IfOk result (λ n. n ≡ 0 → 0 < most
         → (a : Airspace) → S.holds space.new a → IsPurgedAlready until a) }
 {

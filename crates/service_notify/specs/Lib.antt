@@ -1,2 +1,2 @@
 pub mod Notices
-pub mod Told
+pub mod Notified

@@ -5,7 +5,7 @@ ghost use Rattle.entity_core.specs.Airspace.{notified_again};
 ghost use Rattle.entity_core.specs.Serial.{max_serial};
 ghost use Rattle.entity_core.specs.declared.subscription.Sub.{Sub};
 ghost use Rattle.service_notify.specs.Notices.{notices_of};
-ghost use Rattle.service_notify.specs.Told.{IsNotifiedAt};
+ghost use Rattle.service_notify.specs.Notified.{IsNotifiedAt};
 
 use entity_core::base_url::BaseUrl;
 use entity_core::entity_id::EntityId;
@@ -114,10 +114,10 @@ pub fn sub_ids(alloc: Global, subs: &[Sub]) -> Result<EntityIds, AllocError>
 }
 
 // The notices gathered so far, by URL.
-type Told<'a> = BTreeMap<&'a str, Notify>;
+type Notified<'a> = BTreeMap<&'a str, Notify>;
 
 // Adds the state of one more subscription at its URL.
-fn tell_more<'a>(told: &mut Told<'a>, alloc: Global, sub: &'a Sub) -> Result<(), AllocError>
+fn add_notified<'a>(told: &mut Notified<'a>, alloc: Global, sub: &'a Sub) -> Result<(), AllocError>
     ensures { OnOk result ((before : List Sub) → IsNotifiedAt before told.old
         → IsNotifiedAt (before ++ sub.now ∷ []) told.new) }
 {
@@ -138,12 +138,12 @@ fn tell_more<'a>(told: &mut Told<'a>, alloc: Global, sub: &'a Sub) -> Result<(),
 }
 
 // Returns the notices of some subscriptions, by URL.
-fn told_of<'a>(alloc: Global, subs: &'a [Sub]) -> Result<Told<'a>, AllocError>
+fn notified_of<'a>(alloc: Global, subs: &'a [Sub]) -> Result<Notified<'a>, AllocError>
     ensures { IfOk result (IsNotifiedAt subs.now) }
 {
     let mut told = BTreeMap::new(alloc);
     for sub in subs {
-        tell_more(&mut told, alloc, sub)?;
+        add_notified(&mut told, alloc, sub)?;
     }
     Ok(told)
 }
@@ -152,7 +152,7 @@ fn told_of<'a>(alloc: Global, subs: &'a [Sub]) -> Result<Told<'a>, AllocError>
 pub fn notices_of(alloc: Global, subs: &[Sub]) -> Result<Notices, AllocError>
     ensures { IfOk result (λ told. told ≡ notices_of subs.now) }
 {
-    let told = told_of(alloc, subs)?;
+    let told = notified_of(alloc, subs)?;
     let mut items = Vec::with_capacity(alloc, told.len())?;
     for (_, notify) in told {
         items.push(notify)?;

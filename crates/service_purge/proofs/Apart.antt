@@ -14,7 +14,7 @@ use Rattle.entity_core.specs.declared.subscription.Sub.{Sub}
 use Rattle.entity_core.proofs.Keys.{key_total, key_exact}
 use Rattle.service_notify.specs.Notices.{notices_in, notices_of}
 use Rattle.service_purge.specs.Ahead.{BeginAfter, IsUnnamed, is_after}
-use Rattle.entity_purge.specs.Purge.{is_named_in, HaveEnded, is_due_for_purge, is_due_by, has_ended, has_not_ended, retained, retained_subs, sub_has_ended, purged}
+use Rattle.entity_purge.specs.Purge.{is_referenced_in, HaveEnded, is_due_for_purge, is_due_by, has_ended, has_not_ended, retained, retained_subs, sub_has_ended, purged}
 use Rattle.entity_purge.proofs.Maps.{and_false, apart, both_hold, filter_twice}
 use Rattle.entity_purge.proofs.Purges.{each_ended, le_holds}
 
@@ -61,7 +61,7 @@ near_stays : (until : ℕ) (s : Sub) (area : Region) → is_after until area.fir
 near_stays until s area begin met = not_true (sub_has_ended until s) (meets (region_of s.volume) area) (λ h. not_met until s.volume area (le_holds s.volume.time.1 until h) begin) met
 
 pub not_ended_stays : (until : ℕ) (m : Entities) (id : ℕ) (s : Sub) → sub_has_ended until s ≡ false → is_due_by until m (id, s) ≡ false
-not_ended_stays until m id s h = ap (λ (b : Bool). b && not (is_named_in m id)) h
+not_ended_stays until m id s h = ap (λ (b : Bool). b && not (is_referenced_in m id)) h
 
 -- ---- searches among the retained entities
 

@@ -25,7 +25,7 @@ use Rattle.policy_core.proofs.Finds.{none_passes}
 use Rattle.service_notify.specs.Notices.{touched}
 use Rattle.service_step.specs.Step.{created, delete_effect, delete_sub_effect, effect, stored_with, read_effect, read_sub_effect, step, step_by, sub_stored_as, update_effect, update_sub_effect, updated}
 use Rattle.service_purge.specs.Ahead.{FreesNone, LooksAhead, PurgeCommutes}
-use Rattle.entity_purge.specs.Purge.{is_named_in, is_due_for_purge, is_due_by, has_ended, has_not_ended, have_ended, if_kept, retained, retained_subs, sub_has_ended, purged}
+use Rattle.entity_purge.specs.Purge.{is_referenced_in, is_due_for_purge, is_due_by, has_ended, has_not_ended, have_ended, if_kept, retained, retained_subs, sub_has_ended, purged}
 use Rattle.service_purge.proofs.Facts.{get_ahead, get_sub_ahead, same_first, sees_ahead}
 use Rattle.service_purge.proofs.Leaves.{goes_unless, named_one, put_goes, removed_goes, still_named, told_goes, who_stays}
 use Rattle.entity_purge.proofs.Maps.{apart, kept_insert, kept_remove, same_tests}
@@ -43,13 +43,13 @@ abbrev FreesAt : ℕ → Entities → Subscriptions → EntityKey → Option ℕ
 FreesAt until m subs k named = (e : Entity) (id : ℕ) (s : Sub) → get m k ≡ Some e → subscription_of e.nature ≡ Some id → is_id id named ≡ false → get subs id ≡ Some s → sub_has_ended until s ≡ false
 
 put_named : (until : ℕ) (m : Entities) (subs : Subscriptions) (k : EntityKey) (e : Entity) → has_ended until e ≡ false → FreesAt until m subs k (subscription_of e.nature) → (id : ℕ) (s : Sub) → get subs id ≡ Some s → sub_has_ended until s ≡ true
-    → is_named_in (retained until m) id ≡ true → is_named_in (retained until (insert m k e)) id ≡ true
+    → is_referenced_in (retained until m) id ≡ true → is_referenced_in (retained until (insert m k e)) id ≡ true
 put_named until m subs k e lasts frees id s there ended named =
     let by = who_stays until m id named in
     let new : get (insert m k e) by.0 ≡ cond (eq_by_cmp key_cmp by.0 k) (Some e) (get m by.0) = get-insert key_total m k e by.0 in
-    elim (eq_by_cmp key_cmp by.0 k) as (λ b. eq_by_cmp key_cmp by.0 k ≡ b → get (insert m k e) by.0 ≡ cond b (Some e) (get m by.0) → is_named_in (retained until (insert m k e)) id ≡ true) [
+    elim (eq_by_cmp key_cmp by.0 k) as (λ b. eq_by_cmp key_cmp by.0 k ≡ b → get (insert m k e) by.0 ≡ cond b (Some e) (get m by.0) → is_referenced_in (retained until (insert m k e)) id ≡ true) [
       | false ↦ λ t h. still_named until (insert m k e) id by.0 by.1 (h ∙ by.2) by.3 by.4
-      | true ↦ λ t h. elim (is_id id (subscription_of e.nature)) as (λ b. is_id id (subscription_of e.nature) ≡ b → is_named_in (retained until (insert m k e)) id ≡ true) [
+      | true ↦ λ t h. elim (is_id id (subscription_of e.nature)) as (λ b. is_id id (subscription_of e.nature) ≡ b → is_referenced_in (retained until (insert m k e)) id ≡ true) [
         | true ↦ λ names. still_named until (insert m k e) id by.0 e h (ap not lasts) names
         | false ↦ λ names. absurd (apart (sub_has_ended until s) ended (frees by.1 id s (ap (get m) (sym (one_key by.0 k t)) ∙ by.2) (named_one id (subscription_of by.1.nature) by.4) names there))
       ] refl
@@ -64,11 +64,11 @@ same_put until m subs k e lasts frees names id s there =
     (goes_unless until new old id s (λ named gone. put_named until m subs k e lasts frees id s there (gone_unnamed until new id s gone).0 named))
 
 removed_named : (until : ℕ) (m : Entities) (subs : Subscriptions) (k : EntityKey) → FreesAt until m subs k None → (id : ℕ) (s : Sub) → get subs id ≡ Some s → sub_has_ended until s ≡ true
-    → is_named_in (retained until m) id ≡ true → is_named_in (retained until (remove m k)) id ≡ true
+    → is_referenced_in (retained until m) id ≡ true → is_referenced_in (retained until (remove m k)) id ≡ true
 removed_named until m subs k frees id s there ended named =
     let by = who_stays until m id named in
     let new : get (remove m k) by.0 ≡ cond (eq_by_cmp key_cmp by.0 k) None (get m by.0) = get-remove key_total m k by.0 in
-    elim (eq_by_cmp key_cmp by.0 k) as (λ b. eq_by_cmp key_cmp by.0 k ≡ b → get (remove m k) by.0 ≡ cond b None (get m by.0) → is_named_in (retained until (remove m k)) id ≡ true) [
+    elim (eq_by_cmp key_cmp by.0 k) as (λ b. eq_by_cmp key_cmp by.0 k ≡ b → get (remove m k) by.0 ≡ cond b None (get m by.0) → is_referenced_in (retained until (remove m k)) id ≡ true) [
       | false ↦ λ t h. still_named until (remove m k) id by.0 by.1 (h ∙ by.2) by.3 by.4
       | true ↦ λ t h. absurd (apart (sub_has_ended until s) ended (frees by.1 id s (ap (get m) (sym (one_key by.0 k t)) ∙ by.2) (named_one id (subscription_of by.1.nature) by.4) refl there))
     ] refl new
@@ -127,7 +127,7 @@ delete_same until a uss k (Some e) frees =
 with_sub_same : (until : ℕ) (a : Airspace) (s : Sub) → sub_has_ended until s ≡ false → with_subscription (purged until a) s ≡ purged until (with_subscription a s)
 with_sub_same until a s lasts =
     let m : Entities = retained until a.entities in
-    let ss = kept_insert nat_cmp_total nat_cmp-IsAntisymmetric (λ x. not (is_due_by until m x)) a.subscriptions s.id s (ap (λ (b : Bool). not (b && not (is_named_in m s.id))) lasts) in
+    let ss = kept_insert nat_cmp_total nat_cmp-IsAntisymmetric (λ x. not (is_due_by until m x)) a.subscriptions s.id s (ap (λ (b : Bool). not (b && not (is_referenced_in m s.id))) lasts) in
     λ i. record { entities = m; subscriptions = ss i; availabilities = a.availabilities; serial = a.serial + 1 }
 
 update_sub_same : (until : ℕ) (salt : List ℕ) (a : Airspace) (uss : List ℕ) (id : ℕ) (put : SubPut) (o : Option Sub) → nat_le put.volume.time.1 until ≡ false

@@ -5,7 +5,7 @@ use Rattle.std.specs.FinMap.{get}
 use Rattle.grid_core.specs.Extent.{Region}
 use Rattle.entity_core.specs.Airspace.{Airspace, Entities}
 use Rattle.entity_core.specs.declared.subscription.Sub.{Sub}
-use Rattle.entity_purge.specs.Purge.{is_due_for_purge, has_ended, is_named_in, retained}
+use Rattle.entity_purge.specs.Purge.{is_due_for_purge, has_ended, is_referenced_in, retained}
 use Rattle.entity_purge.proofs.Maps.{apart, kept_was}
 use Rattle.entity_purge.proofs.Purges.{ended_later, found_staying, gone_unnamed, named_by_one, staying_join, sub_ended_later, who_names}
 use Rattle.policy_core.specs.declared.call.Call.{Call}
@@ -33,17 +33,17 @@ begin_earlier u v (area ∷ areas) h begin = (after_earlier u v area.first h beg
 -- ---- subscriptions
 
 -- A subscription that a later retained entity references is referenced by an earlier retained one.
-named_earlier : (u v : ℕ) (m : Entities) (id : ℕ) → u ≤ v → is_named_in (retained v m) id ≡ true → is_named_in (retained u m) id ≡ true
+named_earlier : (u v : ℕ) (m : Entities) (id : ℕ) → u ≤ v → is_referenced_in (retained v m) id ≡ true → is_referenced_in (retained u m) id ≡ true
 named_earlier u v m id h t =
-    let by = who_names (retained v (retained u m)) id (ap (λ (x : Entities). is_named_in x id) (staying_join u v m h) ∙ t) in
+    let by = who_names (retained v (retained u m)) id (ap (λ (x : Entities). is_referenced_in x id) (staying_join u v m h) ∙ t) in
     let was = kept_was (λ e. not (has_ended v e)) (get (retained u m) by.0) by.1 (sym (found_staying v (retained u m) by.0) ∙ by.2) in
     named_by_one (retained u m) id by.0 by.1 was.0 by.3
 
 goes_later : (u v : ℕ) (a : Airspace) (id : ℕ) (s : Sub) → u ≤ v → is_due_for_purge u a (id, s) ≡ true → is_due_for_purge v a (id, s) ≡ true
 goes_later u v a id s h t =
     let gone = gone_unnamed u (retained u a.entities) id s t in
-    let free : is_named_in (retained v a.entities) id ≡ false = still_false (is_named_in (retained v a.entities) id) (is_named_in (retained u a.entities) id) (named_earlier u v a.entities id h) gone.1 in
-    ap (λ (b : Bool). b && not (is_named_in (retained v a.entities) id)) (sub_ended_later u v s h gone.0) ∙ ap not free
+    let free : is_referenced_in (retained v a.entities) id ≡ false = still_false (is_referenced_in (retained v a.entities) id) (is_referenced_in (retained u a.entities) id) (named_earlier u v a.entities id h) gone.1 in
+    ap (λ (b : Bool). b && not (is_referenced_in (retained v a.entities) id)) (sub_ended_later u v s h gone.0) ∙ ap not free
 
 stays_earlier : (u v : ℕ) (a : Airspace) (id : ℕ) (s : Sub) → u ≤ v → is_due_for_purge v a (id, s) ≡ false → is_due_for_purge u a (id, s) ≡ false
 stays_earlier u v a id s h = still_false (is_due_for_purge u a (id, s)) (is_due_for_purge v a (id, s)) (goes_later u v a id s h)

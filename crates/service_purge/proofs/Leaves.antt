@@ -23,7 +23,7 @@ use Rattle.policy_core.specs.Policy.{first_broken}
 use Rattle.service_notify.specs.Notices.{touched, with_notified}
 use Rattle.service_step.specs.Step.{created, delete_effect, delete_sub_effect, effect, stored_with, read_effect, read_sub_effect, step, step_by, sub_stored_as, update_effect, update_sub_effect, updated}
 use Rattle.service_purge.specs.Ahead.{LooksAhead, PurgeStaysAlone}
-use Rattle.entity_purge.specs.Purge.{is_named_in, SameOncePurged, is_due_for_purge, is_due_by, has_ended, has_not_ended, if_kept, kept_where, retained, retained_subs, sub_has_ended, purged}
+use Rattle.entity_purge.specs.Purge.{is_referenced_in, SameOncePurged, is_due_for_purge, is_due_by, has_ended, has_not_ended, if_kept, kept_where, retained, retained_subs, sub_has_ended, purged}
 use Rattle.service_purge.proofs.Facts.{get_ahead, get_sub_ahead, same_first, sees_ahead}
 use Rattle.entity_purge.proofs.Maps.{apart, get_kept, insert_twice, kept_was, maps_twice, not_back, remove_twice, same_id}
 use Rattle.entity_purge.proofs.Purges.{found_staying, found_subs, gone_unnamed, named_by_one, once_purged, purges_join, who_names}
@@ -97,22 +97,22 @@ named_one id (Some named) h = ap (λ (n : ℕ). Some n) (same_id named id h)
 
 -- If a retained entity references a subscription, the reference is found among the retained
 -- entities.
-pub still_named : (until : ℕ) (m : Entities) (id : ℕ) (k : EntityKey) (e : Entity) → get m k ≡ Some e → not (has_ended until e) ≡ true → is_naming id (k, e) ≡ true → is_named_in (retained until m) id ≡ true
+pub still_named : (until : ℕ) (m : Entities) (id : ℕ) (k : EntityKey) (e : Entity) → get m k ≡ Some e → not (has_ended until e) ≡ true → is_naming id (k, e) ≡ true → is_referenced_in (retained until m) id ≡ true
 still_named until m id k e there stays names =
     named_by_one (retained until m) id k e (found_staying until m k ∙ (ap (if_kept (λ x. not (has_ended until x))) there ∙ ap (λ (b : Bool). cond b (Some e) None) stays)) names
 
 -- A reference found among the retained entities belongs to an entity that existed before.
-pub who_stays : (until : ℕ) (m : Entities) (id : ℕ) → is_named_in (retained until m) id ≡ true → (k : EntityKey) × (e : Entity) × (get m k ≡ Some e) × (not (has_ended until e) ≡ true) × (is_naming id (k, e) ≡ true)
+pub who_stays : (until : ℕ) (m : Entities) (id : ℕ) → is_referenced_in (retained until m) id ≡ true → (k : EntityKey) × (e : Entity) × (get m k ≡ Some e) × (not (has_ended until e) ≡ true) × (is_naming id (k, e) ≡ true)
 who_stays until m id h =
     let by = who_names (retained until m) id h in
     let was = kept_was (λ e. not (has_ended until e)) (get m by.0) by.1 (sym (found_staying until m by.0) ∙ by.2) in
     (by.0, by.1, was.0, was.1, by.3)
 
-pub goes_unless : (until : ℕ) (m n : Entities) (id : ℕ) (s : Sub) → (is_named_in n id ≡ true → is_due_by until m (id, s) ≡ true → is_named_in m id ≡ true) → is_due_by until m (id, s) ≡ true → is_due_by until n (id, s) ≡ true
+pub goes_unless : (until : ℕ) (m n : Entities) (id : ℕ) (s : Sub) → (is_referenced_in n id ≡ true → is_due_by until m (id, s) ≡ true → is_referenced_in m id ≡ true) → is_due_by until m (id, s) ≡ true → is_due_by until n (id, s) ≡ true
 goes_unless until m n id s back h =
     let gone = gone_unnamed until m id s h in
-    elim (is_named_in n id) as (λ b. is_named_in n id ≡ b → sub_has_ended until s && not b ≡ true) [
-      | true ↦ λ t. absurd (apart (is_named_in m id) (back t h) gone.1)
+    elim (is_referenced_in n id) as (λ b. is_referenced_in n id ≡ b → sub_has_ended until s && not b ≡ true) [
+      | true ↦ λ t. absurd (apart (is_referenced_in m id) (back t h) gone.1)
       | false ↦ λ t. ap (λ (b : Bool). b && true) gone.0
     ] refl
 

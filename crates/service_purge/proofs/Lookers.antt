@@ -13,7 +13,7 @@ use Rattle.entity_core.specs.declared.nature.Kind.{Kind}
 use Rattle.entity_core.specs.declared.subscription.Sub.{Sub}
 use Rattle.service_notify.specs.Notices.{touched, volumes_of}
 use Rattle.service_purge.specs.Ahead.{BeginAfter, BeginsAfter, EntityIsAhead, IsUnnamed, TheseLookAhead}
-use Rattle.entity_purge.specs.Purge.{NamesStand, is_due_for_purge, retained, sub_has_ended}
+use Rattle.entity_purge.specs.Purge.{ReferencesExist, is_due_for_purge, retained, sub_has_ended}
 use Rattle.service_purge.proofs.Apart.{none_met, not_ended_stays, not_true}
 use Rattle.service_purge.proofs.Leaves.{named_one}
 use Rattle.entity_purge.proofs.Maps.{apart, both_hold}
@@ -35,7 +35,7 @@ old_begin until None ahead = tt
 old_begin until (Some e) ahead = (ahead e refl).begins
 
 -- If every referenced subscription exists, no entity references one that does not exist.
-none_names : (until : ℕ) (a : Airspace) (id : ℕ) → NamesStand a → get a.subscriptions id ≡ None → IsUnnamed until a id
+none_names : (until : ℕ) (a : Airspace) (id : ℕ) → ReferencesExist a → get a.subscriptions id ≡ None → IsUnnamed until a id
 none_names until a id stand none k e there ended =
     elim (is_naming id (k, e)) as (λ b. is_naming id (k, e) ≡ b → b ≡ false) [
       | true ↦ λ names. absurd (apart (is_some (get a.subscriptions id)) (stand k e id there (named_one id (subscription_of e.nature) names)) (ap is_some none))

@@ -26,7 +26,7 @@ use Rattle.policy_core.specs.Missing.{missing_for}
 use Rattle.policy_core.specs.Standing.{depended_of, found_of, stated_of, sub_of}
 use Rattle.service_notify.specs.Notices.{notifies, touched, volumes_of}
 use Rattle.service_step.specs.Step.{created, delete_effect, delete_sub_effect, effect, stored_with, read_effect, read_sub_effect, step, step_by, sub_stored_as, update_effect, update_sub_effect, updated}
-use Rattle.service_step.proofs.Keeps.{steps_keep}
+use Rattle.service_step.proofs.Preserves.{steps_keep}
 use Rattle.service_calls.specs.Run.{airspace_after}
 use Rattle.service_purge.specs.Ahead.{LooksAhead, RunCommutes, RunIsInvisible, ReturnsSub}
 use Rattle.entity_purge.specs.Purge.{IsPartlyPurged, is_due_for_purge, is_due_by, has_ended, retained, purged}

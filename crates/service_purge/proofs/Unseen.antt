@@ -8,7 +8,7 @@ use Rattle.entity_purge.proofs.Chunks.{chunks_make}
 use Rattle.entity_purge.proofs.Purges.{purges_join}
 use Rattle.space_core.specs.declared.group_commit.GroupCommit as settles
 use Rattle.service_step.specs.Step.{step}
-use Rattle.service_step.proofs.Keeps.{steps_keep}
+use Rattle.service_step.proofs.Preserves.{steps_keep}
 use Rattle.service_calls.specs.Batches.{IfStopped, MayHavePersisted, Batch, all_timed, all_delivered, timed_in, replies_delivered}
 use Rattle.service_calls.specs.Run.{TimedCall, airspace_after, has_stopped, replies_of, delivered_replies}
 use Rattle.service_calls.specs.Purged.{AllStopped, AreDeliveredPurged, MayHavePersistedPurged, Segment, airspace_after_batches, all_delivered_in}

@@ -21,7 +21,7 @@ use Rattle.policy_core.specs.Standing.{found_of}
 use Rattle.service_notify.specs.Notices.{notifies}
 use Rattle.service_step.specs.Step.{step}
 use Rattle.service_calls.specs.Run.{TimedCall, airspace_after, replies_of}
-use Rattle.entity_purge.specs.Purge.{IsPartlyPurged, NamesStand, SameOncePurged, is_due_for_purge, has_ended, sub_has_ended, purged}
+use Rattle.entity_purge.specs.Purge.{IsPartlyPurged, ReferencesExist, SameOncePurged, is_due_for_purge, has_ended, sub_has_ended, purged}
 
 -- ---- forward-looking calls
 
@@ -123,7 +123,7 @@ pub record WhoLooksAhead (until : ℕ) (a : Airspace) (caller : Option Caller) :
   -- A creation of a subscription under a free id, with a volume that begins later, if every
   -- referenced subscription exists.
   pub sub_creation : (id : ℕ) (put : SubPut) → is_after until (region_of put.volume).first ≡ true
-      → NamesStand a → get a.subscriptions id ≡ None
+      → ReferencesExist a → get a.subscriptions id ≡ None
       → LooksAhead until a (record { caller = caller; op = CreateSub id put })
   -- A read or a setting of an availability.
   pub availability : (uss : List ℕ)

@@ -24,11 +24,11 @@ use Rattle.service_calls.specs.declared.service.Service.{Service}
 use Rattle.service_calls.proofs.Segments.{open_segment}
 use Rattle.space_quota.specs.QuotaSpace.{QuotaModel}
 use Rattle.space_mirror.specs.Mirrored.{MirroredModel, IsSoundIn, fixed_in, holds_in, is_whole_in, pending, is_pending_in}
-use Rattle.space_mirror.specs.Laws.{content_of_its_store, kept_while_waiting, seen_is_kept, sound_as_its_store, works_while_waiting}
+use Rattle.space_mirror.specs.Laws.{content_of_its_store, durable_while_pending, visible_is_durable, sound_as_its_store, works_while_pending}
 use Rattle.space_sql.specs.Crash.{may_leave_of}
 use Rattle.space_sql.specs.Holding.{AreTablesOf, SqlSpaceModel, holds_of, is_sound_of, is_whole_of}
 use Rattle.space_sql.proofs.Crashes.{leaves_held}
-use Rattle.service_recovery.specs.Crash.{CrashLeavesGrouped, PersistsCommitted, bound_waiting_of, waiting_of}
+use Rattle.service_recovery.specs.Crash.{CrashLeavesGrouped, PersistsCommitted, quota_pending_of, pending_of}
 use Rattle.service_recovery.proofs.Crashes.{kept_after, words_of}
 
 -- Facts about a space whose changes can be pending, given the space over tables in it.
@@ -57,7 +57,7 @@ pub grouped_over : {S : Type 0} (g : Ghosts S) (fixed : MirroredModel S → Code
 grouped_over g fixed = record {
   calm_sound = λ k calm sound. sound_as_its_store g k calm sound;
   calm_content = λ k a calm content. content_of_its_store g k a calm content;
-  calm_held = λ k a calm held. (seen_is_kept g.holds k a calm).1 held;
+  calm_held = λ k a calm held. (visible_is_durable g.holds k a calm).1 held;
   sound = λ k sound. sound.store;
   whole = λ k whole. whole;
   store_whole = λ k whole. whole;
@@ -93,11 +93,11 @@ bounded_over g refusals fixed = record {
 }
 
 -- A crash during a batch leaves the durable airspace, without the batch's changes.
-pub open_segment_in : {S : Type 0} (g : Ghosts S) (c : Coded S) (refusals : QuotaModel (MirroredModel S) → ℕ) → OpenSegmentIsNotDurable (bound_words g refusals (λ k. fixed_in c k.space)) (bound_waiting_of g)
-open_segment_in g c refusals = open_segment (bound_words g refusals (λ k. fixed_in c k.space)) (bound_waiting_of g) (record {
-  quiet = λ s a calm. seen_is_kept g.holds s.space a calm;
-  rests = λ s t a same waits. kept_while_waiting g.holds c s.space t.space a same waits;
-  works = λ s t same waits. works_while_waiting g.is_broken c s.space t.space same waits;
+pub open_segment_in : {S : Type 0} (g : Ghosts S) (c : Coded S) (refusals : QuotaModel (MirroredModel S) → ℕ) → OpenSegmentIsNotDurable (bound_words g refusals (λ k. fixed_in c k.space)) (quota_pending_of g)
+open_segment_in g c refusals = open_segment (bound_words g refusals (λ k. fixed_in c k.space)) (quota_pending_of g) (record {
+  quiet = λ s a calm. visible_is_durable g.holds s.space a calm;
+  rests = λ s t a same waits. durable_while_pending g.holds c s.space t.space a same waits;
+  works = λ s t same waits. works_while_pending g.is_broken c s.space t.space same waits;
   live = λ s sound waits. sound.live waits;
 })
 
@@ -126,7 +126,7 @@ module _ {S : Type 0} (g : stores.Ghosts S) (space : Ghosts (MirroredModel (SqlS
   -- ---- the end of a batch
 
   module _ (kept seen : Airspace) (content : IsContent (holds_of g) (space_of old).store kept) (held : space.holds (space_of old) seen) (sound : space.is_sound (space_of new)) (db : Trees) (found : (b : Airspace) × space.holds (space_of new) b × AreTablesOf db b) where
-    settled_by : (result : Result (Unit {0}) SpaceFault) → IsCommitted space (waiting_of (words_of g)) old new result → PersistsCommitted kept seen result db
+    settled_by : (result : Result (Unit {0}) SpaceFault) → IsCommitted space (pending_of (words_of g)) old new result → PersistsCommitted kept seen result db
     settled_by (Ok x) is = subst (λ b. AreTablesOf db b) ((is.settles.done sound seen held).only found.0 found.1) found.2
     settled_by (Err Unchanged) is = subst (λ b. AreTablesOf db b) (content.only found.0 ((is.settles.refused sound refl found.0).1 found.1)) found.2
     settled_by (Err Broken) is = elim (is.settles.no_other sound found.0 found.1) [
@@ -134,7 +134,7 @@ module _ {S : Type 0} (g : stores.Ghosts S) (space : Ghosts (MirroredModel (SqlS
       | inr after ↦ inr (subst (λ b. AreTablesOf db b) (over.one (space_of old) kept seen found.0 content held after) found.2)
     ]
 
-  pub crash_leaves_settled : (result : Result (Unit {0}) SpaceFault) → IsCommitted space (waiting_of (words_of g)) old new result → is_sound_of g (space_of new).store → is_whole_of g (space_of old).store
+  pub crash_leaves_settled : (result : Result (Unit {0}) SpaceFault) → IsCommitted space (pending_of (words_of g)) old new result → is_sound_of g (space_of new).store → is_whole_of g (space_of old).store
       → (kept seen : Airspace) → IsContent (holds_of g) (space_of old).store kept → space.holds (space_of old) seen → (db : Trees) → may_leave_of g (space_of new).store db → PersistsCommitted kept seen result db
   crash_leaves_settled result is sound whole kept seen content held db may =
       let all_sound = over.calm_sound (space_of new) is.calm sound in

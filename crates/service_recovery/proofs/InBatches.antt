@@ -23,7 +23,7 @@ use Rattle.space_mirror.specs.Mirrored.{MirroredModel}
 use Rattle.space_sql_schema.specs.declared.format.Format.TheVariants.{Two}
 use Rattle.space_sql.specs.Holding.{SqlSpaceModel, holds_of, is_sound_of, is_whole_of}
 use Rattle.space_sql.specs.Restart.{ClosesFiles, FilesHave, FilesLeft, LeavesFiles, without_log}
-use Rattle.service_recovery.specs.Crash.{bound_waiting_of}
+use Rattle.service_recovery.specs.Crash.{quota_pending_of}
 use Rattle.service_recovery.specs.InBatches.{IsSoundByStore, SomeIsHeld, StartsOver}
 use Rattle.service_recovery.specs.Life.{Continues, StandFor, run_purged}
 use Rattle.service_recovery.proofs.Crashes.{words_of}
@@ -60,19 +60,19 @@ module _ {S : Type 0} (g : Ghosts S) (k : settles.Ghosts S) where
       let end = segments_sound made.1 new ss made.4 sound in
       segments_whole made.1 new ss made.4 sound (made.3.2.whole end (batches_whole old made.0 s.batches made.2 (made.3.2.sound end) whole))
 
-module _ {D : Type 0} {g : disk.Ghosts D} (space : Ghosts (QuotaModel (MirroredModel (SqlSpaceModel (FileStore D g))))) (over : IsBoundOver (words_of over_files) space) (some : SomeIsHeld {S = SqlSpaceModel (FileStore D g)} (words_of over_files)) (law : OpenSegmentIsNotDurable space (bound_waiting_of (words_of over_files)))
+module _ {D : Type 0} {g : disk.Ghosts D} (space : Ghosts (QuotaModel (MirroredModel (SqlSpaceModel (FileStore D g))))) (over : IsBoundOver (words_of over_files) space) (some : SomeIsHeld {S = SqlSpaceModel (FileStore D g)} (words_of over_files)) (law : OpenSegmentIsNotDurable space (quota_pending_of (words_of over_files)))
     (before : Image) (old purged mid new : Service (QuotaModel (MirroredModel (SqlSpaceModel (FileStore D g))))) (segments : List Segment) (batches : List Batch) (calls : List CallRecord)
-    (starts : StartsOver (words_of over_files) space before old) (segments_made : MadeSegments space (bound_waiting_of (words_of over_files)) old segments purged) (batches_made : MadeBatches space (bound_waiting_of (words_of over_files)) purged batches mid) (calls_made : CalledInOrder space (bound_waiting_of (words_of over_files)) mid calls new) (by_store : IsSoundByStore (words_of over_files) space (space_of new)) where
+    (starts : StartsOver (words_of over_files) space before old) (segments_made : MadeSegments space (quota_pending_of (words_of over_files)) old segments purged) (batches_made : MadeBatches space (quota_pending_of (words_of over_files)) purged batches mid) (calls_made : CalledInOrder space (quota_pending_of (words_of over_files)) mid calls new) (by_store : IsSoundByStore (words_of over_files) space (space_of new)) where
   -- Lemmas about a run at its end, while its store is sound.
   module _ (sound : is_sound_of over_files (space_of new).space.store) (a : Airspace) (stands : StandFor before a) where
     mid_sound : space.is_sound (space_of mid)
-    mid_sound = made_sound space (bound_waiting_of (words_of over_files)) mid new calls calls_made (by_store sound)
+    mid_sound = made_sound space (quota_pending_of (words_of over_files)) mid new calls calls_made (by_store sound)
 
     purged_sound : space.is_sound (space_of purged)
-    purged_sound = batches_sound space (bound_waiting_of (words_of over_files)) purged mid batches batches_made mid_sound
+    purged_sound = batches_sound space (quota_pending_of (words_of over_files)) purged mid batches batches_made mid_sound
 
     first_sound : is_sound_of over_files (space_of old).space.store
-    first_sound = over.sound (space_of old) (segments_sound space (bound_waiting_of (words_of over_files)) old purged segments segments_made purged_sound)
+    first_sound = over.sound (space_of old) (segments_sound space (quota_pending_of (words_of over_files)) old purged segments segments_made purged_sound)
 
     opened : IsContent (holds_of over_files) starts.opened a
     opened = content_found before (words_of over_files) starts.opened starts.finds (starts.read.sound first_sound) a stands
@@ -92,9 +92,9 @@ module _ {D : Type 0} {g : disk.Ghosts D} (space : Ghosts (QuotaModel (MirroredM
 
     last_whole : is_whole_of over_files (space_of new).space.store
     last_whole =
-        over.store_whole (space_of new) (made_whole space (bound_waiting_of (words_of over_files)) mid new calls calls_made (by_store sound)
-        (batches_whole space (bound_waiting_of (words_of over_files)) purged mid batches batches_made mid_sound
-        (segments_whole space (bound_waiting_of (words_of over_files)) old purged segments segments_made purged_sound (over.whole (space_of old) first_whole))))
+        over.store_whole (space_of new) (made_whole space (quota_pending_of (words_of over_files)) mid new calls calls_made (by_store sound)
+        (batches_whole space (quota_pending_of (words_of over_files)) purged mid batches batches_made mid_sound
+        (segments_whole space (quota_pending_of (words_of over_files)) old purged segments segments_made purged_sound (over.whole (space_of old) first_whole))))
 
     kept : IsContent (holds_of over_files) (space_of old).space.store a → (b : Airspace) → holds_of over_files (space_of new).space.store b → MayHavePersistedPurged (salt_of old) a segments (batches ++ uncommitted calls ∷ []) b
     kept content b held =

@@ -1,6 +1,6 @@
 pub mod Crashes
 pub mod Restarts
-pub mod Keeping
+pub mod Persisting
 pub mod Lives
 pub mod Grouping
 pub mod InBatches

@@ -31,7 +31,7 @@ use Rattle.space_sql.specs.Restart.{ClosesFiles, FilesHave, FilesLeft, LeavesFil
 use Rattle.service_calls.specs.Batches.{MayHavePersisted}
 use Rattle.service_recovery.specs.Life.{Continues, Lives, MayComeOfAll, Run, StandFor, alone, run_of, unasked}
 use Rattle.service_recovery.proofs.Crashes.{words_of}
-use Rattle.service_recovery.proofs.Keeping.{alone_is_stepped}
+use Rattle.service_recovery.proofs.Persisting.{alone_is_stepped}
 
 pub content_found : {T : Type 0} (image : Image) (space : Ghosts (SqlSpaceModel T)) (k : SqlSpaceModel T) → FindsSpelt image space k → space.is_sound k → (a : Airspace) → StandFor image a → IsContent space.holds k a
 content_found image space k finds sound a (inl it) = finds.spelt sound it.0 a it.1

@@ -53,12 +53,12 @@ CrashAfterCall {S} g space = (old new : Service (SqlSpaceModel S)) (now : ℕ) (
 
 -- The durable airspace and the pending changes of a space whose changes can be pending, given the
 -- space over tables in it.
-abbrev pub waiting_of : {S : Type 0} → spaces.Ghosts S → settles.Ghosts (MirroredModel S)
-waiting_of tables = record { persists = persists_in tables; is_pending = is_pending_in }
+abbrev pub pending_of : {S : Type 0} → spaces.Ghosts S → settles.Ghosts (MirroredModel S)
+pending_of tables = record { persists = persists_in tables; is_pending = is_pending_in }
 
 -- The same for such a space below a quota for each USS.
-abbrev pub bound_waiting_of : {S : Type 0} → spaces.Ghosts S → settles.Ghosts (QuotaModel (MirroredModel S))
-bound_waiting_of tables =
+abbrev pub quota_pending_of : {S : Type 0} → spaces.Ghosts S → settles.Ghosts (QuotaModel (MirroredModel S))
+quota_pending_of tables =
     record { persists = λ k a. persists_in tables k.space a; is_pending = λ k. is_pending_in k.space }
 
 -- Holds if a crash after a call of a service whose changes can be pending leaves what it should. If
@@ -92,7 +92,7 @@ abbrev pub CrashAfterBatch : {S : Type 0} → Ghosts S → spaces.Ghosts (SqlSpa
     → spaces.Ghosts (MirroredModel (SqlSpaceModel S)) → Type 0
 CrashAfterBatch {S} g tables space =
     (old new : Service (MirroredModel (SqlSpaceModel S))) (result : Result (Unit {0}) SpaceFault)
-    → IsCommitted space (waiting_of tables) old new result
+    → IsCommitted space (pending_of tables) old new result
     → is_sound_of g (space_of new).store → is_whole_of g (space_of old).store
     → (kept seen : Airspace) → IsContent (holds_of g) (space_of old).store kept
     → space.holds (space_of old) seen

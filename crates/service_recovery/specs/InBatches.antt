@@ -19,7 +19,7 @@ use Rattle.space_mirror.specs.Mirrored.{MirroredModel, is_pending_in}
 use Rattle.space_sql.specs.Found.{FindsSpelt}
 use Rattle.space_sql.specs.Holding.{SqlSpaceModel}
 use Rattle.space_sql.specs.Restart.{ClosesFiles, FilesHave, FilesLeft, LeavesFiles, without_log}
-use Rattle.service_recovery.specs.Crash.{bound_waiting_of}
+use Rattle.service_recovery.specs.Crash.{quota_pending_of}
 use Rattle.service_recovery.specs.Life.{Continues, run_purged}
 
 -- Holds if a sound and whole space holds some airspace.
@@ -58,9 +58,9 @@ module _ {D : Type 0} {g : disk.Ghosts D} (tables : spaces.Ghosts (SqlSpaceModel
   ContinuesInBatches =
       (before after : Image) (old purged mid new : Service (QuotaModel (MirroredModel (SqlSpaceModel (FileStore D g)))))
       (segments : List Segment) (batches : List Batch) (calls : List CallRecord) (last : FileStore D g)
-      → StartsOver before old → MadeSegments space (bound_waiting_of tables) old segments purged
-      → MadeBatches space (bound_waiting_of tables) purged batches mid
-      → CalledInOrder space (bound_waiting_of tables) mid calls new → IsSoundByStore (space_of new)
+      → StartsOver before old → MadeSegments space (quota_pending_of tables) old segments purged
+      → MadeBatches space (quota_pending_of tables) purged batches mid
+      → CalledInOrder space (quota_pending_of tables) mid calls new → IsSoundByStore (space_of new)
       → LeavesFiles (space_of new).space.store last → IsClean (store.view last) → FilesLeft last after
       → Continues before (run_purged old segments (batches ++ uncommitted calls ∷ [])) after
 
@@ -69,9 +69,9 @@ module _ {D : Type 0} {g : disk.Ghosts D} (tables : spaces.Ghosts (SqlSpaceModel
   ContinuesInBatchesClosed =
       (before after : Image) (old purged mid new : Service (QuotaModel (MirroredModel (SqlSpaceModel (FileStore D g)))))
       (segments : List Segment) (batches : List Batch) (calls : List CallRecord) (files : Files D)
-      → StartsOver before old → MadeSegments space (bound_waiting_of tables) old segments purged
-      → MadeBatches space (bound_waiting_of tables) purged batches mid
-      → CalledInOrder space (bound_waiting_of tables) mid calls new → IsSoundByStore (space_of new)
+      → StartsOver before old → MadeSegments space (quota_pending_of tables) old segments purged
+      → MadeBatches space (quota_pending_of tables) purged batches mid
+      → CalledInOrder space (quota_pending_of tables) mid calls new → IsSoundByStore (space_of new)
       → ClosesFiles (space_of new).space.store files → AreClean g files.log files.db
       → FilesHave g files after
       → Continues before (run_purged old segments (batches ++ uncommitted calls ∷ [])) after

@@ -1,7 +1,7 @@
 //! Laws of a service over tables. No program calls these functions: they state facts in their
 //! contracts.
 ghost use Rattle.service_calls.specs.Purged.{OpenSegmentIsNotDurable};
-ghost use Rattle.service_recovery.specs.Crash.{CrashAfterCall, CrashAfterGroupedCall, CrashAfterBatch, bound_waiting_of};
+ghost use Rattle.service_recovery.specs.Crash.{CrashAfterCall, CrashAfterGroupedCall, CrashAfterBatch, quota_pending_of};
 ghost use Rattle.service_recovery.specs.InBatches.{ContinuesInBatches, ContinuesInBatchesClosed, SomeIsHeld};
 ghost use Rattle.service_recovery.specs.Life.{AloneIsStepped, AskedOn, ContinuesClosed, ContinuesRefused, ContinuesServed, LifeIsFound, LifeLeaves, PurgeRunIsPartly, UnstoppedIsExpected, UnstoppedIsDuePurged};
 ghost use Rattle.service_recovery.specs.Restart.{RestartAfterCall};
@@ -49,7 +49,7 @@ fn some_is_held<A: Alter>()
 // States the law of open segments over tables in any store.
 fn open_segment_of_tables<A: Alter + Drop>()
     ensures { OpenSegmentIsNotDurable ⟦<QuotaSpace<Mirrored<SqlSpace<A>>> as Space>⟧
-        (bound_waiting_of ⟦<SqlSpace<A> as Space>⟧) }
+        (quota_pending_of ⟦<SqlSpace<A> as Space>⟧) }
 {}
 
 /// States that, after a call of a service over files and a crash, a space opened over the files has

@@ -1,6 +1,6 @@
 pub mod Notified
 pub mod Looked
 pub mod Steps
-pub mod Keeps
-pub mod Seen
+pub mod Preserves
+pub mod Visible
 pub mod Decided

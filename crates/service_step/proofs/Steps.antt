@@ -23,7 +23,7 @@ use Rattle.policy_core.specs.declared.call.Operation.TheVariants.{NoRoute, NoMet
 use Rattle.policy_core.specs.declared.rule.Rule.TheVariants.{Route, Method, Token, Scope, Form, Area, Found, Fresh, Manager, Version, Role, Change, Ended, Subscription, Depended, Key, Limit}
 use Rattle.policy_core.specs.Scope.{is_permitted}
 use Rattle.policy_core.specs.Call.{is_about_sub, is_change}
-use Rattle.policy_core.specs.Policy.{breaks, breaks_depended, breaks_subscription, early_rules, standing_rules, last_rules, first_broken, has_last_version, is_spent, is_sub_of_another, names_wrongly}
+use Rattle.policy_core.specs.Policy.{breaks, breaks_depended, breaks_subscription, early_rules, standing_rules, last_rules, first_broken, has_last_version, is_spent, is_sub_of_another, references_wrongly}
 use Rattle.policy_core.specs.Standing.{Facts, depended_of, found_of, is_some_of, sub_of, sub_under}
 use Rattle.policy_core.specs.View.{view_of}
 use Rattle.policy_core.specs.declared.reference.Reference.{Reference}
@@ -43,7 +43,7 @@ use Rattle.service_step.specs.Admitted.{IsAdmitted}
 use Rattle.service_step.specs.declared.admitted.Admitted.{Admitted}
 use Rattle.service_step.specs.Looks.{Announces, AreFacts, Makes, Prepares, PutsEntity, PutsSub, changed_by}
 use Rattle.policy_core.proofs.Finds.{find_rest, none_passes}
-use Rattle.service_step.proofs.Keeps.{told_within}
+use Rattle.service_step.proofs.Preserves.{told_within}
 use Rattle.service_step.proofs.Notified.{notified_rise, notified_there, told_alike}
 
 no_limit : (k l : Bool) → cond k (Some Key) (cond l (Some Limit) None) ≡ None → l ≡ false
@@ -144,7 +144,7 @@ is_there : {X : Type 0} (o : Option X) (b : Bool) → (is_none o || b) ≡ false
 is_there None b h = cc
 is_there (Some x) b h = refl
 
-named_there : (a : Airspace) (caller : Caller) (named : Option ℕ) → names_wrongly (Some caller) named (sub_under a named) ≡ false → HasNamed a named
+named_there : (a : Airspace) (caller : Caller) (named : Option ℕ) → references_wrongly (Some caller) named (sub_under a named) ≡ false → HasNamed a named
 named_there a caller None h = tt
 named_there a caller (Some id) h = is_there (get a.subscriptions id) (is_sub_of_another (Some caller) (get a.subscriptions id)) h
 

@@ -5,7 +5,7 @@ use Rattle.entity_core.specs.declared.availability.Availability.{Availability}
 use Rattle.entity_core.specs.declared.entity.Entity.{Entity}
 use Rattle.entity_core.specs.declared.nature.Kind.{Kind}
 use Rattle.policy_core.specs.Missing.{needed_with}
-use Rattle.service_step.specs.declared.needed.JudgedPut.{JudgedPut}
+use Rattle.service_step.specs.declared.needed.EvaluatedPut.{EvaluatedPut}
 use Rattle.service_step.specs.declared.needed.Needed.{Needed}
 
 -- The availability of the manager of an entity in an airspace.
@@ -21,12 +21,12 @@ abbrev pub ArePresent : Airspace → Needed → Type 0
 ArePresent a needed = needed.availabilities.items ≡ map (manager_has a) needed.entities.items
 
 -- The entities of a kind that the put needs to know.
-abbrev pub needed_by : Kind → Airspace → JudgedPut → List Entity
-needed_by kind a judged =
-    needed_with kind a (Some judged.caller.now) judged.sub.now judged.id judged.put.now
+abbrev pub needed_by : Kind → Airspace → EvaluatedPut → List Entity
+needed_by kind a evaluated =
+    needed_with kind a (Some evaluated.caller.now) evaluated.sub.now evaluated.id evaluated.put.now
 
 -- Holds if `needed` has the entities that the put needs to know, with their managers'
 -- availabilities.
-abbrev pub IsNeededFor : Kind → JudgedPut → Airspace → Needed → Type 0
-IsNeededFor kind judged a needed =
-    (needed.entities.items ≡ needed_by kind a judged) × ArePresent a needed
+abbrev pub IsNeededFor : Kind → EvaluatedPut → Airspace → Needed → Type 0
+IsNeededFor kind evaluated a needed =
+    (needed.entities.items ≡ needed_by kind a evaluated) × ArePresent a needed

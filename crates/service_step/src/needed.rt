@@ -32,7 +32,7 @@ use std::alloc::{AllocError, Global};
 /// A put that is evaluated: its id, its caller, and the subscription that it references, if that
 /// one exists.
 #[derive(Clone, Copy)]
-pub struct JudgedPut<'c> {
+pub struct EvaluatedPut<'c> {
     pub id: EntityId,
     pub put: &'c Put,
     pub sub: &'c Option<Sub>,
@@ -132,17 +132,17 @@ pub fn needed_with<S: Space>(
     space: &mut S,
     alloc: Global,
     kind: Kind,
-    judged: &JudgedPut<'_>,
+    evaluated: &EvaluatedPut<'_>,
     areas: &[Area],
 ) -> Result<Needed, CallFault>
-    requires areas { areas.now ≡ map region_of judged.now.put.now.volumes }
-    ensures looks { LooksUp S.Space space.old space.new result (IsNeededFor kind judged.now) }
+    requires areas { areas.now ≡ map region_of evaluated.now.put.now.volumes }
+    ensures looks { LooksUp S.Space space.old space.new result (IsNeededFor kind evaluated.now) }
     ensures paired { IfOk result IsPaired }
 {
-    if !put_needs(kind, judged.caller, judged.put, judged.sub) {
+    if !put_needs(kind, evaluated.caller, evaluated.put, evaluated.sub) {
         return Ok(Needed::nothing(alloc));
     }
-    let met = find_meeting(space, kind, areas, excepted(kind, judged.id))?;
+    let met = find_meeting(space, kind, areas, excepted(kind, evaluated.id))?;
     Ok(unspared(alloc, met)?)
 }
 

@@ -66,7 +66,7 @@ fn seen_sub<S: Space>(space: &mut S, alloc: Global, sub: &Sub) -> Result<SubView
     Ok(sub_view(alloc, sub, &dependents)?)
 }
 
-fn seen_subs<S: Space>(space: &mut S, alloc: Global, subs: &[Sub]) -> Result<SubViews, CallFault>
+fn sub_views_of<S: Space>(space: &mut S, alloc: Global, subs: &[Sub]) -> Result<SubViews, CallFault>
     ensures { LooksUp S.Space space.old space.new result
         (λ a views. views ≡ map (seen_sub a) subs.now) }
 {
@@ -147,7 +147,7 @@ pub fn prepare_query_subs<S: Space>(
         (map (seen_sub a) (subscriptions_in a.subscriptions uss.now area.now)))) }
 {
     let own = look_own(space, uss, area)?;
-    let shown = seen_subs(space, alloc, &own)?;
+    let shown = sub_views_of(space, alloc, &own)?;
     Ok(Prepared::read_only(alloc, Answer::SubListed(shown)))
 }
 

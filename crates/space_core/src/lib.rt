@@ -5,4 +5,6 @@ pub mod batch;
 pub mod group_commit;
 pub mod laws;
 pub mod met;
+pub mod purge;
+pub mod purge_ended;
 pub mod space;

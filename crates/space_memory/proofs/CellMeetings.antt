@@ -12,7 +12,7 @@ use Rattle.std.specs.BTreeSet.{BTreeSet}
 use Rattle.grid_core.specs.Cell.{Cell, Touch, lo_of, hi_of, parent_of}
 use Rattle.grid_core.specs.Extent.{Region}
 use Rattle.grid_core.proofs.IndexLaws.{found_by_index_lem}
-use Rattle.space_memory.specs.CellIndex.{Holder, Mark, Grows, IsMarked, mark_of, place_of}
+use Rattle.space_memory.specs.CellIndex.{Holder, Mark, Grows, IsMarked, mark_of, position_of}
 use Rattle.space_memory.specs.Near.{Pair, Part, Span, Gathers, GathersAll, HasAllSpans, HasBit, HasMeeting, HasSpansOf, IsStart, Widens, exact_of, pair_cmp, part_of, range_of}
 use Rattle.space_memory.proofs.Bits.{pair_exact}
 use Rattle.space_memory.proofs.CellSets.{equal_is}
@@ -87,13 +87,13 @@ found_cell marks spans near g e i c d b small m a t =
       | inr h ↦
           let lo : lo_of c ≡ lo_of (parent_of d h.0) = h.3 in
           let hi : hi_of c ≡ hi_of (parent_of d h.0) = h.4 in
-          let same : place_of c ≡ place_of (parent_of d h.0) = omega (arith, lo, hi) in
-          let from : place_of (parent_of d h.0) ≤ place_of c + i = omega (arith, same) in
-          let to : place_of c + i < place_of (parent_of d h.0) + 32 = omega (arith, same) in
+          let same : position_of c ≡ position_of (parent_of d h.0) = omega (arith, lo, hi) in
+          let from : position_of (parent_of d h.0) ≤ position_of c + i = omega (arith, same) in
+          let to : position_of c + i < position_of (parent_of d h.0) + 32 = omega (arith, same) in
           g (exact_of (parent_of d h.0)) b (a.ancestors h.0 h.1 h.2 b (bit_at-pow_same b)) (mark_of e i c) m.mark from to
     ])
   where
-    volume_at : (c : Cell) (i : ℕ) → i < 32 → (place_of c + i) % 32 ≡ i
+    volume_at : (c : Cell) (i : ℕ) → i < 32 → (position_of c + i) % 32 ≡ i
     volume_at c i l = omega arith
 
 pub has_meeting : (marks : BTreeSet Mark) (spans : BTreeMap Span ℕ) (near : BTreeMap Part ℕ) (areas : List Region) → GathersAll marks spans near → HasAllSpans spans areas → HasMeeting marks areas near

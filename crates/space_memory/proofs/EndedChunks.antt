@@ -26,7 +26,7 @@ use Rattle.entity_maps.specs.Subscriptions.{subscription_map}
 use Rattle.entity_purge.specs.declared.purge_item.PurgeItem.{PurgeItem}
 use Rattle.entity_purge.specs.declared.purge_item.PurgeItem.TheVariants as gone
 use Rattle.entity_purge.specs.PurgeItem.{AreDueForPurge, IsPurgeChunk, without_item}
-use Rattle.entity_purge.specs.Purge.{has_ended, is_named_in, less_entity, less_subscription, sub_has_ended}
+use Rattle.entity_purge.specs.Purge.{has_ended, is_referenced_in, less_entity, less_subscription, sub_has_ended}
 use Rattle.entity_purge.proofs.Maps.{below_found, both_hold, turned_true, turned_false}
 use Rattle.entity_purge.proofs.Chunks.{chunks_make}
 use Rattle.space_memory.specs.Proper.{own_id}
@@ -144,8 +144,8 @@ frees until (s ∷ ss) a rises there =
     λ id x h. there id x (found_later nat_cmp nat_cmp_total (subs.pair_of s) id x (keyed subs.pair_of ss) below h) in
     elim (is_free until a.entities s) as (λ b. is_free until a.entities s ≡ b → AreDueForPurge until (map (λ x. gone.Subscription x.id) (cond b (s ∷ filter (is_free until a.entities) ss) (filter (is_free until a.entities) ss))) a) [
       | true ↦ λ t.
-          let both = both_hold (sub_has_ended until s) (not (is_named_in a.entities s.id)) t in (
-            (s, there s.id s (found_here nat_cmp nat_cmp_total (subs.pair_of s) (keyed subs.pair_of ss)), both.0, turned_true (is_named_in a.entities s.id) both.1),
+          let both = both_hold (sub_has_ended until s) (not (is_referenced_in a.entities s.id)) t in (
+            (s, there s.id s (found_here nat_cmp nat_cmp_total (subs.pair_of s) (keyed subs.pair_of ss)), both.0, turned_true (is_referenced_in a.entities s.id) both.1),
             frees until ss (less_subscription a s.id) rest (λ id x h. left_later nat_cmp nat_cmp_total a.subscriptions (subs.pair_of s) id x (keyed subs.pair_of ss) below h (later id x h)),
           )
       | false ↦ λ t. frees until ss a rest later
@@ -210,8 +210,8 @@ module _ (until most : ℕ) (es : List Entity) (ss : List Sub) (settings : List 
             (λ k e there. none_ended until es k e (one.last none room) (sym (found_entity k) ∙ there))
             (λ id s there ended.
             let h = sym (found_sub id) ∙ there in
-            let held = held_by (sub_has_ended until s) (is_named_in (entity_map es) s.id) (none_free until (entity_map es) ss id s (two.last empty more) h) ended in
-            subst (λ (n : ℕ). is_named_in (entity_map es) n ≡ true) (own_id ss id s h) held));
+            let held = held_by (sub_has_ended until s) (is_referenced_in (entity_map es) s.id) (none_free until (entity_map es) ss id s (two.last empty more) h) ended in
+            subst (λ (n : ℕ). is_referenced_in (entity_map es) n ≡ true) (own_id ss id s h) held));
       }
 
 -- Filtering with a test that always passes returns the list.

@@ -3,10 +3,10 @@ pub mod CellSets
 pub mod Bits
 pub mod CellMeetings
 pub mod FoundIds
-pub mod KeptEntries
+pub mod StoredEntries
 pub mod Named
 pub mod IndexedMaps
 pub mod SubscriptionIndexes
-pub mod SoughtMaps
+pub mod SearchMaps
 pub mod NamePairs
 pub mod EndedChunks

@@ -22,11 +22,11 @@ use Rattle.entity_core.specs.declared.nature.Nature.TheVariants as nature
 use Rattle.entity_core.specs.declared.nature.Kind.TheVariants.{Intent}
 use Rattle.entity_core.proofs.Keys.{key_exact, key_total}
 use Rattle.entity_maps.specs.Entities.{entity_map}
-use Rattle.entity_purge.specs.Purge.{is_named_in}
+use Rattle.entity_purge.specs.Purge.{is_referenced_in}
 use Rattle.space_memory.specs.Names.{ArePairsOf, HasPair, IsEntered, IsNameIndex, Naming, NamesMore, dependent_at, id_if_naming, naming_cmp}
 use Rattle.space_memory.proofs.CellSets.{any_kept, either, equal_is}
 use Rattle.space_memory.proofs.Named.{all_named}
-use Rattle.space_memory.proofs.SoughtMaps.{own_of, rising}
+use Rattle.space_memory.proofs.SearchMaps.{own_of, rising}
 
 pub naming_exact : CmpEqualImpliesEq naming_cmp
 naming_exact = exact_pairs nat_cmp nat_cmp exact_unsigned exact_unsigned
@@ -209,7 +209,7 @@ module _ (es : List Entity) (names : BTreeSet Naming) (id : ℕ) (pairs : List N
       let is = id_is id (subscription_of x.nature) t in
       (x.id, naming_key es k x id at is, any_kept nat_cmp exact_unsigned (names_it look id) x.id numbers (ap is_some (depends es k x id at is)) (are.all x.id (index k x at id is)))))
 
-  pub named_found : list_any (λ (q : Naming). is_some (dependent_at (entity_map es) id q.1)) pairs ≡ is_named_in (entity_map es) id
+  pub named_found : list_any (λ (q : Naming). is_some (dependent_at (entity_map es) id q.1)) pairs ≡ is_referenced_in (entity_map es) id
   unfolding dependents_in
   named_found =
       any_some (λ (q : Naming). dependent_at (entity_map es) id q.1) pairs

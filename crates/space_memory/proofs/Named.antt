@@ -16,7 +16,7 @@ use Rattle.std.specs.FinMap.Entries.{below_all}
 use Rattle.entity_maps.specs.Sorted.{Rise, keyed, map_of}
 use Rattle.entity_maps.proofs.Maps.{entries_of, get_of}
 use Rattle.space_memory.proofs.CellSets.{equal_is}
-use Rattle.space_memory.proofs.KeptEntries.{entries_kept}
+use Rattle.space_memory.proofs.StoredEntries.{entries_kept}
 
 both : (a b : Bool) → T a → T b → T (a && b)
 both true b p q = q

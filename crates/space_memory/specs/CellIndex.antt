@@ -24,11 +24,11 @@ mark_cmp a b = ordering_then (ordering_then (nat_cmp a.0 b.0) (nat_cmp a.1 b.1))
 
 -- The interval of a cell as one number, ordered by its first index. The last five bits are free for
 -- the number of a volume.
-abbrev pub place_of : Cell → ℕ
-place_of c = lo_of c * 17179869184 + hi_of c * 32
+abbrev pub position_of : Cell → ℕ
+position_of c = lo_of c * 17179869184 + hi_of c * 32
 
 abbrev pub mark_of : Holder → ℕ → Cell → Mark
-mark_of h volume c = (place_of c + volume, h.0, h.1)
+mark_of h volume c = (position_of c + volume, h.0, h.1)
 
 -- Holds if the index has a mark of the cell in this volume of the holder.
 pub record IsMarked (marks : BTreeSet Mark) (h : Holder) (volume : ℕ) (c : Cell) : Type 0 where

@@ -8,7 +8,7 @@ use Rattle.std.specs.BTreeMap.{BTreeMap, get}
 use Rattle.std.specs.BTreeSet.{BTreeSet, contains}
 use Rattle.grid_core.specs.Cell.{Cell, IsCell, lo_of, hi_of, parent_of}
 use Rattle.grid_core.specs.Extent.{Extent, Region, Meet, region_of}
-use Rattle.space_memory.specs.CellIndex.{Holder, Mark, IsMarked, mark_cmp, place_of}
+use Rattle.space_memory.specs.CellIndex.{Holder, Mark, IsMarked, mark_cmp, position_of}
 
 -- Holds if x is the element at index i.
 abbrev pub IsAt : {X : Type 0} → List X → ℕ → X → Type 0
@@ -46,7 +46,7 @@ range_of c = (lo_of c * 17179869184, (hi_of c + 1) * 17179869184)
 
 -- The positions of one cell only.
 abbrev pub exact_of : Cell → Span
-exact_of c = (place_of c, place_of c + 32)
+exact_of c = (position_of c, position_of c + 32)
 
 -- Holds if the bits are set for the spans of all cells at levels below 13 that contain the cell.
 abbrev pub HasAncestors : BTreeMap Span ℕ → ℕ → Cell → Type 0

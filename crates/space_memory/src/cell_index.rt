@@ -2,7 +2,7 @@
 ghost use Rattle.std.specs.Prelude.{◌≡◌, ◌<◌, OnOk};
 ghost use Rattle.std.specs.List.{All};
 ghost use Rattle.grid_core.specs.Cell.{IsCell, lo_of, hi_of};
-ghost use Rattle.space_memory.specs.CellIndex.{holder_of, mark_of, place_of, AllMarked, Grows, IsMarked, KeepsOthers};
+ghost use Rattle.space_memory.specs.CellIndex.{holder_of, mark_of, position_of, AllMarked, Grows, IsMarked, KeepsOthers};
 
 use entity_core::entity::Entity;
 use entity_maps::entities::kind_index;
@@ -38,9 +38,9 @@ pub(crate) fn interval_of(cell: CellId) -> (u64, u64)
 /// Returns the position of a cell for volume number 0.
 ///
 /// The position for the next volume follows it.
-pub(crate) fn place_of(cell: CellId) -> u64
+pub(crate) fn position_of(cell: CellId) -> u64
     ensures valid { IsCell cell }
-    ensures place { result ≡ place_of cell }
+    ensures place { result ≡ position_of cell }
     ensures narrow { hi_of cell < 536870912 }
     ensures small { result < 9223372036854775808 }
 {
@@ -53,7 +53,7 @@ fn mark(holder: Holder, volume: u8, cell: CellId) -> Mark
     ensures mark { result ≡ mark_of holder volume cell }
     ensures narrow { hi_of cell < 536870912 }
 {
-    (place_of(cell) + u64::from(volume), holder.0, holder.1)
+    (position_of(cell) + u64::from(volume), holder.0, holder.1)
 }
 
 /// Marks cells of a volume of a holder.

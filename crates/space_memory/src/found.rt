@@ -61,7 +61,7 @@ fn is_found(
 }
 
 /// Returns the ids of the entities of a kind that match a search, given its candidates.
-pub(crate) fn sought_ids(
+pub(crate) fn found_ids(
     alloc: Global,
     entities: &Entities,
     near: &Near,

@@ -39,7 +39,7 @@ impl MemorySpace {
             availabilities,
             serial,
             refusals: 0,
-            last_gone: None,
+            last_removed: None,
         })
     }
 }

@@ -7,13 +7,13 @@ ghost use Rattle.std.specs.FinMap.{get, insert, remove};
 ghost use Rattle.entity_core.specs.Airspace.{key_of};
 ghost use Rattle.entity_core.specs.Search.{meeting_in, all_in, dependents_in};
 ghost use Rattle.entity_maps.specs.Entities.{entity_map};
-ghost use Rattle.entity_purge.specs.Purge.{is_named_in};
+ghost use Rattle.entity_purge.specs.Purge.{is_referenced_in};
 ghost use Rattle.space_memory.specs.CellIndex.{AllMarked, Grows, IsIndexOf};
 ghost use Rattle.space_memory.specs.Names.{IsEntered, IsNameIndex, NamesMore};
 
 use crate::cell_index::{Mark, mark_entity, unmark_entity};
-use crate::found::{entities_of, sought_ids};
-use crate::names::{Naming, dependents_of, enter_name, forget_name, is_named};
+use crate::found::{entities_of, found_ids};
+use crate::names::{Naming, add_reference, dependents_of, is_named, remove_reference};
 use crate::near::near;
 use entity_core::entity::Entity;
 use entity_core::entity_id::EntityId;
@@ -64,7 +64,7 @@ fn forget_entity(
     ensures names { IsNameIndex (entity_map entities.now) names.old
         → IsNameIndex (entity_map entities.now) names.new }
 {
-    forget_name(names, entities, gone);
+    remove_reference(names, entities, gone);
     if !entities.has_put(gone) {
         unmark_entity(marks, gone);
     }
@@ -81,7 +81,7 @@ fn add_entity(
     ensures marked { OnOk result (AllMarked marks.new entity.now) }
     ensures entered { OnOk result (IsEntered names.new entity.now) }
 {
-    enter_name(names, entity)?;
+    add_reference(names, entity)?;
     mark_entity(marks, entity)
 }
 
@@ -170,7 +170,7 @@ fn meeting_in(
 {
     let areas = sorted(alloc, areas)?;
     let near = near(alloc, marks, &areas)?;
-    let ids = sought_ids(alloc, entities, &near, kind, &areas, &except)?;
+    let ids = found_ids(alloc, entities, &near, kind, &areas, &except)?;
     entities_of(alloc, entities, kind, &ids)
 }
 
@@ -285,7 +285,7 @@ impl IndexedEntities {
     ///
     /// Allocates nothing.
     pub(crate) fn is_named(&self, id: EntityId) -> bool
-        ensures { result ≡ is_named_in (entity_map self.now) id }
+        ensures { result ≡ is_referenced_in (entity_map self.now) id }
     {
         is_named(&self.entities, &self.names, id)
     }

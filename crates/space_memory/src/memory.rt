@@ -41,7 +41,7 @@ pub struct MemorySpace {
     pub(crate) serial: u64,
     pub(crate) refusals: u64,
     // The item that was purged last. The next search for items to purge starts there.
-    pub(crate) last_gone: Option<PurgeItem>,
+    pub(crate) last_removed: Option<PurgeItem>,
     ghost told: { AllNotified subscriptions serial },
 }
 
@@ -70,7 +70,7 @@ impl MemorySpace {
             availabilities: Availabilities::new(alloc),
             serial,
             refusals: 0,
-            last_gone: None,
+            last_removed: None,
         }
     }
 
@@ -99,7 +99,7 @@ impl MemorySpace {
 
     // Applies a change and increments the serial by one. If memory runs out, changes nothing and
     // counts an `Unchanged` result.
-    fn go_on(&mut self, change: Change, notify: &[EntityId]) -> Result<(), SpaceFault>
+    fn apply_change(&mut self, change: Change, notify: &[EntityId]) -> Result<(), SpaceFault>
         requires { CanFollow change (content_of self.old) }
         ensures done { OnOk result
             (content_of self.new ≡ changed change notify.now (content_of self.old)) }
@@ -135,7 +135,7 @@ impl MemorySpace {
         if !self.can_follow(&change) {
             return Err(self.refuse());
         }
-        self.go_on(change, notify)
+        self.apply_change(change, notify)
     }
 }
 
@@ -265,6 +265,6 @@ impl Space for MemorySpace {
         ensures removed { IsRemoval change → IsOk result }
         ensures over { IsOver change (content_of self.old) → IsOk result }
     {
-        self.go_on(change, notify)
+        self.apply_change(change, notify)
     }
 }

@@ -4,7 +4,7 @@
 ghost use Rattle.std.specs.Prelude.{◌≡◌, IfOk, OnOk};
 ghost use Rattle.entity_core.specs.Search.{dependents_in};
 ghost use Rattle.entity_maps.specs.Entities.{entity_map};
-ghost use Rattle.entity_purge.specs.Purge.{is_named_in};
+ghost use Rattle.entity_purge.specs.Purge.{is_referenced_in};
 ghost use Rattle.space_memory.specs.Names.{ArePairsOf, IsEntered, IsNameIndex, NamesMore, dependent_at};
 
 use entity_core::entity::Entity;
@@ -23,7 +23,7 @@ pub(crate) type Naming = (u128, u128);
 /// Adds the pair of an entity, if it references a subscription.
 ///
 /// Returns `AllocError` and changes nothing if memory runs out.
-pub(crate) fn enter_name(names: &mut BTreeSet<Naming>, entity: &Entity) -> Result<(), AllocError>
+pub(crate) fn add_reference(names: &mut BTreeSet<Naming>, entity: &Entity) -> Result<(), AllocError>
     ensures kept { NamesMore names.old names.new }
     ensures entered { OnOk result (IsEntered names.new entity.now) }
 {
@@ -48,7 +48,7 @@ fn dependent_at(entities: &Entities, id: EntityId, intent: u128) -> Option<Entit
 
 /// Removes the pair of an entity, unless the stored intent with its id references the same
 /// subscription.
-pub(crate) fn forget_name(names: &mut BTreeSet<Naming>, entities: &Entities, gone: &Entity)
+pub(crate) fn remove_reference(names: &mut BTreeSet<Naming>, entities: &Entities, gone: &Entity)
     ensures { IsNameIndex (entity_map entities.now) names.old
         → IsNameIndex (entity_map entities.now) names.new }
 {
@@ -93,7 +93,7 @@ pub(crate) fn dependents_of(
 /// Allocates nothing.
 pub(crate) fn is_named(entities: &Entities, names: &BTreeSet<Naming>, id: EntityId) -> bool
     requires { IsNameIndex (entity_map entities.now) names.now }
-    ensures { result ≡ is_named_in (entity_map entities.now) id }
+    ensures { result ≡ is_referenced_in (entity_map entities.now) id }
 {
     for pair in pairs_of(names, id) {
         if dependent_at(entities, id, pair.1).is_some() {

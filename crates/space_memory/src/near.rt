@@ -11,7 +11,7 @@ ghost use Rattle.grid_core.specs.Extent.{Region, meets, region_of};
 ghost use Rattle.grid_core.specs.Volumes.{meets_some};
 ghost use Rattle.space_memory.specs.Near.{exact_of, pair_cmp, part_of, range_of, Gathers, GathersAll, HasAllSpans, HasAncestors, HasBits, HasMeeting, HasSpansOf, IsAt, IsStart, Widens};
 
-use crate::cell_index::{Mark, STEP, WIDTH, interval_of, place_of};
+use crate::cell_index::{Mark, STEP, WIDTH, interval_of, position_of};
 use grid_core::cell::CellId;
 use grid_core::sorted_area::SortedArea;
 use grid_core::volume::Volume;
@@ -77,7 +77,7 @@ fn add_exact(spans: &mut Spans, bits: u64, cell: CellId) -> Result<(), AllocErro
     ensures kept { Widens spans.old spans.new }
     ensures there { OnOk result (HasBits spans.new (exact_of cell) bits) }
 {
-    let place = place_of(cell);
+    let place = position_of(cell);
     add_span(spans, (place, place + WIDTH), bits)
 }
 

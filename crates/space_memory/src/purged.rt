@@ -23,7 +23,7 @@ use std::collections::btree_map::Range;
 /// The number of cells after which a chunk ends.
 ///
 /// Each cell is a row to delete, and no client should wait long for that.
-const MOST_CELLS: usize = 1024;
+const MAX_CELLS: usize = 1024;
 
 // The number of references that cost as much to scan as one cell row to delete. Deleting a
 // subscription scans all references, because the database has no index of them.
@@ -63,7 +63,7 @@ fn cells_of(entity: &Entity) -> usize {
 fn is_full(gone: &Vec<PurgeItem>, cells: usize, most: usize) -> bool
     ensures { IsFalse result → length gone.now.items < most }
 {
-    gone.len() >= most || cells > MOST_CELLS
+    gone.len() >= most || cells > MAX_CELLS
 }
 
 // ---- the items of a chunk
@@ -197,7 +197,7 @@ fn chunk_of(
 
 // ---- purging
 
-fn let_one_go(
+fn purge_one(
     entities: &mut IndexedEntities,
     subscriptions: &mut IndexedSubscriptions,
     gone: &PurgeItem,
@@ -212,7 +212,7 @@ fn let_one_go(
     }
 }
 
-fn let_all_go(
+fn purge_all(
     entities: &mut IndexedEntities,
     subscriptions: &mut IndexedSubscriptions,
     gone: &[PurgeItem],
@@ -222,7 +222,7 @@ fn let_all_go(
         ≡ without_items gone.now (airspace_of entities.old subscriptions.old settings serial) }
 {
     for one in gone {
-        let_one_go(entities, subscriptions, one);
+        purge_one(entities, subscriptions, one);
     }
 }
 
@@ -243,7 +243,7 @@ impl MemorySpace {
             self.alloc,
             &self.entities,
             self.subscriptions.subscriptions(),
-            self.last_gone,
+            self.last_removed,
             until,
             most,
         )
@@ -257,7 +257,7 @@ impl MemorySpace {
         ensures content { content_of self.new ≡ without_items gone.now (content_of self.old) }
         ensures refusals { refusals_of self.new ≡ refusals_of self.old }
     {
-        self.last_gone = gone.last().copied().or(self.last_gone);
-        let_all_go(&mut self.entities, &mut self.subscriptions, gone);
+        self.last_removed = gone.last().copied().or(self.last_removed);
+        purge_all(&mut self.entities, &mut self.subscriptions, gone);
     }
 }

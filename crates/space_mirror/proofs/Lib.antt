@@ -1,4 +1,4 @@
-pub mod Going
-pub mod Groups
-pub mod Settled
-pub mod Waits
+pub mod Purging
+pub mod Mirrors
+pub mod Committed
+pub mod Pending

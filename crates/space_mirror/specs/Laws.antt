@@ -26,16 +26,16 @@ module _ (Held : Airspace → Type 0) (batch : List BatchChange) where
   abbrev Seen : Airspace → Type 0
   Seen b = (a : Airspace) × Held a × (b ≡ changed_all batch a)
 
-  pub one_seen : ((a b : Airspace) → Held a → Held b → a ≡ b) → (a b : Airspace) → Seen a → Seen b
+  pub visible_unique : ((a b : Airspace) → Held a → Held b → a ≡ b) → (a b : Airspace) → Seen a → Seen b
       → a ≡ b
-  one_seen one a b h k = h.2 ∙ ap (changed_all batch) (one h.0 k.0 h.1 k.1) ∙ sym k.2
+  visible_unique one a b h k = h.2 ∙ ap (changed_all batch) (one h.0 k.0 h.1 k.1) ∙ sym k.2
 
-  pub some_seen : ∥ ((a : Airspace) × Held a) ∥₁ → ∥ ((b : Airspace) × Seen b) ∥₁
-  some_seen there = ∥∥₁_map there (λ it. (changed_all batch it.0, (it.0, it.1, refl)))
+  pub visible_exists : ∥ ((a : Airspace) × Held a) ∥₁ → ∥ ((b : Airspace) × Seen b) ∥₁
+  visible_exists there = ∥∥₁_map there (λ it. (changed_all batch it.0, (it.0, it.1, refl)))
 
-  pub proper_seen : (b : Airspace) → ((a : Airspace) → Held a → FitAll batch a)
+  pub visible_valid : (b : Airspace) → ((a : Airspace) → Held a → FitAll batch a)
       → ((a : Airspace) → Held a → IsAirspace a) → Seen b → IsAirspace b
-  proper_seen b fits proper h =
+  visible_valid b fits proper h =
       subst IsAirspace (sym h.2) (proper_all batch h.0 (fits h.0 h.1) (proper h.0 h.1))
 
 -- ---- while changes are pending, calls do not change the store
@@ -61,27 +61,27 @@ none_wait (Some []) calm = refl
 none_wait (Some (c ∷ cs)) calm = absurd (let e = calm in cc)
 
 module _ {S : Type 0} (Held : S → Airspace → Type 0) where
-  pub kept_while_waiting : (c : Coded S) (s t : MirroredModel S) (a : Airspace)
+  pub durable_while_pending : (c : Coded S) (s t : MirroredModel S) (a : Airspace)
       → fixed_in c t ≡ fixed_in c s → (is_pending_in s || is_pending_in t) ≡ true
       → Held s.store a ↔ Held t.store a
-  kept_while_waiting c s t a same waits =
+  durable_while_pending c s t a same waits =
       let store = same_store c s t same waits in
       ((λ held. subst (λ x. Held x a) (sym store) held), (λ held. subst (λ x. Held x a) store held))
 
   -- If no change is pending, the visible airspace is durable.
-  pub seen_is_kept : (k : MirroredModel S) (a : Airspace) → is_pending_in k ≡ false
+  pub visible_is_durable : (k : MirroredModel S) (a : Airspace) → is_pending_in k ≡ false
       → Seen (Held k.store) (pending k.ahead) a ↔ Held k.store a
-  seen_is_kept k a calm =
+  visible_is_durable k a calm =
       let none = none_wait k.ahead calm in (
         (λ seen. subst (λ b. Held k.store b)
             (sym (seen.2 ∙ ap (λ cs. changed_all cs seen.0) none)) seen.1),
         (λ held. (a, held, ap (λ cs. changed_all cs a) (sym none))),
       )
 
-pub works_while_waiting : {S : Type 0} (is_broken : S → Bool) (c : Coded S) (s t : MirroredModel S)
+pub works_while_pending : {S : Type 0} (is_broken : S → Bool) (c : Coded S) (s t : MirroredModel S)
     → fixed_in c t ≡ fixed_in c s → (is_pending_in s || is_pending_in t) ≡ true
     → is_broken t.store ≡ is_broken s.store
-works_while_waiting is_broken c s t same waits = ap is_broken (same_store c s t same waits)
+works_while_pending is_broken c s t same waits = ap is_broken (same_store c s t same waits)
 
 -- ---- without pending changes
 
@@ -98,6 +98,6 @@ module _ {S : Type 0} (g : Ghosts S) where
   pub content_of_its_store : (k : MirroredModel S) (a : Airspace) → is_pending_in k ≡ false
       → IsContent g.holds k.store a → IsContent (holds_in g) k a
   content_of_its_store k a calm content = record {
-    held = (seen_is_kept g.holds k a calm).1 content.held;
-    only = λ b seen. content.only b ((seen_is_kept g.holds k b calm).0 seen);
+    held = (visible_is_durable g.holds k a calm).1 content.held;
+    only = λ b seen. content.only b ((visible_is_durable g.holds k b calm).0 seen);
   }

@@ -25,8 +25,8 @@ pub record MirroredModel (S : Type 0) : Type 0 where
 abbrev pub mirrored_model : {S : Type 0} → S → Option (List BatchChange) → ℕ → MirroredModel S
 mirrored_model store ahead refusals = record { store = store; ahead = ahead; refusals = refusals }
 
-abbrev pub group_code : {S : Type 0} → Coded S → Coded (MirroredModel S)
-group_code {S} store =
+abbrev pub mirrored_code : {S : Type 0} → Coded S → Coded (MirroredModel S)
+mirrored_code {S} store =
     code_by (S × (Option (List BatchChange) × ℕ))
     (coded× store (coded× (coded_option (coded_list row.the_row.coded)) coded_ℕ))
     (λ k. (k.store, (k.ahead, k.refusals)))

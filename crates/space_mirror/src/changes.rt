@@ -77,7 +77,7 @@ fn note_full(state: &mut MirrorState, answer: &Result<(), SpaceFault>)
 }
 
 // Records that a dropped mirror is due to be rebuilt once the store has applied a change.
-fn note_made(state: &mut MirrorState, answer: &Result<(), SpaceFault>)
+fn note_outcome(state: &mut MirrorState, answer: &Result<(), SpaceFault>)
     ensures { is_dropped state.new ≡ is_dropped state.old }
 {
     if matches!(*state, MirrorState::Dropped) && answer.is_ok() {
@@ -118,7 +118,7 @@ pub(crate) fn apply<S: Space>(
         }
         None => {
             let answer = store.apply(change, notify);
-            note_made(state, &answer);
+            note_outcome(state, &answer);
             count_refusal(refusals, answer)
         }
     }

@@ -16,11 +16,11 @@ use grid_core::volume::Area;
 use space_core::batch::{ApplyBatch, BatchChange};
 use space_core::group_commit::GroupCommit;
 use space_core::met::Met;
+use space_core::purge::Purge;
+use space_core::purge_ended::PurgeEnded;
 use space_core::space::{Change, Space, SpaceFault};
 use space_memory::memory::MemorySpace;
 use space_memory::to_memory::ToMemory;
-use space_purge::purge::Purge;
-use space_purge::purge_ended::PurgeEnded;
 use space_snapshot::snapshot::{NoMirror, Snapshot, SnapshotSource};
 use std::alloc::Global;
 use std::marker::Model;
@@ -48,11 +48,11 @@ pub struct Mirrored<S: ApplyBatch + ToMemory> {
 }
 
 impl<S: ApplyBatch + ToMemory> Model for Mirrored<S> {
-    ghost use Rattle.space_mirror.specs.Mirrored.{MirrorAgrees, MirroredModel, pending_if_mirrored, group_code};
+    ghost use Rattle.space_mirror.specs.Mirrored.{MirrorAgrees, MirroredModel, pending_if_mirrored, mirrored_code};
 
     ghost Value = { MirroredModel S };
 
-    ghost coded = { group_code S.code };
+    ghost coded = { mirrored_code S.code };
 
     ghost view = { λ s. record {
       store = s.store;
@@ -119,20 +119,20 @@ impl<S: ApplyBatch + ToMemory + Drop> Mirrored<S> {
 
 impl<S: ApplyBatch + ToMemory + Drop> GroupCommit for Mirrored<S> {
     ghost use Rattle.space_mirror.specs.Mirrored.{persists_in, is_pending_in};
-    ghost use Rattle.space_mirror.specs.Laws.{kept_while_waiting, seen_is_kept};
-    ghost use Rattle.space_mirror.specs.Laws.{works_while_waiting};
+    ghost use Rattle.space_mirror.specs.Laws.{durable_while_pending, visible_is_durable};
+    ghost use Rattle.space_mirror.specs.Laws.{works_while_pending};
 
     ghost persists = { λ s a. persists_in S.Space s a };
 
     ghost is_pending = { λ s. is_pending_in s };
 
-    ghost persists_held = { λ s a calm. seen_is_kept (λ x c. S.holds x c) s a calm };
+    ghost persists_held = { λ s a calm. visible_is_durable (λ x c. S.holds x c) s a calm };
 
     ghost persists_while_pending = { λ s t a same waits.
-        kept_while_waiting (λ x c. S.holds x c) S.row.coded s t a same waits };
+        durable_while_pending (λ x c. S.holds x c) S.row.coded s t a same waits };
 
     ghost unbroken_while_pending = { λ s t same waits.
-        works_while_waiting (λ x. S.is_broken x) S.row.coded s t same waits };
+        works_while_pending (λ x. S.is_broken x) S.row.coded s t same waits };
 
     ghost pending_is_unbroken = { λ s sound waits. sound.live waits };
 
@@ -155,7 +155,7 @@ impl<S: ApplyBatch + ToMemory + Drop> GroupCommit for Mirrored<S> {
 
 impl<S: ApplyBatch + ToMemory + Drop> Space for Mirrored<S> {
     ghost use Rattle.space_mirror.specs.Mirrored.{fixed_in, holds_in, is_whole_in, pending};
-    ghost use Rattle.space_mirror.specs.Laws.{one_seen, proper_seen, some_seen};
+    ghost use Rattle.space_mirror.specs.Laws.{visible_unique, visible_valid, visible_exists};
 
     ghost holds = { λ s a. holds_in S.Space s a };
 
@@ -170,16 +170,16 @@ impl<S: ApplyBatch + ToMemory + Drop> Space for Mirrored<S> {
     ghost fixed = { λ s. fixed_in S.row.coded s };
 
     ghost content_unique = { λ s a b sound unbroken h k.
-        one_seen (λ c. S.holds s.store c) (pending s.ahead)
+        visible_unique (λ c. S.holds s.store c) (pending s.ahead)
         (λ c d. S.content_unique s.store c d sound.store unbroken) a b h k };
 
     ghost content_whole = { λ s a sound unbroken h. S.content_whole s.store h.0 sound.store unbroken h.1 };
 
     ghost content_exists = { λ s sound whole.
-        some_seen (λ c. S.holds s.store c) (pending s.ahead) (S.content_exists s.store sound.store whole) };
+        visible_exists (λ c. S.holds s.store c) (pending s.ahead) (S.content_exists s.store sound.store whole) };
 
     ghost content_valid = { λ s a sound h.
-        proper_seen (λ c. S.holds s.store c) (pending s.ahead) a sound.fits
+        visible_valid (λ c. S.holds s.store c) (pending s.ahead) a sound.fits
         (λ c. S.content_valid s.store c sound.store) h };
 
     fn entity(&mut self, kind: Kind, id: EntityId) -> Result<Option<Entity>, SpaceFault> {
@@ -266,7 +266,7 @@ impl<S: ApplyBatch + ToMemory + Drop> Space for Mirrored<S> {
 impl<S: ApplyBatch + ToMemory + Drop> SnapshotSource for Mirrored<S> {
     /// Returns a snapshot of the mirror, if any. It includes the pending changes.
     fn snapshot(&self) -> Result<Snapshot<'_>, NoMirror> {
-        snapshot::shown(&self.store, &self.mirror, self.state, &self.batch)
+        snapshot::snapshot_of(&self.store, &self.mirror, self.state, &self.batch)
     }
 }
 
@@ -285,7 +285,7 @@ impl<S: ApplyBatch + ToMemory + Purge + Drop> PurgeEnded for Mirrored<S> {
     }
 
     fn purge(&mut self, gone: &[PurgeItem]) -> Result<(), SpaceFault> {
-        purges::let_go(
+        purges::purge_both(
             &mut self.store,
             &mut self.mirror,
             &mut self.state,

@@ -12,9 +12,9 @@ use crate::mirror_state::MirrorState;
 use crate::reads::count_refusal;
 use entity_purge::purge_item::PurgeItem;
 use space_core::batch::BatchChange;
+use space_core::purge::Purge;
 use space_core::space::{Space, SpaceFault};
 use space_memory::memory::MemorySpace;
-use space_purge::purge::Purge;
 
 // Returns what the mirror finds. Fails if memory runs out.
 fn ended_in(mirror: &MemorySpace, until: u64, most: usize) -> Result<Vec<PurgeItem>, SpaceFault>
@@ -82,7 +82,7 @@ fn follow(
 
 /// Purges these items in the store and then in the mirror. Returns `Unchanged` if changes are
 /// pending.
-pub(crate) fn let_go<S: Purge>(
+pub(crate) fn purge_both<S: Purge>(
     store: &mut S,
     mirror: &mut Option<MemorySpace>,
     state: &mut MirrorState,

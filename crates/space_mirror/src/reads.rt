@@ -36,7 +36,7 @@ pub(crate) fn count_refusal<T>(
     }
 }
 
-#[tactic(auto, using(crate::proofs::Groups::list_reads, crate::proofs::Groups::store_reads))]
+#[tactic(auto, using(crate::proofs::Mirrors::list_reads, crate::proofs::Mirrors::store_reads))]
 pub(crate) fn entity<S: Space>(
     store: &mut S,
     mirror: &mut Option<MemorySpace>,
@@ -53,7 +53,7 @@ pub(crate) fn entity<S: Space>(
     }
 }
 
-#[tactic(auto, using(crate::proofs::Groups::list_reads, crate::proofs::Groups::store_reads))]
+#[tactic(auto, using(crate::proofs::Mirrors::list_reads, crate::proofs::Mirrors::store_reads))]
 pub(crate) fn meeting<S: Space>(
     store: &mut S,
     mirror: &mut Option<MemorySpace>,
@@ -71,7 +71,7 @@ pub(crate) fn meeting<S: Space>(
     }
 }
 
-#[tactic(auto, using(crate::proofs::Groups::list_reads, crate::proofs::Groups::store_reads))]
+#[tactic(auto, using(crate::proofs::Mirrors::list_reads, crate::proofs::Mirrors::store_reads))]
 pub(crate) fn all<S: Space>(
     store: &mut S,
     mirror: &mut Option<MemorySpace>,
@@ -87,7 +87,7 @@ pub(crate) fn all<S: Space>(
     }
 }
 
-#[tactic(auto, using(crate::proofs::Groups::list_reads, crate::proofs::Groups::store_reads))]
+#[tactic(auto, using(crate::proofs::Mirrors::list_reads, crate::proofs::Mirrors::store_reads))]
 pub(crate) fn availability<S: Space>(
     store: &mut S,
     mirror: &mut Option<MemorySpace>,
@@ -103,7 +103,7 @@ pub(crate) fn availability<S: Space>(
     }
 }
 
-#[tactic(auto, using(crate::proofs::Groups::list_reads, crate::proofs::Groups::store_reads))]
+#[tactic(auto, using(crate::proofs::Mirrors::list_reads, crate::proofs::Mirrors::store_reads))]
 pub(crate) fn subscription<S: Space>(
     store: &mut S,
     mirror: &mut Option<MemorySpace>,
@@ -119,7 +119,7 @@ pub(crate) fn subscription<S: Space>(
     }
 }
 
-#[tactic(auto, using(crate::proofs::Groups::list_reads, crate::proofs::Groups::store_reads))]
+#[tactic(auto, using(crate::proofs::Mirrors::list_reads, crate::proofs::Mirrors::store_reads))]
 pub(crate) fn subscriptions_of<S: Space>(
     store: &mut S,
     mirror: &mut Option<MemorySpace>,
@@ -136,7 +136,7 @@ pub(crate) fn subscriptions_of<S: Space>(
     }
 }
 
-#[tactic(auto, using(crate::proofs::Groups::list_reads, crate::proofs::Groups::store_reads))]
+#[tactic(auto, using(crate::proofs::Mirrors::list_reads, crate::proofs::Mirrors::store_reads))]
 pub(crate) fn subscribers<S: Space>(
     store: &mut S,
     mirror: &mut Option<MemorySpace>,
@@ -153,7 +153,7 @@ pub(crate) fn subscribers<S: Space>(
     }
 }
 
-#[tactic(auto, using(crate::proofs::Groups::list_reads, crate::proofs::Groups::store_reads))]
+#[tactic(auto, using(crate::proofs::Mirrors::list_reads, crate::proofs::Mirrors::store_reads))]
 pub(crate) fn dependents<S: Space>(
     store: &mut S,
     mirror: &mut Option<MemorySpace>,
@@ -169,7 +169,7 @@ pub(crate) fn dependents<S: Space>(
     }
 }
 
-#[tactic(auto, using(crate::proofs::Groups::list_reads, crate::proofs::Groups::store_reads))]
+#[tactic(auto, using(crate::proofs::Mirrors::list_reads, crate::proofs::Mirrors::store_reads))]
 pub(crate) fn serial<S: Space>(
     store: &mut S,
     mirror: &mut Option<MemorySpace>,

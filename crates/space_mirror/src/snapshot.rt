@@ -19,18 +19,18 @@ fn why_none(state: MirrorState) -> NoMirror {
 }
 
 /// Returns a snapshot of the mirror, if any.
-#[tactic(auto, using(crate::proofs::Groups::list_shows))]
-pub(crate) fn shown<'a, S: Space>(
+#[tactic(auto, using(crate::proofs::Mirrors::list_shows))]
+pub(crate) fn snapshot_of<'a, S: Space>(
     store: &S,
     mirror: &'a Option<MemorySpace>,
     state: MirrorState,
     batch: &[BatchChange],
 ) -> Result<Snapshot<'a>, NoMirror>
     requires { MirrorAgrees S.Space store.now mirror.now state batch.now }
-    ensures { S.is_sound store.now → IfOk result (λ shown. (a : Airspace)
+    ensures { S.is_sound store.now → IfOk result (λ snapshot_of. (a : Airspace)
         → holds_in S.Space (mirrored_model store.now (pending_if_mirrored mirror.now batch.now) 0) a
-        → a ≡ airspace_of shown.entities.now shown.subscriptions.now shown.availabilities.now
-        shown.serial) }
+        → a ≡ airspace_of snapshot_of.entities.now snapshot_of.subscriptions.now snapshot_of.availabilities.now
+        snapshot_of.serial) }
 {
     match mirror {
         Some(mirror) => Ok(mirror.snapshot()),

@@ -73,9 +73,9 @@ pub record Applying {S T : Type 0} (g : Ghosts S) (old new : QuotaModel S) (chan
   pub puts : ¬ IsPut change → new.over ≡ old.over
 
 -- Holds if a purge has its results and effects.
-pub record QuotaPurgeEffect {S T : Type 0} (g : Ghosts S) (old new : QuotaModel S) (gone : List PurgeItem)
+pub record QuotaPurgeEffect {S T : Type 0} (g : Ghosts S) (old new : QuotaModel S) (items : List PurgeItem)
     (result : Result T SpaceFault) : Type 0 where
   pub tells : ReportsFault (refusals_in g old) (refusals_in g new)
       (g.is_broken old.space) (g.is_broken new.space) result
   pub changes : Changes (λ s a. g.holds s.space a) (λ s. g.is_sound s.space)
-      (λ s. g.is_whole s.space) (g.is_broken old.space) old new result (without_items gone)
+      (λ s. g.is_whole s.space) (g.is_broken old.space) old new result (without_items items)

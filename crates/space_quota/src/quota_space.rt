@@ -21,8 +21,8 @@ use entity_purge::purge_item::PurgeItem;
 use grid_core::volume::Area;
 use space_core::group_commit::GroupCommit;
 use space_core::met::Met;
+use space_core::purge_ended::PurgeEnded;
 use space_core::space::{Change, Space, SpaceFault};
-use space_purge::purge_ended::PurgeEnded;
 use space_snapshot::snapshot::{NoMirror, Snapshot, SnapshotSource};
 use std::marker::Model;
 
@@ -211,7 +211,7 @@ impl<S: PurgeEnded + SnapshotSource + Drop> PurgeEnded for QuotaSpace<S> {
     ///
     /// Looks up the items in the snapshot of the inner space. With a usage table but without a
     /// snapshot, purges nothing.
-    fn purge(&mut self, gone: &[PurgeItem]) -> Result<(), SpaceFault> {
-        purges::let_go(&mut self.space, &mut self.tally, &mut self.over, gone)
+    fn purge(&mut self, items: &[PurgeItem]) -> Result<(), SpaceFault> {
+        purges::purge_with_quota(&mut self.space, &mut self.tally, &mut self.over, items)
     }
 }

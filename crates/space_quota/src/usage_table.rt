@@ -17,7 +17,7 @@ struct UssEntry {
     /// The visible usage.
     now: Usage,
     /// The usage without the pending changes.
-    settled: Usage,
+    committed: Usage,
 }
 
 /// The usage of each USS, and the quota.
@@ -27,7 +27,7 @@ struct UssEntry {
 #[derive(Debug, Drop)]
 pub struct UsageTable {
     most: u32,
-    suppliers: Vec<UssEntry>,
+    entries: Vec<UssEntry>,
     // Whether everything stored was counted.
     is_whole: bool,
 }
@@ -52,7 +52,7 @@ impl UsageTable {
     pub fn new(alloc: Global, most: u32) -> UsageTable {
         UsageTable {
             most,
-            suppliers: Vec::new(alloc),
+            entries: Vec::new(alloc),
             is_whole: true,
         }
     }
@@ -87,7 +87,7 @@ impl UsageTable {
     }
 
     fn find(&self, uss: &UssId) -> Option<usize> {
-        self.suppliers
+        self.entries
             .iter()
             .position(|supplier| supplier.uss.is(uss))
     }
@@ -97,30 +97,30 @@ impl UsageTable {
         if let Some(at) = self.find(uss) {
             return Ok(at);
         }
-        let at = self.suppliers.len();
-        self.suppliers.push(UssEntry {
+        let at = self.entries.len();
+        self.entries.push(UssEntry {
             uss: uss.clone()?,
             now: Usage::nothing(),
-            settled: Usage::nothing(),
+            committed: Usage::nothing(),
         })?;
         Ok(at)
     }
 
     fn at(&self, at: usize) -> Usage {
-        match self.suppliers.get(at) {
+        match self.entries.get(at) {
             Some(supplier) => supplier.now,
             None => Usage::nothing(),
         }
     }
 
     fn give(&mut self, at: usize, size: Usage) {
-        if let Some(supplier) = self.suppliers.get_mut(at) {
+        if let Some(supplier) = self.entries.get_mut(at) {
             supplier.now = supplier.now.with(size);
         }
     }
 
     fn take(&mut self, at: usize, size: Usage) {
-        if let Some(supplier) = self.suppliers.get_mut(at) {
+        if let Some(supplier) = self.entries.get_mut(at) {
             supplier.now = supplier.now.without(size);
         }
     }
@@ -188,15 +188,15 @@ impl UsageTable {
 
     /// Commits the visible usage: no change is pending any more.
     pub(crate) fn commit(&mut self) {
-        for supplier in self.suppliers.iter_mut() {
-            supplier.settled = supplier.now;
+        for supplier in self.entries.iter_mut() {
+            supplier.committed = supplier.now;
         }
     }
 
     /// Restores the usage without the pending changes, which were not made.
     pub(crate) fn rollback(&mut self) {
-        for supplier in self.suppliers.iter_mut() {
-            supplier.now = supplier.settled;
+        for supplier in self.entries.iter_mut() {
+            supplier.now = supplier.committed;
         }
     }
 }

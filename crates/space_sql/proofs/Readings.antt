@@ -13,7 +13,7 @@ use Rattle.space_core.specs.Space.{Reads, UnlessBroken, is_broken_after}
 use Rattle.space_sql_load.specs.declared.table_check.LoadedAirspace.{LoadedAirspace}
 use Rattle.space_sql.specs.Holding.{IsKeeping, SqlSpaceModel, holds_of, is_sound_of, is_whole_of}
 use Rattle.space_sql.specs.Settling.{Settles}
-use Rattle.space_sql_load.specs.Judging.{loaded_airspace}
+use Rattle.space_sql_load.specs.Checking.{loaded_airspace}
 use Rattle.space_sql_select.specs.Reading.{ReadsTables}
 use Rattle.space_sql.proofs.Outcomes.{clean_before, held_is_spelt, no_other, stays_held, stays_whole}
 

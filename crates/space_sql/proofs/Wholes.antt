@@ -11,7 +11,7 @@ use Rattle.space_core.specs.Space.{Reads, is_broken_after}
 use Rattle.space_memory.specs.Memory.{content_of}
 use Rattle.space_memory.specs.declared.memory.MemorySpace.{MemorySpace}
 use Rattle.space_sql_load.specs.declared.table_check.LoadedAirspace.{LoadedAirspace}
-use Rattle.space_sql_load.specs.Judging.{loaded_airspace}
+use Rattle.space_sql_load.specs.Checking.{loaded_airspace}
 use Rattle.space_sql.specs.Holding.{SqlSpaceModel, holds_in, holds_of, is_sound_of, is_whole_in, is_whole_of}
 
 -- A result that is no worse than `Unchanged` does not break the space.

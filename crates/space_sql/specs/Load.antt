@@ -2,7 +2,7 @@
 use Rattle.std.specs.Prelude.{◌≡◌, false}
 use Rattle.sqlite_trees.specs.declared.store.Store.{Ghosts}
 use Rattle.space_core.specs.Space.{IsContent}
-use Rattle.space_sql_load.specs.Judging.{loaded_airspace}
+use Rattle.space_sql_load.specs.Checking.{loaded_airspace}
 use Rattle.space_sql_load.specs.declared.table_check.LoadedAirspace.{LoadedAirspace}
 use Rattle.space_sql.specs.Holding.{SqlSpaceModel, holds_of, is_sound_of}
 

@@ -3,7 +3,7 @@ ghost use Rattle.std.specs.Prelude.{◌≡◌, false, IfOk, IsTrue};
 ghost use Rattle.sqlite.specs.Held.{state};
 ghost use Rattle.sqlite.specs.State.{HasCleanDisk};
 ghost use Rattle.space_core.specs.Space.{Reads, ReportsFault};
-ghost use Rattle.space_sql_load.specs.Judging.{loaded_airspace};
+ghost use Rattle.space_sql_load.specs.Checking.{loaded_airspace};
 ghost use Rattle.space_sql_select.specs.Reading.{ReadsTables};
 ghost use Rattle.space_sql.specs.Holding.{holds_of, is_sound_of, is_whole_of};
 ghost use Rattle.space_sql.specs.Load.{IsAllOf};
@@ -12,7 +12,7 @@ ghost use Rattle.space_sql_schema.specs.Tables.{dss_schema};
 
 use crate::answers::answer_of;
 use crate::open::memory;
-use crate::reading::read_listed;
+use crate::reading::read_loaded;
 use crate::schema::same_schema;
 use crate::space::SqlSpace;
 use space_core::space::SpaceFault;
@@ -49,7 +49,7 @@ fn read_ours<S: Alter>(alloc: Global, conn: &mut Connection<S>) -> Result<Loaded
     if !is_ours(alloc, conn.schema()) {
         return Err(Error::SqliteFailure(ErrorCode::DatabaseCorrupt));
     }
-    read_listed(alloc, conn)
+    read_loaded(alloc, conn)
 }
 
 impl<S: Alter> SqlSpace<S> {

@@ -90,7 +90,7 @@ fn make_new<S: Alter>(alloc: Global, mut conn: Connection<S>) -> AdoptResult<S>
 }
 
 // Adopts tables of format 2 as they are.
-fn take_second<S: Alter>(alloc: Global, mut conn: Connection<S>) -> AdoptResult<S>
+fn adopt_format_2<S: Alter>(alloc: Global, mut conn: Connection<S>) -> AdoptResult<S>
     requires { conn.in_transaction ≡ false }
     ensures clean { IfOk result (λ t. HasCleanDisk (state S.Store t.0.conn)
         → HasCleanDisk (state S.Store conn)) }
@@ -115,7 +115,7 @@ fn take_second<S: Alter>(alloc: Global, mut conn: Connection<S>) -> AdoptResult<
 }
 
 // Upgrades tables of format 1 to format 2, and adopts them.
-fn take_first<S: Alter>(alloc: Global, mut conn: Connection<S>) -> AdoptResult<S>
+fn adopt_format_1<S: Alter>(alloc: Global, mut conn: Connection<S>) -> AdoptResult<S>
     requires { conn.in_transaction ≡ false }
     ensures clean { IfOk result (λ t. HasCleanDisk (state S.Store t.0.conn)
         → HasCleanDisk (state S.Store conn)) }
@@ -186,8 +186,8 @@ impl<S: Alter> SqlSpace<S> {
     {
         match presence_of(conn.schema()) {
             Presence::Missing => make_new(alloc, conn),
-            Presence::Whole(Format::One) => take_first(alloc, conn),
-            Presence::Whole(Format::Two) => take_second(alloc, conn),
+            Presence::Whole(Format::One) => adopt_format_1(alloc, conn),
+            Presence::Whole(Format::Two) => adopt_format_2(alloc, conn),
             Presence::Partial => Err(refused(conn)),
         }
     }
@@ -216,7 +216,7 @@ impl<S: Alter> SqlSpace<S> {
 }
 
 // Adopts a connection that was opened over files, whatever their content.
-fn taken_over<S: Alter>(alloc: Global, conn: Connection<S>) -> AdoptResult<S>
+fn adopt_tables<S: Alter>(alloc: Global, conn: Connection<S>) -> AdoptResult<S>
     requires { conn.in_transaction ≡ false }
     ensures fresh { IfOk result (λ t. IsFresh S.Store ⟦<SqlSpace<S> as Space>⟧ t.0) }
     ensures all { IfOk result (λ t. (state S.Store conn).now.schema ≡ dss_schema
@@ -231,7 +231,7 @@ fn taken_over<S: Alter>(alloc: Global, conn: Connection<S>) -> AdoptResult<S>
 }
 
 // Adopts a connection, and returns all that the space then holds if its tables are as created.
-fn taken_whole<S: Alter>(alloc: Global, conn: Connection<S>) -> AdoptResult<S>
+fn adopt_loaded<S: Alter>(alloc: Global, conn: Connection<S>) -> AdoptResult<S>
     requires { conn.in_transaction ≡ false }
     ensures fresh { IfOk result (λ t. IsFresh S.Store ⟦<SqlSpace<S> as Space>⟧ t.0) }
     ensures all { IfOk result (λ t. IfSome t.1 (IsAllOf S.Store t.0)) }
@@ -241,9 +241,9 @@ fn taken_whole<S: Alter>(alloc: Global, conn: Connection<S>) -> AdoptResult<S>
         → IfErr result (λ e. RefusesFound image (state S.Store e.1) e.0) }
 {
     if is_ours(alloc, conn.schema()) {
-        return taken_over(alloc, conn);
+        return adopt_tables(alloc, conn);
     }
-    match taken_over(alloc, conn) {
+    match adopt_tables(alloc, conn) {
         Ok((space, _)) => Ok((space, None)),
         Err(refused) => Err(refused),
     }
@@ -349,7 +349,7 @@ impl<S: Start> SqlSpace<FileStore<FileFrom<S>>> {
             Ok(conn) => conn,
             Err(refused) => return Err(refused),
         };
-        match taken_whole(rt.alloc(), conn) {
+        match adopt_loaded(rt.alloc(), conn) {
             Ok(taken) => Ok(taken),
             Err((fault, conn)) => Err((fault, FailedOpen::Connection(conn))),
         }

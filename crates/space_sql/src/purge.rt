@@ -2,8 +2,8 @@
 use crate::answers::answer_of;
 use crate::space::SqlSpace;
 use entity_purge::purge_item::PurgeItem;
+use space_core::purge::Purge;
 use space_core::space::SpaceFault;
-use space_purge::purge::Purge;
 use space_sql_write::purge::purge_all;
 use sqlite::Alter;
 

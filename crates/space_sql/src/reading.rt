@@ -3,7 +3,7 @@ ghost use Rattle.std.specs.Prelude.{◌≡◌, false, IfOk};
 ghost use Rattle.sqlite.specs.Held.{state};
 ghost use Rattle.sqlite.specs.State.{HasCleanDisk};
 ghost use Rattle.entity_core.specs.Search.{all_in};
-ghost use Rattle.space_sql_load.specs.Judging.{loaded_airspace};
+ghost use Rattle.space_sql_load.specs.Checking.{loaded_airspace};
 ghost use Rattle.space_sql_select.specs.Reading.{ReadsTables};
 ghost use Rattle.space_sql_schema.specs.Spelling.{Spells};
 ghost use Rattle.space_sql_schema.specs.Tables.{dss_schema};
@@ -16,7 +16,7 @@ use sqlite::{Alter, Connection, Error, ErrorCode};
 use std::alloc::Global;
 
 /// Reads all tables. Reports tables that represent no airspace as corrupt.
-pub(crate) fn read_listed<S: Alter>(
+pub(crate) fn read_loaded<S: Alter>(
     alloc: Global,
     conn: &mut Connection<S>,
 ) -> Result<LoadedAirspace, Error>
@@ -54,7 +54,7 @@ pub(crate) fn read_all<S: Alter>(
     ensures reads { ReadsTables (state S.Store conn.old) (state S.Store conn.new) result
         (λ a found. found.items ≡ all_in a.entities kind) }
 {
-    match read_listed(alloc, conn) {
+    match read_loaded(alloc, conn) {
         Ok(listed) => all_among(alloc, &listed, kind),
         Err(error) => Err(error),
     }

@@ -2,7 +2,7 @@
 ghost use Rattle.std.specs.Prelude.{◌≡◌, IfErr, IfOk};
 ghost use Rattle.space_core.specs.declared.space.SpaceFault.TheVariants.{Unchanged};
 ghost use Rattle.space_memory.specs.Memory.{content_of};
-ghost use Rattle.space_sql_load.specs.Judging.{loaded_airspace};
+ghost use Rattle.space_sql_load.specs.Checking.{loaded_airspace};
 
 use crate::answers::note;
 use crate::space::SqlSpace;

@@ -8,9 +8,9 @@ pub mod SubGroups
 pub mod Names
 pub mod Written
 pub mod Groups
-pub mod Settlings
+pub mod StoredAvailabilities
 pub mod Risings
 pub mod Listings
 pub mod Junction
-pub mod Judged
-pub mod ToldSubs
+pub mod Checked
+pub mod NotifiedSubs

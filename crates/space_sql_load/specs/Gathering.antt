@@ -29,7 +29,7 @@ use Rattle.space_sql_load.specs.declared.tables.SubTables.{SubTables}
 use Rattle.space_sql_load.specs.declared.tables.Tables.{Tables}
 use Rattle.space_sql_load.specs.declared.table_check.TableCheck.{TableCheck}
 use Rattle.space_sql_load.specs.declared.table_check.TableCheck.TheVariants.{Valid, OtherFormat, Invalid}
-use Rattle.space_sql_load.specs.Judging.{loaded_airspace}
+use Rattle.space_sql_load.specs.Checking.{loaded_airspace}
 
 -- Holds if the first element, if any, does not have P.
 abbrev pub StartsElse : {X : Type 0} → (X → Type 0) → List X → Type 0

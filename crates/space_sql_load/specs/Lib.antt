@@ -1,3 +1,3 @@
 pub mod Showing
 pub mod Gathering
-pub mod Judging
+pub mod Checking

@@ -30,7 +30,7 @@ fn have_rising_ids(alloc: Global, tables: &Tables) -> Result<bool, Error>
     are_rising(alloc, ids.sub_cells.as_slice())
 }
 
-fn judge_ours(alloc: Global, tables: &Tables, serial: u64) -> Result<TableCheck, Error>
+fn check_our_tables(alloc: Global, tables: &Tables, serial: u64) -> Result<TableCheck, Error>
     requires meta { tables.now.metas.items ≡ meta_values 2 serial ∷ [] }
     requires most { serial ≤ max_serial }
     ensures { IfOk result (Judges tables.now) }
@@ -61,7 +61,7 @@ pub(crate) fn check_tables(alloc: Global, tables: &Tables) -> Result<TableCheck,
     ensures { IfOk result (Judges tables.now) }
 {
     match meta_of(tables.metas.as_slice()) {
-        Meta::Ours(serial) => judge_ours(alloc, tables, serial),
+        Meta::Ours(serial) => check_our_tables(alloc, tables, serial),
         Meta::Other => Ok(TableCheck::OtherFormat),
         Meta::Neither => Ok(TableCheck::Invalid),
     }

@@ -2,7 +2,7 @@
 ghost use Rattle.std.specs.Prelude.{◌≡◌, false};
 ghost use Rattle.sqlite.specs.Held.{state};
 ghost use Rattle.space_sql_schema.specs.Within.{SameConnection, Within};
-ghost use Rattle.space_sql_load.specs.Judging.{JudgesDatabase};
+ghost use Rattle.space_sql_load.specs.Checking.{JudgesDatabase};
 ghost use Rattle.space_sql_select.specs.Reading.{Reads, ReadsAlive};
 ghost use Rattle.space_sql_load.specs.Showing.{ShowsTables};
 

@@ -10,7 +10,7 @@ use Rattle.space_sql_schema.specs.Making as making
 use Rattle.space_sql_schema.proofs.Steps.{keeps_then}
 use Rattle.space_sql_schema.specs.Tables.{dss_schema}
 use Rattle.space_sql_select.specs.Reading.{Reads}
-use Rattle.space_sql_load.specs.Judging.{JudgesDatabase, loaded_airspace}
+use Rattle.space_sql_load.specs.Checking.{JudgesDatabase, loaded_airspace}
 use Rattle.space_sql_load.specs.declared.table_check.LoadedAirspace.{LoadedAirspace}
 use Rattle.space_sql_load.specs.declared.table_check.TableCheck.{TableCheck}
 use Rattle.space_sql_open.specs.Inside.{Inside}

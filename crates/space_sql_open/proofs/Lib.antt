@@ -1,4 +1,4 @@
 pub mod Insides
 pub mod FirstMetas
 pub mod Moves
-pub mod Examined
+pub mod CheckedTables

@@ -5,7 +5,7 @@ use Rattle.sqlite.specs.Effect.{Database, IsDatabase}
 use Rattle.sqlite.specs.State.{State}
 use Rattle.entity_core.specs.Airspace.{Airspace}
 use Rattle.space_sql_select.specs.Meta.{IsOtherFormat}
-use Rattle.space_sql_load.specs.Judging.{loaded_airspace}
+use Rattle.space_sql_load.specs.Checking.{loaded_airspace}
 use Rattle.space_sql_load.specs.declared.table_check.LoadedAirspace.{LoadedAirspace}
 use Rattle.space_sql_schema.specs.declared.format.Format.{Format}
 use Rattle.space_sql_schema.specs.declared.format.Format.TheVariants.{One, Two}

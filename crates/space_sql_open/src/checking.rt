@@ -5,7 +5,7 @@ ghost use Rattle.sqlite.specs.Held.{state};
 ghost use Rattle.sqlite.specs.State.{HasCleanDisk, Survives};
 ghost use Rattle.space_sql_schema.specs.Tables.{dss_schema};
 ghost use Rattle.space_sql_select.specs.Reading.{IsAsFound};
-ghost use Rattle.space_sql_load.specs.Judging.{JudgesDatabase};
+ghost use Rattle.space_sql_load.specs.Checking.{JudgesDatabase};
 ghost use Rattle.space_sql_open.specs.Opening.{ChecksTables};
 ghost use Rattle.space_sql_open.specs.declared.open_fault.OpenFault.TheVariants.{Store};
 
@@ -18,10 +18,10 @@ use sqlite::{Alter, Connection, Error};
 use std::alloc::Global;
 
 // Returns the loaded airspace if the check found one, or the fault.
-fn listed_of(judgement: TableCheck) -> Result<LoadedAirspace, OpenFault>
-    ensures { (db : Database) → JudgesDatabase db judgement → ChecksTables db result }
+fn airspace_of(check: TableCheck) -> Result<LoadedAirspace, OpenFault>
+    ensures { (db : Database) → JudgesDatabase db check → ChecksTables db result }
 {
-    match judgement {
+    match check {
         TableCheck::Valid(listed) => Ok(listed),
         TableCheck::OtherFormat => Err(OpenFault::Version),
         TableCheck::Invalid => Err(OpenFault::NotADss),
@@ -29,12 +29,14 @@ fn listed_of(judgement: TableCheck) -> Result<LoadedAirspace, OpenFault>
 }
 
 /// Returns the loaded airspace if the tables were read and represent one, or the fault.
-pub(crate) fn listed_or_fault(read: Result<TableCheck, Error>) -> Result<LoadedAirspace, OpenFault>
+pub(crate) fn airspace_or_fault(
+    read: Result<TableCheck, Error>,
+) -> Result<LoadedAirspace, OpenFault>
     ensures examines { (db : Database) → IfOk read (JudgesDatabase db) → ChecksTables db result }
     ensures failed { IfErr read (λ _. result ≡ Err Store) }
 {
     match read {
-        Ok(judgement) => listed_of(judgement),
+        Ok(check) => airspace_of(check),
         Err(_) => Err(OpenFault::Store),
     }
 }
@@ -57,7 +59,7 @@ pub fn check_format_2<S: Alter>(
     ensures survives { Survives (state S.Store conn.old) (state S.Store conn.new) (λ _. ⊥) }
 {
     let read = read_airspace(alloc, conn);
-    listed_or_fault(read)
+    airspace_or_fault(read)
 }
 
 // Returns the fault for an error of reading `meta` in tables that can be foreign. A text that

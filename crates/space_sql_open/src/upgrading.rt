@@ -11,7 +11,7 @@ ghost use Rattle.space_sql_open.specs.Upgrading.{Judges, Rewrites};
 ghost use Rattle.space_sql_open.specs.Opening.{MayHaveUpgraded, UpgradesFormat};
 ghost use Rattle.space_sql_open.specs.declared.open_fault.OpenFault.TheVariants.{Store};
 
-use crate::checking::listed_or_fault;
+use crate::checking::airspace_or_fault;
 use crate::first_meta::first_meta;
 use crate::open_fault::OpenFault;
 use space_sql_load::reading::read_airspace_in_transaction;
@@ -32,18 +32,18 @@ fn rewrite<S: Alter>(tx: &mut Transaction<'_, S>) -> Result<(), OpenFault>
 }
 
 // Checks that the tables of format 2 represent an airspace.
-fn judge_moved<S: Alter>(alloc: Global, tx: &mut Transaction<'_, S>) -> Result<(), OpenFault>
+fn check_upgraded<S: Alter>(alloc: Global, tx: &mut Transaction<'_, S>) -> Result<(), OpenFault>
     ensures same_reference { SameConnection tx.old tx.new }
     ensures judges { Within S.Store tx.old tx.new (Inside dss_schema Judges) result }
 {
     let read = read_airspace_in_transaction(alloc, tx);
-    match listed_or_fault(read) {
+    match airspace_or_fault(read) {
         Ok(_) => Ok(()),
         Err(fault) => Err(fault),
     }
 }
 
-fn move_inside<S: Alter>(alloc: Global, tx: &mut Transaction<'_, S>) -> Result<(), OpenFault>
+fn upgrade_inside<S: Alter>(alloc: Global, tx: &mut Transaction<'_, S>) -> Result<(), OpenFault>
     ensures same_reference { SameConnection tx.old tx.new }
     ensures moves { Within S.Store tx.old tx.new (Inside first_schema UpgradesFormat) result }
 {
@@ -52,12 +52,12 @@ fn move_inside<S: Alter>(alloc: Global, tx: &mut Transaction<'_, S>) -> Result<(
         Err(fault) => return Err(fault),
     }
     match rewrite(tx) {
-        Ok(()) => judge_moved(alloc, tx),
+        Ok(()) => check_upgraded(alloc, tx),
         Err(fault) => Err(fault),
     }
 }
 
-fn move_tables<S: Alter>(alloc: Global, conn: &mut Connection<S>) -> Result<(), OpenFault>
+fn upgrade_tables<S: Alter>(alloc: Global, conn: &mut Connection<S>) -> Result<(), OpenFault>
     requires { conn.old.in_transaction ≡ false }
     ensures ended { conn.new.in_transaction ≡ false }
     ensures moves { let old = state S.Store conn.old in
@@ -75,7 +75,7 @@ fn move_tables<S: Alter>(alloc: Global, conn: &mut Connection<S>) -> Result<(), 
         (λ trees. (fault ≡ Store) × MayHaveUpgraded old trees)) }
 {
     let mut tx = conn.transaction();
-    match move_inside(alloc, &mut tx) {
+    match upgrade_inside(alloc, &mut tx) {
         Ok(()) => {}
         Err(fault) => return Err(fault),
     }
@@ -86,7 +86,7 @@ fn move_tables<S: Alter>(alloc: Global, conn: &mut Connection<S>) -> Result<(), 
 }
 
 // Returns the fault of rejected tables if the store is alive, otherwise `Store`. It writes nothing.
-fn still<S: Alter>(conn: &mut Connection<S>, fault: OpenFault) -> OpenFault
+fn fault_if_alive<S: Alter>(conn: &mut Connection<S>, fault: OpenFault) -> OpenFault
     requires { conn.old.in_transaction ≡ false }
     ensures outside { conn.new.in_transaction ≡ false }
     ensures is { (result ≡ fault) ⊎ (result ≡ Store) }
@@ -123,8 +123,8 @@ pub fn upgrade_format<S: Alter>(alloc: Global, conn: &mut Connection<S>) -> Resu
         (λ trees. (fault ≡ Store) × MayHaveUpgraded old trees)) }
 {
     connection_facts(conn);
-    match move_tables(alloc, conn) {
+    match upgrade_tables(alloc, conn) {
         Ok(()) => Ok(()),
-        Err(fault) => Err(still(conn, fault)),
+        Err(fault) => Err(fault_if_alive(conn, fault)),
     }
 }

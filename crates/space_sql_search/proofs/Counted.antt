@@ -13,10 +13,10 @@ use Rattle.space_sql_search.specs.declared.interval.Interval.{Interval}
 use Rattle.space_sql_search.specs.SearchRanges.{IsSubset}
 use Rattle.space_sql_search.specs.Numbers.{ShowsNumbers, HasNumbers}
 
-pub numbers_told : (table : CellTable) (sought : RangeMatch) (i : Interval) (db : Database) (rows sliced : List Row) (numbers : List ℤ) (r : Result (Unit {0}) Error) → sliced ≡ rows → OnOk r ((n : ℤ) → Has sliced (Int n ∷ []) → Has numbers n) → ShowsNumbers table sought i db rows → IfOk r (λ _. HasNumbers table sought db numbers i)
-numbers_told table sought i db rows sliced numbers (Ok x) e each shows = λ c there p. each c.num (subst (λ (l : List Row). Has l (Int c.num ∷ [])) (sym e) (shows c there p))
-numbers_told table sought i db rows sliced numbers (Err x) e each shows = tt
+pub numbers_told : (table : CellTable) (range : RangeMatch) (i : Interval) (db : Database) (rows sliced : List Row) (numbers : List ℤ) (r : Result (Unit {0}) Error) → sliced ≡ rows → OnOk r ((n : ℤ) → Has sliced (Int n ∷ []) → Has numbers n) → ShowsNumbers table range i db rows → IfOk r (λ _. HasNumbers table range db numbers i)
+numbers_told table range i db rows sliced numbers (Ok x) e each shows = λ c there p. each c.num (subst (λ (l : List Row). Has l (Int c.num ∷ [])) (sym e) (shows c there p))
+numbers_told table range i db rows sliced numbers (Err x) e each shows = tt
 
 -- Numbers that are present stay present.
-pub numbers_stay : (table : CellTable) (sought : RangeMatch) (db : Database) (before after : List ℤ) (is : List Interval) → IsSubset before after → AllByRecursion (HasNumbers table sought db before) is → AllByRecursion (HasNumbers table sought db after) is
-numbers_stay table sought db before after is keeps all = all_turned (HasNumbers table sought db before) (HasNumbers table sought db after) (λ i h c there p. keeps c.num (h c there p)) is all
+pub numbers_stay : (table : CellTable) (range : RangeMatch) (db : Database) (before after : List ℤ) (is : List Interval) → IsSubset before after → AllByRecursion (HasNumbers table range db before) is → AllByRecursion (HasNumbers table range db after) is
+numbers_stay table range db before after is keeps all = all_turned (HasNumbers table range db before) (HasNumbers table range db after) (λ i h c there p. keeps c.num (h c there p)) is all

@@ -52,28 +52,28 @@ above m n h = grind (arith, ints, h)
 abbrev IsStored : CellTable → Database → ℤ → Cell → Type 0
 IsStored table db num c = IsCellIn table db (record { num = num; lo = pos (lo_of c); hi = pos (hi_of c) })
 
-module _ (table : CellTable) (db : Database) (num : ℤ) (v : Extent) (valid : AllByRecursion IsCell v.cells) (stored : (c : Cell) → Has v.cells c → IsStored table db num c) (asked : SearchRanges) (numbers : List ℤ) (finds : FindsNumbers table asked db numbers) where
-  found_in_range : (c d : Cell) → Has v.cells c → Has asked.ranges.items (interval_of d) → lo_of d ≤ lo_of c → lo_of c ≤ hi_of d → Has numbers num
+module _ (table : CellTable) (db : Database) (num : ℤ) (v : Extent) (valid : AllByRecursion IsCell v.cells) (stored : (c : Cell) → Has v.cells c → IsStored table db num c) (searched : SearchRanges) (numbers : List ℤ) (finds : FindsNumbers table searched db numbers) where
+  found_in_range : (c d : Cell) → Has v.cells c → Has searched.ranges.items (interval_of d) → lo_of d ≤ lo_of c → lo_of c ≤ hi_of d → Has numbers num
   found_in_range c d here asks least most =
-      all_has (HasNumbers table Within db numbers) asked.ranges.items (interval_of d) finds.in_ranges asks _ (stored c here) (above (lo_of d) (lo_of c) least, above (lo_of c) (hi_of d) most)
+      all_has (HasNumbers table Within db numbers) searched.ranges.items (interval_of d) finds.in_ranges asks _ (stored c here) (above (lo_of d) (lo_of c) least, above (lo_of c) (hi_of d) most)
 
-  found_above : (c d : Cell) → Has v.cells c → HasAncestors asked.ancestors.items d → IsAbove c d → Has numbers num
+  found_above : (c d : Cell) → Has v.cells c → HasAncestors searched.ancestors.items d → IsAbove c d → Has numbers num
   found_above c d here asks up =
-      all_has (HasNumbers table Exactly db numbers) asked.ancestors.items (interval_of (parent_of d up.0)) finds.above (asks up.0 up.1 up.2) _ (stored c here) (ap pos up.3, ap pos up.4)
+      all_has (HasNumbers table Exactly db numbers) searched.ancestors.items (interval_of (parent_of d up.0)) finds.above (asks up.0 up.1 up.2) _ (stored c here) (ap pos up.3, ap pos up.4)
 
-  found_touching : (c d : Cell) → Has v.cells c → AsksFor asked d → Touch c d → Has numbers num
+  found_touching : (c d : Cell) → Has v.cells c → AsksFor searched d → Touch c d → Has numbers num
   found_touching c d here asks touch =
       elim ((found_by_index_lem d c asks.is_cell (all_has IsCell v.cells c valid here)).0 touch) [
         | inl p ↦ found_in_range c d here asks.range p.0 p.1
         | inr up ↦ found_above c d here asks.ancestors up
       ]
 
-  found_meeting : (areas : List Region) → AsksForAll asked areas → meets_some v areas ≡ true → Has numbers num
+  found_meeting : (areas : List Region) → AsksForAll searched areas → meets_some v areas ≡ true → Has numbers num
   found_meeting areas asks some =
       let area = some_has (λ (r : Region). meets (region_of v) r) areas some in
       let cell = any_has _ v.cells (meet_from (region_of v) area.0 area.2).cells in
       let other = any_has _ area.0.cells cell.2 in
-      found_touching cell.0 other.0 cell.1 (all_has (AsksFor asked) area.0.cells other.0 (all_has _ areas area.0 asks area.1) other.1) other.2
+      found_touching cell.0 other.0 cell.1 (all_has (AsksFor searched) area.0.cells other.0 (all_has _ areas area.0 asks area.1) other.1) other.2
 
 -- ---- the rows of a cell
 
@@ -107,10 +107,10 @@ cell_stored table columns pick picks values cells gs db moved g there r own c is
     let listed = flat_has (λ g. map values (cells g)) gs g (values r) there (map_has values (cells g) r own) in
     row_shown table columns pick (db.trees (tree_of table)) (values r) c picks is (has_moved _ _ (values r) moved listed)
 
-module _ (db : Database) (a : Airspace) (s : Spells db a) (areas : List Region) (asked : SearchRanges) (asks : AsksForAll asked areas) (numbers : List ℤ) where
+module _ (db : Database) (a : Airspace) (s : Spells db a) (areas : List Region) (searched : SearchRanges) (asks : AsksForAll searched areas) (numbers : List ℤ) where
   -- ---- entities
 
-  entity_found : FindsNumbers OfEntities asked db numbers → (g : Group) → Has s.groups g → any_meet g.entity.volumes areas ≡ true → Has numbers g.row.num
+  entity_found : FindsNumbers OfEntities searched db numbers → (g : Group) → Has s.groups g → any_meet g.entity.volumes areas ≡ true → Has numbers g.row.num
   entity_found finds g there some =
       let own : SpellsEntity g.row g.volumes g.cells (subscription_of g.entity.nature) g.entity = (all_has (IsGroup a.serial s.subs) s.groups g s.each there).spelt in
       let v = some_has (λ (v : Extent). meets_some v areas) g.entity.volumes some in
@@ -119,14 +119,14 @@ module _ (db : Database) (a : Airspace) (s : Spells db a) (areas : List Region) 
       let r = zip_has (IsCellRow g.row.num) g.cells (all_cells g.entity.volumes) p.0 own.cells_are p.1 in
       cell_stored OfEntities six_columns (λ l. column l 0 ∷ column l 4 ∷ column l 5 ∷ []) (λ x. refl) cell_values (λ (h : Group). h.cells) s.groups db s.cells g there r.0 r.1 _
       (same_stored (record { num = r.0.entity; lo = r.0.lo; hi = r.0.hi }) (record { num = g.row.num; lo = pos (lo_of c); hi = pos (hi_of c) }) r.2.entity (r.2.lo ∙ ap (λ (x : Cell). pos (lo_of x)) p.2) (r.2.hi ∙ ap (λ (x : Cell). pos (hi_of x)) p.2)) in
-      found_meeting OfEntities db g.row.num v.0 (all_has IsVolume g.entity.volumes v.0 own.kept.volumes v.1).cells stored asked numbers finds areas asks v.2
+      found_meeting OfEntities db g.row.num v.0 (all_has IsVolume g.entity.volumes v.0 own.kept.volumes v.1).cells stored searched numbers finds areas asks v.2
 
-  pub near_entities : FindsNumbers OfEntities asked db numbers → (found : Entities) → HoldsNumbered (spelt_entities s) numbers found → HoldsNear (λ (e : Entity). any_meet e.volumes areas) a.entities found
+  pub near_entities : FindsNumbers OfEntities searched db numbers → (found : Entities) → HoldsNumbered (spelt_entities s) numbers found → HoldsNear (λ (e : Entity). any_meet e.volumes areas) a.entities found
   near_entities finds found held = near_found key_cmp key_total key_exact (spelt_entities s) s.kept (λ (e : Entity). any_meet e.volumes areas) numbers found (entity_found finds) held
 
   -- ---- subscriptions
 
-  sub_found : FindsNumbers OfSubscriptions asked db numbers → (g : SubGroup) → Has s.subs g → meets_some g.sub.volume areas ≡ true → Has numbers g.row.num
+  sub_found : FindsNumbers OfSubscriptions searched db numbers → (g : SubGroup) → Has s.subs g → meets_some g.sub.volume areas ≡ true → Has numbers g.row.num
   sub_found finds g there some =
       let own : SpellsSub g.row g.cells g.sub = (all_has (IsSubGroup a.serial) s.subs g s.each_sub there).spelt in
       let stored : (c : Cell) → Has g.sub.volume.cells c → IsStored OfSubscriptions db g.row.num c = λ c here.
@@ -134,9 +134,9 @@ module _ (db : Database) (a : Airspace) (s : Spells db a) (areas : List Region) 
       let r = zip_has (IsSubCellRow g.row.num) g.cells (placed 0 g.sub.volume.cells) (p.0, c) own.cells_are p.1 in
       cell_stored OfSubscriptions five_columns (λ l. column l 0 ∷ column l 3 ∷ column l 4 ∷ []) (λ x. refl) sub_cell_values (λ (h : SubGroup). h.cells) s.subs db s.sub_cells g there r.0 r.1 _
       (same_stored (record { num = r.0.subscription; lo = r.0.lo; hi = r.0.hi }) (record { num = g.row.num; lo = pos (lo_of c); hi = pos (hi_of c) }) r.2.subscription r.2.lo r.2.hi) in
-      found_meeting OfSubscriptions db g.row.num g.sub.volume own.kept.volume.cells stored asked numbers finds areas asks some
+      found_meeting OfSubscriptions db g.row.num g.sub.volume own.kept.volume.cells stored searched numbers finds areas asks some
 
-  pub near_subs : FindsNumbers OfSubscriptions asked db numbers → (found : Subscriptions) → HoldsNumbered (spelt_subs s) numbers found → HoldsNear (λ (s : Sub). meets_some s.volume areas) a.subscriptions found
+  pub near_subs : FindsNumbers OfSubscriptions searched db numbers → (found : Subscriptions) → HoldsNumbered (spelt_subs s) numbers found → HoldsNear (λ (s : Sub). meets_some s.volume areas) a.subscriptions found
   near_subs finds found held = near_found nat_cmp nat_cmp_total nat_cmp-IsAntisymmetric (spelt_subs s) s.subs_kept (λ (s : Sub). meets_some s.volume areas) numbers found (sub_found finds) held
 
 -- ---- a part that has every element that passes a test

@@ -71,10 +71,10 @@ AddsNumbered Holds num db before after =
     (numbers : List ℤ) → Holds numbers db before → Holds (numbers ++ num ∷ []) db after
 
 -- Holds if `found` has all items with the numbers that the index of a table finds.
-pub record HoldsFound {X : Type 0} (table : CellTable) (asked : SearchRanges)
+pub record HoldsFound {X : Type 0} (table : CellTable) (searched : SearchRanges)
     (Holds : List ℤ → Database → X → Type 0) (db : Database) (found : X) : Type 0 where
   pub numbers : List ℤ
-  pub finds : FindsNumbers table asked db numbers
+  pub finds : FindsNumbers table searched db numbers
   pub holds : Holds numbers db found
 
 -- Holds if `found` has some of the items, and all that pass a test.

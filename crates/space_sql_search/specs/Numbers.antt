@@ -17,22 +17,22 @@ abbrev pub IsCellIn : CellTable → Database → StoredCell → Type 0
 IsCellIn table db c = Has (map (stored_columns table) (db.trees (tree_of table))) (stored_values c)
 
 -- Holds if the interval of the cell starts in this range, or equals it.
-abbrev pub IsSought : RangeMatch → Interval → StoredCell → Type 0
-IsSought Within i c = (i.lo ≤ℤ c.lo) × (c.lo ≤ℤ i.hi)
-IsSought Exactly i c = (c.lo ≡ i.lo) × (c.hi ≡ i.hi)
+abbrev pub IsInRange : RangeMatch → Interval → StoredCell → Type 0
+IsInRange Within i c = (i.lo ≤ℤ c.lo) × (c.lo ≤ℤ i.hi)
+IsInRange Exactly i c = (c.lo ≡ i.lo) × (c.hi ≡ i.hi)
 
 -- Holds if the rows show the numbers of all matching cells.
 abbrev pub ShowsNumbers : CellTable → RangeMatch → Interval → Database → List Row → Type 0
-ShowsNumbers table sought i db rows =
-    (c : StoredCell) → IsCellIn table db c → IsSought sought i c → Has rows (Int c.num ∷ [])
+ShowsNumbers table range i db rows =
+    (c : StoredCell) → IsCellIn table db c → IsInRange range i c → Has rows (Int c.num ∷ [])
 
 -- Holds if those numbers are among these.
 abbrev pub HasNumbers : CellTable → RangeMatch → Database → List ℤ → Interval → Type 0
-HasNumbers table sought db numbers i =
-    (c : StoredCell) → IsCellIn table db c → IsSought sought i c → Has numbers c.num
+HasNumbers table range db numbers i =
+    (c : StoredCell) → IsCellIn table db c → IsInRange range i c → Has numbers c.num
 
 -- Holds if the numbers include all that the index finds for the ranges.
-pub record FindsNumbers (table : CellTable) (asked : SearchRanges) (db : Database) (numbers : List ℤ)
+pub record FindsNumbers (table : CellTable) (searched : SearchRanges) (db : Database) (numbers : List ℤ)
     : Type 0 where
-  pub in_ranges : AllByRecursion (HasNumbers table Within db numbers) asked.ranges.items
-  pub above : AllByRecursion (HasNumbers table Exactly db numbers) asked.ancestors.items
+  pub in_ranges : AllByRecursion (HasNumbers table Within db numbers) searched.ranges.items
+  pub above : AllByRecursion (HasNumbers table Exactly db numbers) searched.ancestors.items

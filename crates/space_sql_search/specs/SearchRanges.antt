@@ -19,7 +19,7 @@ abbrev pub interval_cmp : Interval → Interval → Ordering
 interval_cmp i j = ordering_then (int_cmp i.lo j.lo) (int_cmp i.hi j.hi)
 
 abbrev pub AreEachOnce : List Interval → Type 0
-AreEachOnce asked = IsStrictlySortedBy interval_cmp asked
+AreEachOnce searched = IsStrictlySortedBy interval_cmp searched
 
 -- Holds if every element of the first list is in the second.
 abbrev pub IsSubset : {X : Type 0} → List X → List X → Type 0
@@ -31,16 +31,16 @@ HasAncestors is c =
     (k : ℕ) → k < length c.digits → k < 13 → Has is (interval_of (parent_of c k))
 
 -- Holds if the second search has every interval of the first.
-abbrev pub KeepsAsked : SearchRanges → SearchRanges → Type 0
-KeepsAsked old new =
+abbrev pub KeepsRanges : SearchRanges → SearchRanges → Type 0
+KeepsRanges old new =
     IsSubset old.ranges.items new.ranges.items × IsSubset old.ancestors.items new.ancestors.items
 
 -- Holds if the search has the intervals of a cell and its ancestors.
-pub record AsksFor (asked : SearchRanges) (c : Cell) : Type 0 where
+pub record AsksFor (searched : SearchRanges) (c : Cell) : Type 0 where
   pub is_cell : IsCell c
-  pub range : Has asked.ranges.items (interval_of c)
-  pub ancestors : HasAncestors asked.ancestors.items c
+  pub range : Has searched.ranges.items (interval_of c)
+  pub ancestors : HasAncestors searched.ancestors.items c
 
 -- Holds if the search has all cells of the areas.
 abbrev pub AsksForAll : SearchRanges → List Region → Type 0
-AsksForAll asked areas = AllByRecursion (λ r. AllByRecursion (AsksFor asked) r.cells) areas
+AsksForAll searched areas = AllByRecursion (λ r. AllByRecursion (AsksFor searched) r.cells) areas

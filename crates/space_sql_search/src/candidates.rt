@@ -122,12 +122,12 @@ fn read_all<C: Candidates, S: Alter>(
 pub(crate) fn read_candidates<C: Candidates, S: Alter>(
     alloc: Global,
     tx: &mut Transaction<'_, S>,
-    asked: &SearchRanges,
+    searched: &SearchRanges,
 ) -> Result<C, Error>
     ensures same_reference { SameConnection tx.old tx.new }
     ensures reads { Within S.Store tx.old tx.new
-        (Reads (HoldsFound C.cells asked.now C.holds)) result }
+        (Reads (HoldsFound C.cells searched.now C.holds)) result }
 {
-    let numbers = find_numbers(alloc, tx, C::cell_table(), asked)?;
+    let numbers = find_numbers(alloc, tx, C::cell_table(), searched)?;
     read_all(alloc, tx, numbers.as_slice())
 }

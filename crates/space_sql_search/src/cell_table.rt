@@ -18,10 +18,10 @@ pub(crate) enum RangeMatch {
 
 impl CellTable {
     /// Returns the text of the query for the numbers of items with a matching cell.
-    pub fn text(self, sought: RangeMatch) -> &'static str
-        ensures { result.now ≡ text_of self sought }
+    pub fn text(self, range: RangeMatch) -> &'static str
+        ensures { result.now ≡ text_of self range }
     {
-        match (self, sought) {
+        match (self, range) {
             (CellTable::OfEntities, RangeMatch::Within) => {
                 "SELECT entity FROM cell WHERE lo BETWEEN ?1 AND ?2"
             }

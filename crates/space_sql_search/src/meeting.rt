@@ -9,7 +9,7 @@ ghost use Rattle.space_sql_search.specs.Met.{FindsMet};
 
 use crate::candidates::read_candidates;
 use crate::managers::with_availabilities;
-use crate::search_ranges::{SearchRanges, asked_of};
+use crate::search_ranges::{SearchRanges, ranges_of};
 use entity_core::entity_id::EntityId;
 use entity_core::nature::Kind;
 use entity_maps::entities::Entities;
@@ -22,37 +22,37 @@ use std::alloc::Global;
 fn find_meeting<S: Alter>(
     alloc: Global,
     tx: &mut Transaction<'_, S>,
-    asked: &SearchRanges,
+    searched: &SearchRanges,
     kind: Kind,
     areas: &[Area],
     except: Option<EntityId>,
 ) -> Result<Vec<Met>, Error>
-    requires { AsksForAll asked.now areas.now }
+    requires { AsksForAll searched.now areas.now }
     ensures same_reference { SameConnection tx.old tx.new }
     ensures reads { Within S.Store tx.old tx.new
         (Reads (λ db met. FindsMet kind areas.now except db met.items)) result }
 {
-    let found: Entities = read_candidates(alloc, tx, asked)?;
-    let sought = found.meeting(alloc, kind, areas, except)?;
-    with_availabilities(alloc, tx, sought)
+    let found: Entities = read_candidates(alloc, tx, searched)?;
+    let range = found.meeting(alloc, kind, areas, except)?;
+    with_availabilities(alloc, tx, range)
 }
 
 fn read_meeting_alone<S: Alter>(
     alloc: Global,
     conn: &mut Connection<S>,
-    asked: &SearchRanges,
+    searched: &SearchRanges,
     kind: Kind,
     areas: &[Area],
     except: Option<EntityId>,
 ) -> Result<Vec<Met>, Error>
     requires outside { conn.old.in_transaction ≡ false }
-    requires asked { AsksForAll asked.now areas.now }
+    requires searched { AsksForAll searched.now areas.now }
     ensures ended { conn.new.in_transaction ≡ false }
     ensures reads { ReadsAlone (λ db met. FindsMet kind areas.now except db met.items)
         (state S.Store conn.old) (state S.Store conn.new) result }
 {
     let mut tx = conn.transaction();
-    let met = find_meeting(alloc, &mut tx, asked, kind, areas, except)?;
+    let met = find_meeting(alloc, &mut tx, searched, kind, areas, except)?;
     tx.rollback();
     Ok(met)
 }
@@ -61,19 +61,19 @@ fn read_meeting_alone<S: Alter>(
 fn read_meeting_alive<S: Alter>(
     alloc: Global,
     conn: &mut Connection<S>,
-    asked: &SearchRanges,
+    searched: &SearchRanges,
     kind: Kind,
     areas: &[Area],
     except: Option<EntityId>,
 ) -> Result<Vec<Met>, Error>
     requires outside { conn.old.in_transaction ≡ false }
-    requires asked { AsksForAll asked.now areas.now }
+    requires searched { AsksForAll searched.now areas.now }
     ensures outside { conn.new.in_transaction ≡ false }
     ensures reads { ReadsAlive (λ db met. FindsMet kind areas.now except db met.items)
         (state S.Store conn.old) (state S.Store conn.new) result }
 {
     connection_facts(conn);
-    let met = read_meeting_alone(alloc, conn, asked, kind, areas, except)?;
+    let met = read_meeting_alone(alloc, conn, searched, kind, areas, except)?;
     is_store_alive(conn)?;
     Ok(met)
 }
@@ -99,6 +99,6 @@ pub fn read_meeting<S: Alter>(
     ensures reads { ReadsTables (state S.Store conn.old) (state S.Store conn.new) result
         (λ a met. met.items ≡ met_in a kind areas.now except) }
 {
-    let asked = asked_of(alloc, areas)?;
-    read_meeting_alive(alloc, conn, &asked, kind, areas, except)
+    let searched = ranges_of(alloc, areas)?;
+    read_meeting_alive(alloc, conn, &searched, kind, areas, except)
 }

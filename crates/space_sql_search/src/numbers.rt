@@ -21,14 +21,14 @@ use std::alloc::Global;
 fn query_numbers<S: Alter>(
     tx: &mut Transaction<'_, S>,
     table: CellTable,
-    sought: RangeMatch,
+    range: RangeMatch,
     interval: &Interval,
 ) -> Result<Vec<Row>, Error>
     ensures same_reference { SameConnection tx.old tx.new }
     ensures reads { Within S.Store tx.old tx.new
-        (Reads (λ db rows. ShowsNumbers table sought interval.now db rows.items)) result }
+        (Reads (λ db rows. ShowsNumbers table range interval.now db rows.items)) result }
 {
-    query(tx, table.text(sought), params![interval.lo, interval.hi])
+    query(tx, table.text(range), params![interval.lo, interval.hi])
 }
 
 fn number_in(row: &Row) -> Result<i64, Error>
@@ -51,34 +51,34 @@ fn add_numbers(found: &mut Vec<i64>, rows: &[Row]) -> Result<(), Error>
 fn find<S: Alter>(
     tx: &mut Transaction<'_, S>,
     table: CellTable,
-    sought: RangeMatch,
+    range: RangeMatch,
     interval: &Interval,
     found: &mut Vec<i64>,
 ) -> Result<(), Error>
     ensures same_reference { SameConnection tx.old tx.new }
     ensures keeps { OnOk result (IsSubset found.old.items found.new.items) }
     ensures finds { Within S.Store tx.old tx.new
-        (Reads (λ db _. HasNumbers table sought db found.new.items interval.now)) result }
+        (Reads (λ db _. HasNumbers table range db found.new.items interval.now)) result }
 {
-    let rows = query_numbers(tx, table, sought, interval)?;
+    let rows = query_numbers(tx, table, range, interval)?;
     add_numbers(found, rows.as_slice())
 }
 
 fn find_each<S: Alter>(
     tx: &mut Transaction<'_, S>,
     table: CellTable,
-    sought: RangeMatch,
+    range: RangeMatch,
     intervals: &[Interval],
     found: &mut Vec<i64>,
 ) -> Result<(), Error>
     ensures same_reference { SameConnection tx.old tx.new }
     ensures keeps { OnOk result (IsSubset found.old.items found.new.items) }
     ensures finds { Within S.Store tx.old tx.new
-        (Reads (λ db _. AllByRecursion (HasNumbers table sought db found.new.items) intervals.now))
+        (Reads (λ db _. AllByRecursion (HasNumbers table range db found.new.items) intervals.now))
         result }
 {
     for interval in intervals {
-        find(tx, table, sought, interval, found)?;
+        find(tx, table, range, interval, found)?;
     }
     Ok(())
 }
@@ -97,26 +97,26 @@ pub(crate) fn find_numbers<S: Alter>(
     alloc: Global,
     tx: &mut Transaction<'_, S>,
     table: CellTable,
-    asked: &SearchRanges,
+    searched: &SearchRanges,
 ) -> Result<Vec<i64>, Error>
     ensures same_reference { SameConnection tx.old tx.new }
     ensures once { IfOk result (λ found. IsStrictlySortedBy int_cmp found.items) }
     ensures finds { Within S.Store tx.old tx.new
-        (Reads (λ db found. FindsNumbers table asked.now db found.items)) result }
+        (Reads (λ db found. FindsNumbers table searched.now db found.items)) result }
 {
     let mut found = Vec::new(alloc);
     find_each(
         tx,
         table,
         RangeMatch::Within,
-        asked.ranges.as_slice(),
+        searched.ranges.as_slice(),
         &mut found,
     )?;
     find_each(
         tx,
         table,
         RangeMatch::Exactly,
-        asked.ancestors.as_slice(),
+        searched.ancestors.as_slice(),
         &mut found,
     )?;
     order_numbers(&mut found);

@@ -2,7 +2,7 @@
 //! ancestors.
 ghost use Rattle.std.specs.Prelude.{IfOk, OnOk};
 ghost use Rattle.std.specs.List.{AllByRecursion};
-ghost use Rattle.space_sql_search.specs.SearchRanges.{AreEachOnce, AsksFor, AsksForAll, HasAncestors, IsSubset, KeepsAsked};
+ghost use Rattle.space_sql_search.specs.SearchRanges.{AreEachOnce, AsksFor, AsksForAll, HasAncestors, IsSubset, KeepsRanges};
 
 use crate::interval::{Interval, interval_of};
 use grid_core::cell::CellId;
@@ -27,14 +27,14 @@ fn add_ancestors(out: &mut Vec<Interval>, cell: CellId) -> Result<(), AllocError
     Ok(())
 }
 
-fn add_cells(asked: &mut SearchRanges, cells: &[CellId]) -> Result<(), AllocError>
-    ensures keeps { OnOk result (KeepsAsked asked.old asked.new) }
-    ensures each { OnOk result (AllByRecursion (AsksFor asked.new) cells.now) }
+fn add_cells(searched: &mut SearchRanges, cells: &[CellId]) -> Result<(), AllocError>
+    ensures keeps { OnOk result (KeepsRanges searched.old searched.new) }
+    ensures each { OnOk result (AllByRecursion (AsksFor searched.new) cells.now) }
 {
     for cell in cells {
         let _number = cell.raw();
-        asked.ranges.push(interval_of(*cell))?;
-        add_ancestors(&mut asked.ancestors, *cell)?;
+        searched.ranges.push(interval_of(*cell))?;
+        add_ancestors(&mut searched.ancestors, *cell)?;
     }
     Ok(())
 }
@@ -48,19 +48,19 @@ fn order_intervals(intervals: &mut Vec<Interval>)
 }
 
 /// Returns the intervals of the cells of areas and of their ancestors, each once.
-pub(crate) fn asked_of(alloc: Global, areas: &[Area]) -> Result<SearchRanges, AllocError>
-    ensures each { IfOk result (λ asked. AsksForAll asked areas.now) }
-    ensures once { IfOk result (λ asked. AreEachOnce asked.ranges.items
-        × AreEachOnce asked.ancestors.items) }
+pub(crate) fn ranges_of(alloc: Global, areas: &[Area]) -> Result<SearchRanges, AllocError>
+    ensures each { IfOk result (λ searched. AsksForAll searched areas.now) }
+    ensures once { IfOk result (λ searched. AreEachOnce searched.ranges.items
+        × AreEachOnce searched.ancestors.items) }
 {
-    let mut asked = SearchRanges {
+    let mut searched = SearchRanges {
         ranges: Vec::new(alloc),
         ancestors: Vec::new(alloc),
     };
     for area in areas {
-        add_cells(&mut asked, area.cells())?;
+        add_cells(&mut searched, area.cells())?;
     }
-    order_intervals(&mut asked.ranges);
-    order_intervals(&mut asked.ancestors);
-    Ok(asked)
+    order_intervals(&mut searched.ranges);
+    order_intervals(&mut searched.ancestors);
+    Ok(searched)
 }

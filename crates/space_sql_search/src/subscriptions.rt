@@ -7,7 +7,7 @@ ghost use Rattle.space_sql_search.specs.declared.cell_table.CellTable.TheVariant
 ghost use Rattle.space_sql_search.specs.Candidates.{HoldsFound, HoldsNearSubs, HoldsSubs};
 
 use crate::candidates::read_candidates;
-use crate::search_ranges::{SearchRanges, asked_of};
+use crate::search_ranges::{SearchRanges, ranges_of};
 use entity_core::nature::Kind;
 use entity_core::subscription::Sub;
 use entity_core::uss_id::UssId;
@@ -20,15 +20,15 @@ use std::alloc::Global;
 fn read_subs_alone<S: Alter>(
     alloc: Global,
     conn: &mut Connection<S>,
-    asked: &SearchRanges,
+    searched: &SearchRanges,
 ) -> Result<Subscriptions, Error>
     requires { conn.old.in_transaction ≡ false }
     ensures ended { conn.new.in_transaction ≡ false }
-    ensures reads { ReadsAlone (HoldsFound OfSubscriptions asked.now HoldsSubs)
+    ensures reads { ReadsAlone (HoldsFound OfSubscriptions searched.now HoldsSubs)
         (state S.Store conn.old) (state S.Store conn.new) result }
 {
     let mut tx = conn.transaction();
-    let found = read_candidates(alloc, &mut tx, asked)?;
+    let found = read_candidates(alloc, &mut tx, searched)?;
     tx.rollback();
     Ok(found)
 }
@@ -37,15 +37,15 @@ fn read_subs_alone<S: Alter>(
 fn read_subs_alive<S: Alter>(
     alloc: Global,
     conn: &mut Connection<S>,
-    asked: &SearchRanges,
+    searched: &SearchRanges,
 ) -> Result<Subscriptions, Error>
     requires { conn.old.in_transaction ≡ false }
     ensures outside { conn.new.in_transaction ≡ false }
-    ensures reads { ReadsAlive (HoldsFound OfSubscriptions asked.now HoldsSubs)
+    ensures reads { ReadsAlive (HoldsFound OfSubscriptions searched.now HoldsSubs)
         (state S.Store conn.old) (state S.Store conn.new) result }
 {
     connection_facts(conn);
-    let found = read_subs_alone(alloc, conn, asked)?;
+    let found = read_subs_alone(alloc, conn, searched)?;
     is_store_alive(conn)?;
     Ok(found)
 }
@@ -61,8 +61,8 @@ fn read_near<S: Alter>(
     ensures reads { ReadsTables (state S.Store conn.old) (state S.Store conn.new) result
         (λ a found. HoldsNearSubs areas.now a.subscriptions found) }
 {
-    let asked = asked_of(alloc, areas)?;
-    read_subs_alive(alloc, conn, &asked)
+    let searched = ranges_of(alloc, areas)?;
+    read_subs_alive(alloc, conn, &searched)
 }
 
 /// Returns the subscriptions of a USS whose volume meets an area, in ascending order of ids.

@@ -7,7 +7,7 @@ pub mod Joining
 pub mod Inserting
 pub mod Updating
 pub mod Groups
-pub mod Telling
+pub mod Notifying
 pub mod Putting
 pub mod Rows
 pub mod Clear
@@ -23,9 +23,9 @@ pub mod Numbered
 pub mod Removed
 pub mod SubRemoved
 pub mod SubStored
-pub mod Tells
-pub mod ToldAll
+pub mod Notifies
+pub mod NotifiedAll
 pub mod Availabilities
 pub mod Committed
 pub mod Batches
-pub mod LetGo
+pub mod Purging

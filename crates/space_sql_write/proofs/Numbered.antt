@@ -26,7 +26,7 @@ use Rattle.space_sql_write.proofs.Groups.{IsAt, group_there}
 use Rattle.space_sql_write.proofs.Lists.{all_there, mapped_from, mapped_there, moved}
 use Rattle.space_sql_write.proofs.Numbers.{id_from, key_from}
 use Rattle.space_sql_write.proofs.Spelt.{AreRowsOf, spell_out}
-use Rattle.space_sql_write.proofs.Telling.{none_told}
+use Rattle.space_sql_write.proofs.Notifying.{none_told}
 
 -- ---- groups by their numbers
 

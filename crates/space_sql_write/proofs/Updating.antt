@@ -28,7 +28,7 @@ use Rattle.space_rows.specs.declared.rows.SubRow.{SubRow}
 use Rattle.space_sql_schema.specs.Tables.{dss_schema, subscription}
 use Rattle.space_sql_schema.specs.Spelling.{sub_values, sub_columns}
 use Rattle.space_sql_schema.proofs.Steps.{cast_int, cast_null}
-use Rattle.space_sql_write.specs.Layout.{AreRows, CanBeTold, HasSub, Layout, LaysOut, Relays, has_id, notified_row, with_sub_row, with_notified_row, without_sub_row}
+use Rattle.space_sql_write.specs.Layout.{AreRows, CanBeNotified, HasSub, Layout, LaysOut, Relays, has_id, notified_row, with_sub_row, with_notified_row, without_sub_row}
 use Rattle.space_sql_write.specs.Statements.{RelaysSound}
 use Rattle.space_sql_write.proofs.Texts.{update_sub_row_text, raise_notes_text}
 use Rattle.space_sql_write.proofs.Means.{is_first, replaced_row, update_sub_row_is, update_sub_row_plain, notes_row, raise_notes_is, raise_notes_plain}
@@ -86,11 +86,11 @@ raised s row is up id =
     let notes : binary (Arith Add) (column row 6) (Int (pos 1)) ≡ Int (s.notes +ℤ pos 1) = ap (λ v. binary (Arith Add) v (Int (pos 1))) (at 5) ∙ up in
     λ i. at 0 i ∷ at 0 i ∷ Null ∷ at 1 i ∷ at 2 i ∷ at 3 i ∷ at 4 i ∷ notes i ∷ at 6 i ∷ at 7 i ∷ at 8 i ∷ at 9 i ∷ at 10 i ∷ at 11 i ∷ at 12 i ∷ []
 
-pub raises_notes : (old new : State) (id : List ℕ) (result : Result ℕ Error) → Executes raise_notes_text (Text id ∷ []) old new result → OnOk result (RelaysSound (CanBeTold id) (with_notified_row id) old.now new.now)
+pub raises_notes : (old new : State) (id : List ℕ) (result : Result ℕ Error) → Executes raise_notes_text (Text id ∷ []) old new result → OnOk result (RelaysSound (CanBeNotified id) (with_notified_row id) old.now new.now)
 raises_notes old new id (Err e) h = tt
 raises_notes old new id (Ok count) h = (relays, λ l one has. (runs_as raise_notes_text (Text id ∷ []) old new dss_schema has.schema _ raise_notes_is raise_notes_plain count h).sound)
   where
-    relays : (l : Layout) → CanBeTold id l → LaysOut old.now l → LaysOut new.now (with_notified_row id l)
+    relays : (l : Layout) → CanBeNotified id l → LaysOut old.now l → LaysOut new.now (with_notified_row id l)
     relays l one has =
         let db = old.now.trees in
         let told = notified_row one.row in

@@ -217,7 +217,7 @@ pub record HasSub (num : ℤ) (l : Layout) : Type 0 where
   pub alone : filter (λ (s : SubRow). int_eq s.num num) l.subs ≡ row ∷ []
 
 -- Holds if exactly one row of `subscription` has the id, and its index can increase.
-pub record CanBeTold (id : List ℕ) (l : Layout) : Type 0 where
+pub record CanBeNotified (id : List ℕ) (l : Layout) : Type 0 where
   pub row : SubRow
   pub alone : filter (has_id id) l.subs ≡ row ∷ []
   pub index : ℕ

@@ -47,7 +47,7 @@ abbrev pub CanRise : Airspace → ℕ → Type 0
 CanRise a id = (s : Sub) × (get a.subscriptions id ≡ Some s) × (s.index < a.serial)
 
 -- Holds if the ids are ascending, and each of their subscriptions can be notified.
-pub record CanTell (a : Airspace) (ids : List ℕ) : Type 0 where
+pub record CanNotify (a : Airspace) (ids : List ℕ) : Type 0 where
   pub rising : IsStrictlySortedBy nat_cmp ids
   pub there : All (CanRise a) ids
 
@@ -55,7 +55,7 @@ pub record CanTell (a : Airspace) (ids : List ℕ) : Type 0 where
 -- They must be notifiable there, and the rows must have obeyed the schema.
 abbrev pub NotifiesRows : List ℕ → Database → Database → Type 0
 NotifiesRows ids old new =
-    (a : Airspace) → Spells old a → CanTell a ids → IsDatabase old
+    (a : Airspace) → Spells old a → CanNotify a ids → IsDatabase old
     → Makes a (with_notified_subs a (is_one_of ids)) old new
 
 -- The same for one subscription, even if the rows did not obey the schema.

@@ -1,6 +1,6 @@
 //! Notification of subscriptions of a change.
 ghost use Rattle.space_sql_schema.specs.Within.{SameConnection, Within};
-ghost use Rattle.space_sql_write.specs.Layout.{CanBeTold, with_notified_row};
+ghost use Rattle.space_sql_write.specs.Layout.{CanBeNotified, with_notified_row};
 ghost use Rattle.space_sql_write.specs.Statements.{RelaysSound, Runs};
 ghost use Rattle.space_sql_write.specs.SubPutting.{NotifiesRows, NotifiesRow};
 
@@ -12,7 +12,7 @@ use std::alloc::Global;
 fn raise_notes<S: Alter>(tx: &mut Transaction<'_, S>, id: &str) -> Result<usize, Error>
     ensures same_reference { SameConnection tx.old tx.new }
     ensures raises { Within S.Store tx.old tx.new
-        (Runs (λ _. RelaysSound (CanBeTold id.now) (with_notified_row id.now))) result }
+        (Runs (λ _. RelaysSound (CanBeNotified id.now) (with_notified_row id.now))) result }
 {
     tx.execute(
         "UPDATE subscription SET notes = notes + 1 WHERE id = ?1",
@@ -20,7 +20,11 @@ fn raise_notes<S: Alter>(tx: &mut Transaction<'_, S>, id: &str) -> Result<usize,
     )
 }
 
-fn tell<S: Alter>(alloc: Global, tx: &mut Transaction<'_, S>, id: EntityId) -> Result<(), Error>
+fn notify_one<S: Alter>(
+    alloc: Global,
+    tx: &mut Transaction<'_, S>,
+    id: EntityId,
+) -> Result<(), Error>
     ensures same_reference { SameConnection tx.old tx.new }
     ensures tells { Within S.Store tx.old tx.new (Runs (λ _. NotifiesRow id)) result }
 {
@@ -39,7 +43,7 @@ pub(crate) fn notify_all<S: Alter>(
     ensures tells { Within S.Store tx.old tx.new (Runs (λ _. NotifiesRows ids.now)) result }
 {
     for id in ids {
-        tell(alloc, tx, *id)?;
+        notify_one(alloc, tx, *id)?;
     }
     Ok(())
 }

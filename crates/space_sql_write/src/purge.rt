@@ -17,7 +17,7 @@ use entity_purge::purge_item::PurgeItem;
 use sqlite::{Alter, Connection, Error, Transaction};
 use std::alloc::Global;
 
-fn let_entity_go<S: Alter>(
+fn purge_entity<S: Alter>(
     alloc: Global,
     tx: &mut Transaction<'_, S>,
     kind: Kind,
@@ -32,7 +32,7 @@ fn let_entity_go<S: Alter>(
     clear_entity(tx, num)
 }
 
-fn let_sub_go<S: Alter>(
+fn purge_sub<S: Alter>(
     alloc: Global,
     tx: &mut Transaction<'_, S>,
     id: EntityId,
@@ -47,7 +47,7 @@ fn let_sub_go<S: Alter>(
 }
 
 // Purges one item. Returns an error if it does not exist or an intent references it.
-fn let_one_go<S: Alter>(
+fn purge_one<S: Alter>(
     alloc: Global,
     tx: &mut Transaction<'_, S>,
     gone: &PurgeItem,
@@ -56,12 +56,12 @@ fn let_one_go<S: Alter>(
     ensures goes { Within S.Store tx.old tx.new (Runs (λ _. MakesLess gone.now)) result }
 {
     match gone {
-        PurgeItem::Entity(kind, id) => let_entity_go(alloc, tx, *kind, *id),
-        PurgeItem::Subscription(id) => let_sub_go(alloc, tx, *id),
+        PurgeItem::Entity(kind, id) => purge_entity(alloc, tx, *kind, *id),
+        PurgeItem::Subscription(id) => purge_sub(alloc, tx, *id),
     }
 }
 
-fn let_rest_go<S: Alter>(
+fn purge_rest<S: Alter>(
     alloc: Global,
     tx: &mut Transaction<'_, S>,
     rest: &[PurgeItem],
@@ -70,12 +70,12 @@ fn let_rest_go<S: Alter>(
     ensures goes { Within S.Store tx.old tx.new (Runs (λ _. MakesLessRest rest.now)) result }
 {
     for next in rest {
-        let_one_go(alloc, tx, next)?;
+        purge_one(alloc, tx, next)?;
     }
     Ok(())
 }
 
-fn let_each_go<S: Alter>(
+fn purge_each<S: Alter>(
     alloc: Global,
     tx: &mut Transaction<'_, S>,
     first: &PurgeItem,
@@ -85,8 +85,8 @@ fn let_each_go<S: Alter>(
     ensures goes { Within S.Store tx.old tx.new
         (Runs (λ _. MakesLessAll (first.now ∷ rest.now))) result }
 {
-    let_one_go(alloc, tx, first)?;
-    let_rest_go(alloc, tx, rest)
+    purge_one(alloc, tx, first)?;
+    purge_rest(alloc, tx, rest)
 }
 
 /// Purges items, one after the other, in one transaction: removes their rows, and leaves the serial
@@ -117,6 +117,6 @@ pub fn purge_all<S: Alter>(
         old (state S.Store conn.new) result }
 {
     let mut tx = conn.transaction();
-    let_each_go(alloc, &mut tx, first, rest)?;
+    purge_each(alloc, &mut tx, first, rest)?;
     tx.commit()
 }

@@ -13,7 +13,7 @@ fn is_malformed(alloc: Global, kind: OpKind, words: &PathWords<'_>, body: &str) 
 }
 
 #[test]
-fn words_of_no_route(rt: HostRuntime) {
+fn paths_without_route(rt: HostRuntime) {
     let body = r#"{"area_of_interest":{"cells":["89c3"]}}"#;
     let setting = r#"{"availability":"Down"}"#;
     for (kind, first, second, body) in &[

@@ -109,7 +109,7 @@ fn is_limit_met(alloc: Global) -> bool {
 }
 
 #[test]
-fn the_greatest_version(rt: HostRuntime) {
+fn max_version(rt: HostRuntime) {
     assert!(rt; is_limit_met(rt.alloc()));
 }
 

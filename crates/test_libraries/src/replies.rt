@@ -36,7 +36,7 @@ const ENDLESS: &str = "{\"operational_intent_reference\":\
     \"time_end\":18446744073709551615,\"time_start\":0,\"uss_availability\":\"Down\",\
     \"uss_base_url\":\"https://b.example/\\\"x\\\"\\\\y\",\"version\":1}}";
 
-fn is_told(alloc: Global, reply: &Reply, code: u16, text: &str) -> bool {
+fn is_response(alloc: Global, reply: &Reply, code: u16, text: &str) -> bool {
     let Ok(found) = reply_text(alloc, reply) else {
         return false;
     };
@@ -44,7 +44,7 @@ fn is_told(alloc: Global, reply: &Reply, code: u16, text: &str) -> bool {
 }
 
 // Returns what its manager sees of a subscription with the maximum number of notifications.
-fn most_told(alloc: Global) -> Option<Reply> {
+fn longest_reply(alloc: Global) -> Option<Reply> {
     Some(Reply::Done(Answer::SubFound(SubView {
         id: EntityId::read("F81D4FAE-7DEC-11D0-A765-00A0C91E6BF6").ok()?,
         version: Ovn::read(alloc, "0123456789abcdef").ok()?,
@@ -57,23 +57,23 @@ fn most_told(alloc: Global) -> Option<Reply> {
     })))
 }
 
-const MOST_TOLD: &str = "{\"subscription\":{\"dependent_operational_intents\":[],\
+const LONGEST_REPLY: &str = "{\"subscription\":{\"dependent_operational_intents\":[],\
     \"id\":\"f81d4fae-7dec-11d0-a765-00a0c91e6bf6\",\"implicit_subscription\":false,\
     \"notification_index\":9223372036854775807,\"notify_for_constraints\":true,\
     \"notify_for_operational_intents\":false,\"time_end\":1,\"time_start\":0,\
     \"uss_base_url\":\"https://b.example\",\"version\":\"0123456789abcdef\"}}";
 
-fn is_most_told(alloc: Global) -> bool {
+fn is_longest_reply(alloc: Global) -> bool {
     let none = NotificationIndex::from_number(MAX_SERIAL + 1);
-    match most_told(alloc) {
-        Some(reply) => none.is_none() && is_told(alloc, &reply, 200, MOST_TOLD),
+    match longest_reply(alloc) {
+        Some(reply) => none.is_none() && is_response(alloc, &reply, 200, LONGEST_REPLY),
         None => false,
     }
 }
 
-fn is_endless_told(alloc: Global) -> bool {
+fn is_unbounded_reply(alloc: Global) -> bool {
     match endless(alloc) {
-        Some(reply) => is_told(alloc, &reply, 200, ENDLESS),
+        Some(reply) => is_response(alloc, &reply, 200, ENDLESS),
         None => false,
     }
 }
@@ -81,7 +81,7 @@ fn is_endless_told(alloc: Global) -> bool {
 #[test]
 fn texts_of_replies(rt: HostRuntime) {
     let text = r#"{"message":"stopped"}"#;
-    assert!(rt; is_told(rt.alloc(), &Reply::Stopped, 503, text));
-    assert!(rt; is_endless_told(rt.alloc()));
-    assert!(rt; is_most_told(rt.alloc()));
+    assert!(rt; is_response(rt.alloc(), &Reply::Stopped, 503, text));
+    assert!(rt; is_unbounded_reply(rt.alloc()));
+    assert!(rt; is_longest_reply(rt.alloc()));
 }

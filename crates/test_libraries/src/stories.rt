@@ -114,7 +114,7 @@ fn before_the_stop(replies: &[Reply]) -> Option<usize> {
 
 // Returns true if the replies to the calls are as expected, and a put with the current OVN succeeds
 // after them.
-fn is_story_told(alloc: Global) -> Option<bool> {
+fn is_story_right(alloc: Global) -> Option<bool> {
     let salt = Salt::read(alloc, "demo").ok()?;
     let calls = story(alloc)?;
     let next = call(
@@ -130,7 +130,7 @@ fn is_story_told(alloc: Global) -> Option<bool> {
 
 #[test]
 fn an_old_ovn_is_no_key(rt: HostRuntime) {
-    assert!(rt; is_story_told(rt.alloc()) == Some(true));
+    assert!(rt; is_story_right(rt.alloc()) == Some(true));
 }
 
 // Returns how many of the calls a service answers over a space that answers so many calls itself,

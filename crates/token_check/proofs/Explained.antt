@@ -15,9 +15,9 @@ use Rattle.policy_core.specs.declared.scope.Caller.{Caller}
 use Rattle.token_conf.specs.TokenFile.{◌>>=◌, Callers, TokenFile, callers_after, callers_at, file_of, or_fault, scopes_at, text_at, token_of}
 use Rattle.token_conf.specs.declared.conf_fault.ConfFault.{ConfFault}
 use Rattle.token_conf.specs.declared.conf_fault.ConfFault.TheVariants as fault
-use Rattle.token_check.specs.TokenFileErrors.{Explain, has_text, holder_of, mistakes_in, errors_of, mistakes_of_list, mistakes_of_table, mistakes_of_tables, repeated_at, tables_of, token_text, unless}
+use Rattle.token_check.specs.TokenFileErrors.{Explain, has_text, holder_of, errors_in, errors_of, errors_of_list, errors_of_table, errors_of_tables, repeated_at, tables_of, token_text, unless}
 use Rattle.token_check.specs.declared.token_file_error.TokenFileError.{TokenFileError}
-use Rattle.token_check.specs.declared.token_file_error.TokenFileError.TheVariants as mistake
+use Rattle.token_check.specs.declared.token_file_error.TokenFileError.TheVariants as file_error
 
 -- ---- known texts
 
@@ -77,7 +77,7 @@ explains_holder n (Some m) true same token rest next goes = refl
 explains_holder n (Some m) false same token rest next goes = let bad : false ≡ true = same in cc
 
 -- A table, given which of its text, USS and scopes are valid.
-explains_parts : (n : ℕ) (text uss : Option (List ℕ)) (scopes : Option Scopes) (holder : List ℕ → Option ℕ) (has : List ℕ → Bool) → ((t : List ℕ) → has t ≡ is_some (holder t)) → (rest : List TokenFileError) (next : List ℕ × Caller → Result TokenFile ConfFault) → ((t : List ℕ) (c : Caller) → text ≡ Some t → Explain rest (next (t, c))) → Explain ((unless (is_some text) (mistake.Token n) ++ (unless (is_some uss) (mistake.Uss n) ++ (unless (is_some scopes) (mistake.Scopes n) ++ option_map_or (λ t. repeated_at n (holder t)) text []))) ++ rest) ((or_fault fault.Token text >>= (λ t. or_fault fault.Uss uss >>= (λ u. or_fault fault.Scopes scopes >>= (λ s. if has t then Err fault.Repeated else Ok (t, record { uss = u; scopes = s }))))) >>= next)
+explains_parts : (n : ℕ) (text uss : Option (List ℕ)) (scopes : Option Scopes) (holder : List ℕ → Option ℕ) (has : List ℕ → Bool) → ((t : List ℕ) → has t ≡ is_some (holder t)) → (rest : List TokenFileError) (next : List ℕ × Caller → Result TokenFile ConfFault) → ((t : List ℕ) (c : Caller) → text ≡ Some t → Explain rest (next (t, c))) → Explain ((unless (is_some text) (file_error.Token n) ++ (unless (is_some uss) (file_error.Uss n) ++ (unless (is_some scopes) (file_error.Scopes n) ++ option_map_or (λ t. repeated_at n (holder t)) text []))) ++ rest) ((or_fault fault.Token text >>= (λ t. or_fault fault.Uss uss >>= (λ u. or_fault fault.Scopes scopes >>= (λ s. if has t then Err fault.Repeated else Ok (t, record { uss = u; scopes = s }))))) >>= next)
 explains_parts n None uss scopes holder has same rest next goes = refl
 explains_parts n (Some t) None scopes holder has same rest next goes = refl
 explains_parts n (Some t) (Some u) None holder has same rest next goes = refl
@@ -86,39 +86,39 @@ explains_parts n (Some t) (Some u) (Some s) holder has same rest next goes =
 
 -- ---- all tables
 
-explains_table : (d : Data) (before : List Data) (known : Callers) → KnowsTexts known before → (rest : List TokenFileError) (next : List ℕ × Caller → Result TokenFile ConfFault) → ((t : List ℕ) (c : Caller) → token_text d ≡ Some t → Explain rest (next (t, c))) → Explain (mistakes_of_table before d ++ rest) (token_of d known >>= next)
+explains_table : (d : Data) (before : List Data) (known : Callers) → KnowsTexts known before → (rest : List TokenFileError) (next : List ℕ × Caller → Result TokenFile ConfFault) → ((t : List ℕ) (c : Caller) → token_text d ≡ Some t → Explain rest (next (t, c))) → Explain (errors_of_table before d ++ rest) (token_of d known >>= next)
 unfolding token_of KnowsTexts
 explains_table d before known knows rest next goes =
     explains_parts (length before) (token_text d) (text_at (codes "uss") name_fault d) (scopes_at d) (λ t. holder_of t before) (contains_key known) knows rest next goes
 
-explains_tables : (ds : Items) (before : List Data) (known : Callers) (file : Callers → TokenFile) → KnowsTexts known before → Explain (mistakes_of_tables before (tables_of ds)) (callers_after ds known >>= (λ callers. Ok (file callers)))
+explains_tables : (ds : Items) (before : List Data) (known : Callers) (file : Callers → TokenFile) → KnowsTexts known before → Explain (errors_of_tables before (tables_of ds)) (callers_after ds known >>= (λ callers. Ok (file callers)))
 explains_tables no_items before known file knows = refl
 explains_tables (item d ds) before known file knows =
-    subst (Explain (mistakes_of_tables before (tables_of (item d ds))))
+    subst (Explain (errors_of_tables before (tables_of (item d ds))))
     (sym (bind-assoc (token_of d known) (λ token. callers_after ds (insert known token.0 token.1)) (λ callers. Ok (file callers))))
-    (explains_table d before known knows (mistakes_of_tables (before ++ d ∷ []) (tables_of ds)) (λ token. callers_after ds (insert known token.0 token.1) >>= (λ callers. Ok (file callers)))
+    (explains_table d before known knows (errors_of_tables (before ++ d ∷ []) (tables_of ds)) (λ token. callers_after ds (insert known token.0 token.1) >>= (λ callers. Ok (file callers)))
     (λ t c has. explains_tables ds (before ++ d ∷ []) (insert known t c) file (knows-more known before d t c has knows)))
 
-explains_array : (o : Option Items) (file : Callers → TokenFile) → Explain (option_map_or (λ ds. mistakes_of_tables [] (tables_of ds)) o (mistake.List ∷ [])) ((or_fault fault.Token o >>= (λ ds. callers_after ds empty)) >>= (λ callers. Ok (file callers)))
+explains_array : (o : Option Items) (file : Callers → TokenFile) → Explain (option_map_or (λ ds. errors_of_tables [] (tables_of ds)) o (file_error.List ∷ [])) ((or_fault fault.Token o >>= (λ ds. callers_after ds empty)) >>= (λ callers. Ok (file callers)))
 explains_array None file = refl
 explains_array (Some ds) file = explains_tables ds [] empty file knows-none
 
-explains_list : (member : Option Data) (file : Callers → TokenFile) → Explain (mistakes_of_list member) (callers_at member >>= (λ callers. Ok (file callers)))
+explains_list : (member : Option Data) (file : Callers → TokenFile) → Explain (errors_of_list member) (callers_at member >>= (λ callers. Ok (file callers)))
 explains_list None file = refl
 explains_list (Some d) file = explains_array (as_array d) file
 
 -- ---- the whole text
 
-explains_salt : (salt : Option (List ℕ)) (member : Option Data) → Explain (unless (is_some salt) mistake.Salt ++ mistakes_of_list member) (or_fault fault.Salt salt >>= (λ s. callers_at member >>= (λ callers. Ok (record { salt = s; callers = callers }))))
+explains_salt : (salt : Option (List ℕ)) (member : Option Data) → Explain (unless (is_some salt) file_error.Salt ++ errors_of_list member) (or_fault fault.Salt salt >>= (λ s. callers_at member >>= (λ callers. Ok (record { salt = s; callers = callers }))))
 explains_salt None member = refl
 explains_salt (Some s) member = explains_list member (λ callers. record { salt = s; callers = callers })
 
-explains_parse : (parsed : Option Members) → Explain (option_map_or (λ members. errors_of (table members)) parsed (mistake.Toml ∷ [])) (or_fault fault.Toml parsed >>= (λ members. or_fault fault.Salt (text_at (codes "salt") name_fault (table members)) >>= (λ s. callers_at (data_of.get (codes "token") (table members)) >>= (λ callers. Ok (record { salt = s; callers = callers })))))
+explains_parse : (parsed : Option Members) → Explain (option_map_or (λ members. errors_of (table members)) parsed (file_error.Toml ∷ [])) (or_fault fault.Toml parsed >>= (λ members. or_fault fault.Salt (text_at (codes "salt") name_fault (table members)) >>= (λ s. callers_at (data_of.get (codes "token") (table members)) >>= (λ callers. Ok (record { salt = s; callers = callers })))))
 explains_parse None = refl
 explains_parse (Some members) = explains_salt (text_at (codes "salt") name_fault (table members)) (data_of.get (codes "token") (table members))
 
 -- The reader accepts a file exactly if it has no error; otherwise it returns the fault of the
 -- first.
-pub explains : (text : List ℕ) → Explain (mistakes_in text) (file_of text)
+pub explains : (text : List ℕ) → Explain (errors_in text) (file_of text)
 unfolding file_of
 explains text = explains_parse (parse_document text)

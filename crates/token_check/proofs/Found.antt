@@ -14,8 +14,8 @@ use Rattle.policy_core.specs.Scope.{scope_name}
 use Rattle.policy_core.specs.declared.scope.Scope.{Scope}
 use Rattle.policy_core.specs.declared.scope.Scope.TheVariants.{StrategicCoordination, ConformanceMonitoring, ConstraintProcessing, ConstraintManagement, AvailabilityArbitration}
 use Rattle.token_conf.specs.TokenFile.{is_name_of, texts_of}
-use Rattle.token_check.specs.TokenFileErrors.{mistakes_of_list, mistakes_of_tables, tables_of}
-use Rattle.token_check.specs.declared.token_file_error.TokenFileError.TheVariants as mistake
+use Rattle.token_check.specs.TokenFileErrors.{errors_of_list, errors_of_tables, tables_of}
+use Rattle.token_check.specs.declared.token_file_error.TokenFileError.TheVariants as file_error
 use Rattle.token_check.specs.Warnings.{is_scope, scopes, warnings_of_list, warnings_of_member}
 
 -- The tables of some values.
@@ -24,11 +24,11 @@ tables_of_items [] = refl
 tables_of_items (d ∷ ds) = ap (λ (rest : List Data). d ∷ rest) (tables_of_items ds)
 
 -- The member `token` if it is a list.
-pub list_mistakes : (member : Option (Bor Value)) (value : Bor Value) (tables : Vec Value Global) → member ≡ Some value → Some (array_view tables) ≡ as_array (view value.now) → mistakes_of_list (option_map (λ v. view v.now) member) ≡ mistakes_of_tables [] (map view tables.items)
+pub list_mistakes : (member : Option (Bor Value)) (value : Bor Value) (tables : Vec Value Global) → member ≡ Some value → Some (array_view tables) ≡ as_array (view value.now) → errors_of_list (option_map (λ v. view v.now) member) ≡ errors_of_tables [] (map view tables.items)
 list_mistakes member value tables is array =
-    ap (λ (m : Option (Bor Value)). mistakes_of_list (option_map (λ v. view v.now) m)) is
-    ∙ ap (λ (o : Option Items). option_map_or (λ ds. mistakes_of_tables [] (tables_of ds)) o (mistake.List ∷ [])) (sym array)
-    ∙ ap (mistakes_of_tables []) (tables_of_items (map view tables.items))
+    ap (λ (m : Option (Bor Value)). errors_of_list (option_map (λ v. view v.now) m)) is
+    ∙ ap (λ (o : Option Items). option_map_or (λ ds. errors_of_tables [] (tables_of ds)) o (file_error.List ∷ [])) (sym array)
+    ∙ ap (errors_of_tables []) (tables_of_items (map view tables.items))
 
 pub list_warnings : (member : Option (Bor Value)) (value : Bor Value) (tables : Vec Value Global) → member ≡ Some value → Some (array_view tables) ≡ as_array (view value.now) → warnings_of_member (option_map (λ v. view v.now) member) ≡ warnings_of_list (map view tables.items)
 list_warnings member value tables is array =

@@ -11,8 +11,8 @@ pub(crate) struct Location<'a> {
 }
 
 /// Returns the location of an error.
-pub(crate) fn place_of_mistake(mistake: TokenFileError) -> Location<'static> {
-    let (table, key) = match mistake {
+pub(crate) fn location_of_error(file_error: TokenFileError) -> Location<'static> {
+    let (table, key) = match file_error {
         TokenFileError::Toml => (None, None),
         TokenFileError::Salt => (None, Some("salt")),
         TokenFileError::List => (None, Some("token")),
@@ -27,7 +27,7 @@ pub(crate) fn place_of_mistake(mistake: TokenFileError) -> Location<'static> {
 }
 
 /// Returns the location of a warning.
-pub(crate) fn place_of_warning(warning: &Warning) -> Location<'_> {
+pub(crate) fn location_of_warning(warning: &Warning) -> Location<'_> {
     let (table, key) = match warning {
         Warning::ExampleSalt | Warning::ShortSalt(_) => (None, Some("salt")),
         Warning::NoToken => (None, None),

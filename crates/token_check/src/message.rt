@@ -29,7 +29,7 @@ fn salt_message(alloc: Global, found: Option<&Value>) -> Result<String, AllocErr
         return String::from_str(alloc, "no salt: dss tokens --new-salt makes one");
     };
     let Some(text) = value.as_str() else {
-        return String::from_str(alloc, "salt: no string");
+        return String::from_str(alloc, "salt: not a string");
     };
     if name_fault(text) == Some(IdFault::Length) {
         let length = text.len();
@@ -50,7 +50,7 @@ fn token_message(alloc: Global, table: Option<&Value>) -> Result<String, AllocEr
         return String::from_str(alloc, "no text");
     };
     let Some(text) = value.as_str() else {
-        return String::from_str(alloc, "text: no string");
+        return String::from_str(alloc, "text: not a string");
     };
     if token_fault(text) == Some(IdFault::Length) {
         let length = text.len();
@@ -85,14 +85,14 @@ fn uss_message(alloc: Global, found: Option<&Value>) -> Result<String, AllocErro
     };
     match value.as_str() {
         Some(uss) => uss_text_message(alloc, uss),
-        None => String::from_str(alloc, "uss: no string"),
+        None => String::from_str(alloc, "uss: not a string"),
     }
 }
 
 // Returns the message for invalid scopes of a table.
 fn scopes_message(alloc: Global, found: Option<&Value>) -> Result<String, AllocError> {
     let text = match found {
-        Some(_) => "scopes: no list of strings",
+        Some(_) => "scopes: not an array of strings",
         None => "no scopes",
     };
     String::from_str(alloc, text)
@@ -102,14 +102,14 @@ fn scopes_message(alloc: Global, found: Option<&Value>) -> Result<String, AllocE
 pub(crate) fn error_message(
     alloc: Global,
     document: &Value,
-    mistake: TokenFileError,
+    file_error: TokenFileError,
 ) -> Result<String, AllocError> {
-    match mistake {
+    match file_error {
         TokenFileError::Toml => String::from_str(alloc, "no TOML"),
         TokenFileError::Salt => salt_message(alloc, document.get("salt")),
         TokenFileError::List => String::from_str(
             alloc,
-            "token: no list of tables: the table of a token begins with [[token]]",
+            "token: not an array of tables: begin each token with [[token]]",
         ),
         TokenFileError::Token(number) => token_message(alloc, table_of(document, number)),
         TokenFileError::Uss(number) => uss_message(alloc, member_of(document, number, "uss")),
@@ -166,9 +166,7 @@ pub(crate) fn warning_message(
         Warning::Key(place, key) => key_message(alloc, document, *place, key.text()),
         Warning::Scope(_, name) => {
             let name = name.text();
-            format!(in alloc;
-                "warning: scope {name:?}: it opens nothing, as no scope has that name"
-            )
+            format!(in alloc; "warning: scope {name:?}: unknown scope, permits nothing")
         }
     }
 }

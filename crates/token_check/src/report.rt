@@ -2,11 +2,11 @@
 ghost use Rattle.std.specs.Prelude.{◌≡◌, ◌+◌, [], ◌∷◌, IfOk, OnOk, length, vec_len};
 ghost use Rattle.toml.specs.View.{view};
 ghost use Rattle.token_conf.specs.TokenFile.{file_of};
-ghost use Rattle.token_check.specs.TokenFileErrors.{Explain, mistakes_in, errors_of};
+ghost use Rattle.token_check.specs.TokenFileErrors.{Explain, errors_in, errors_of};
 ghost use Rattle.token_check.specs.Summary.{summary_of};
 ghost use Rattle.token_check.specs.Warnings.{warnings_in, warnings_of};
 
-use crate::location::{Location, line_of, place_of_mistake, place_of_warning};
+use crate::location::{Location, line_of, location_of_error, location_of_warning};
 use crate::message::{error_message, warning_message};
 use crate::statement::{Statement, line_at, statements};
 use crate::summary::{Summary, summary_of};
@@ -23,7 +23,7 @@ use toml::de::Error;
 pub struct CheckReport {
     /// The errors, for which the reader rejects the file: first that of the salt, then table by
     /// table.
-    pub mistakes: Vec<TokenFileError>,
+    pub errors: Vec<TokenFileError>,
     /// The warnings, for which the reader does not reject the file.
     pub warnings: Vec<Warning>,
     /// A line for each error and then for each warning, without its line end.
@@ -61,7 +61,7 @@ struct Source<'a> {
 }
 
 // Returns the line of a message about a location of a text.
-fn line_at_place(
+fn line_of_location(
     alloc: Global,
     source: Source<'_>,
     place: Location<'_>,
@@ -72,19 +72,19 @@ fn line_at_place(
 }
 
 // Appends the lines of errors.
-fn put_lines_of_mistakes(
+fn put_error_lines(
     alloc: Global,
     lines: &mut Vec<String>,
     source: Source<'_>,
     document: &Value,
-    mistakes: &[TokenFileError],
+    errors: &[TokenFileError],
 ) -> Result<(), AllocError>
-    ensures { OnOk result (vec_len lines.new ≡ vec_len lines.old + length mistakes.now) }
+    ensures { OnOk result (vec_len lines.new ≡ vec_len lines.old + length errors.now) }
 {
-    for mistake in mistakes {
-        let message = error_message(alloc, document, *mistake)?;
-        let place = place_of_mistake(*mistake);
-        lines.push(line_at_place(alloc, source, place, message.as_str())?)?;
+    for file_error in errors {
+        let message = error_message(alloc, document, *file_error)?;
+        let place = location_of_error(*file_error);
+        lines.push(line_of_location(alloc, source, place, message.as_str())?)?;
     }
     Ok(())
 }
@@ -101,23 +101,23 @@ fn put_lines_of_warnings(
 {
     for warning in warnings {
         let message = warning_message(alloc, document, warning)?;
-        let place = place_of_warning(warning);
-        lines.push(line_at_place(alloc, source, place, message.as_str())?)?;
+        let place = location_of_warning(warning);
+        lines.push(line_of_location(alloc, source, place, message.as_str())?)?;
     }
     Ok(())
 }
 
 // Checks a document.
 fn report_of(alloc: Global, text: &str, document: &Value) -> Result<CheckReport, AllocError>
-    ensures mistakes { IfOk result (λ report.
-        report.mistakes.items ≡ errors_of (view document.now)) }
+    ensures errors { IfOk result (λ report.
+        report.errors.items ≡ errors_of (view document.now)) }
     ensures warnings { IfOk result (λ report.
         report.warnings.items ≡ warnings_of (view document.now)) }
     ensures summary { IfOk result (λ report. report.summary ≡ summary_of (view document.now)) }
     ensures lines { IfOk result (λ report.
-        vec_len report.lines ≡ vec_len report.mistakes + vec_len report.warnings) }
+        vec_len report.lines ≡ vec_len report.errors + vec_len report.warnings) }
 {
-    let mistakes = errors_of(alloc, document)?;
+    let errors = errors_of(alloc, document)?;
     let warnings = warnings_of(alloc, document)?;
     let statements = statements(alloc, text)?;
     let source = Source {
@@ -125,10 +125,10 @@ fn report_of(alloc: Global, text: &str, document: &Value) -> Result<CheckReport,
         statements: statements.as_slice(),
     };
     let mut lines = Vec::new(alloc);
-    put_lines_of_mistakes(alloc, &mut lines, source, document, mistakes.as_slice())?;
+    put_error_lines(alloc, &mut lines, source, document, errors.as_slice())?;
     put_lines_of_warnings(alloc, &mut lines, source, document, warnings.as_slice())?;
     Ok(CheckReport {
-        mistakes,
+        errors,
         warnings,
         lines,
         summary: summary_of(document),
@@ -137,7 +137,7 @@ fn report_of(alloc: Global, text: &str, document: &Value) -> Result<CheckReport,
 
 // Returns the result for a text that is not TOML: one line.
 fn report_of_no_toml(alloc: Global, text: &str, error: &Error) -> Result<CheckReport, AllocError>
-    ensures mistakes { IfOk result (λ report. report.mistakes.items ≡ TokenFileError.Toml ∷ []) }
+    ensures errors { IfOk result (λ report. report.errors.items ≡ TokenFileError.Toml ∷ []) }
     ensures warnings { IfOk result (λ report. report.warnings.items ≡ []) }
     ensures lines { IfOk result (λ report. vec_len report.lines ≡ 1) }
 {
@@ -147,12 +147,12 @@ fn report_of_no_toml(alloc: Global, text: &str, error: &Error) -> Result<CheckRe
         Some(span) => Some(line_at(text, span.start)),
         None => None,
     };
-    let mut mistakes = Vec::new(alloc);
-    mistakes.push(TokenFileError::Toml)?;
+    let mut errors = Vec::new(alloc);
+    errors.push(TokenFileError::Toml)?;
     let mut lines = Vec::new(alloc);
     lines.push(line(alloc, number, None, message.as_str())?)?;
     Ok(CheckReport {
-        mistakes,
+        errors,
         warnings: Vec::new(alloc),
         lines,
         summary: Summary {
@@ -165,10 +165,10 @@ fn report_of_no_toml(alloc: Global, text: &str, error: &Error) -> Result<CheckRe
 
 // Checks a text, TOML or not.
 fn report_of_text(alloc: Global, text: &str) -> Result<CheckReport, AllocError>
-    ensures mistakes { IfOk result (λ report. report.mistakes.items ≡ mistakes_in text.now) }
+    ensures errors { IfOk result (λ report. report.errors.items ≡ errors_in text.now) }
     ensures warnings { IfOk result (λ report. report.warnings.items ≡ warnings_in text.now) }
     ensures lines { IfOk result (λ report.
-        vec_len report.lines ≡ vec_len report.mistakes + vec_len report.warnings) }
+        vec_len report.lines ≡ vec_len report.errors + vec_len report.warnings) }
 {
     match toml::table_from_str(alloc, text) {
         Ok(table) => report_of(alloc, text, &Value::Table(table)),
@@ -187,11 +187,11 @@ fn report_of_text(alloc: Global, text: &str) -> Result<CheckReport, AllocError>
 /// is none, and otherwise returns the fault of the first. No line has the value of `text` or of
 /// `salt`. The time is quadratic in the number of tokens.
 pub fn check_token_file(alloc: Global, text: &str) -> Result<CheckReport, AllocError>
-    ensures mistakes { IfOk result (λ report. report.mistakes.items ≡ mistakes_in text.now) }
-    ensures explain { IfOk result (λ report. Explain report.mistakes.items (file_of text.now)) }
+    ensures errors { IfOk result (λ report. report.errors.items ≡ errors_in text.now) }
+    ensures explain { IfOk result (λ report. Explain report.errors.items (file_of text.now)) }
     ensures warnings { IfOk result (λ report. report.warnings.items ≡ warnings_in text.now) }
     ensures lines { IfOk result (λ report.
-        vec_len report.lines ≡ vec_len report.mistakes + vec_len report.warnings) }
+        vec_len report.lines ≡ vec_len report.errors + vec_len report.warnings) }
 {
     report_of_text(alloc, text)
 }

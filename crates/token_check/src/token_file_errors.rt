@@ -4,9 +4,9 @@ ghost use Rattle.std.specs.Prelude.{IfOk, OnOk, codes, map, option_map};
 ghost use Rattle.toml.specs.Data.{get};
 ghost use Rattle.toml.specs.View.{view};
 ghost use Rattle.token_conf.specs.TokenFile.{file_of};
-ghost use Rattle.token_check.specs.TokenFileErrors.{Explain, holder_of, mistakes_in};
-ghost use Rattle.token_check.specs.TokenFileErrors.{errors_of, mistakes_of_list};
-ghost use Rattle.token_check.specs.TokenFileErrors.{mistakes_of_table, mistakes_of_tables, unless};
+ghost use Rattle.token_check.specs.TokenFileErrors.{Explain, holder_of, errors_in};
+ghost use Rattle.token_check.specs.TokenFileErrors.{errors_of, errors_of_list};
+ghost use Rattle.token_check.specs.TokenFileErrors.{errors_of_table, errors_of_tables, unless};
 
 use crate::table::{has_scopes, has_text, name_at, token_text};
 use crate::token_file_error::TokenFileError;
@@ -17,12 +17,12 @@ use toml::Value;
 fn put_unless(
     found: &mut Vec<TokenFileError>,
     is_right: bool,
-    mistake: TokenFileError,
+    file_error: TokenFileError,
 ) -> Result<(), AllocError>
-    ensures { OnOk result (found.new.items ≡ found.old.items ++ unless is_right mistake) }
+    ensures { OnOk result (found.new.items ≡ found.old.items ++ unless is_right file_error) }
 {
     if !is_right {
-        found.push(mistake)?;
+        found.push(file_error)?;
     }
     Ok(())
 }
@@ -40,13 +40,13 @@ fn holder_of(tables: &[Value], text: &str) -> Option<usize>
 }
 
 // Appends the errors of a table after some others.
-fn put_mistakes_of_table(
+fn put_table_errors(
     found: &mut Vec<TokenFileError>,
     before: &[Value],
     table: &Value,
 ) -> Result<(), AllocError>
     ensures { OnOk result (found.new.items
-        ≡ found.old.items ++ mistakes_of_table (map view before.now) (view table.now)) }
+        ≡ found.old.items ++ errors_of_table (map view before.now) (view table.now)) }
 {
     let number = before.len();
     let text = token_text(table);
@@ -66,32 +66,29 @@ fn put_mistakes_of_table(
 }
 
 // Appends the errors of some tables, each with those before it.
-fn put_mistakes_of_tables(
-    found: &mut Vec<TokenFileError>,
-    tables: &[Value],
-) -> Result<(), AllocError>
+fn put_all_table_errors(found: &mut Vec<TokenFileError>, tables: &[Value]) -> Result<(), AllocError>
     ensures { OnOk result (found.new.items
-        ≡ found.old.items ++ mistakes_of_tables [] (map view tables.now)) }
+        ≡ found.old.items ++ errors_of_tables [] (map view tables.now)) }
 {
     for (number, table) in tables.iter().enumerate() {
-        put_mistakes_of_table(found, &tables[..number], table)?;
+        put_table_errors(found, &tables[..number], table)?;
     }
     Ok(())
 }
 
 // Appends the errors of the document's member `token`, if it has one.
-fn put_mistakes_of_list(
+fn put_list_errors(
     found: &mut Vec<TokenFileError>,
     member: Option<&Value>,
 ) -> Result<(), AllocError>
     ensures { OnOk result (found.new.items ≡ found.old.items
-        ++ mistakes_of_list (option_map (λ value. view value.now) member.entry)) }
+        ++ errors_of_list (option_map (λ value. view value.now) member.entry)) }
 {
     let Some(value) = member else {
         return Ok(());
     };
     match value.as_array() {
-        Some(tables) => put_mistakes_of_tables(found, tables.as_slice()),
+        Some(tables) => put_all_table_errors(found, tables.as_slice()),
         None => Ok(found.push(TokenFileError::List)?),
     }
 }
@@ -106,6 +103,6 @@ pub(crate) fn errors_of(alloc: Global, document: &Value) -> Result<Vec<TokenFile
         name_at(document, "salt").is_some(),
         TokenFileError::Salt,
     )?;
-    put_mistakes_of_list(&mut found, document.get("token"))?;
+    put_list_errors(&mut found, document.get("token"))?;
     Ok(found)
 }

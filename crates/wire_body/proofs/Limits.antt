@@ -22,7 +22,7 @@ use Rattle.policy_core.specs.declared.call.Operation.{Operation}
 use Rattle.policy_core.specs.declared.call.Operation.TheVariants.{Query, Read, Create, Update, Delete, ReadAvail, SetAvail, QuerySub, ReadSub, CreateSub, UpdateSub, DeleteSub}
 use Rattle.policy_core.specs.declared.call.Put.{Put}
 use Rattle.policy_core.specs.declared.call.SubPut.{SubPut}
-use Rattle.wire_body.specs.Body.{IsBody, Words, only_word, is_query, id_named, ovn_named, supplier_named, availability_of, old_version_of, short_text_in, short_text, area_asked, query_of, read_of, create_of, update_of, delete_of, availability_read_of, setting_of, sub_query_of, sub_read_of, sub_create_of, sub_update_of, sub_delete_of}
+use Rattle.wire_body.specs.Body.{IsBody, Words, only_parameter, is_query, id_named, ovn_named, uss_parameter, availability_of, old_version_of, short_text_in, short_text, query_area, query_of, read_of, create_of, update_of, delete_of, availability_read_of, setting_of, sub_query_of, sub_read_of, sub_create_of, sub_update_of, sub_delete_of}
 use Rattle.wire_body.specs.Laws.{IsPutWithinLimits, IsSubPutWithinLimits, IsWithinLimits, KeepsKind, KeepsLimits}
 use Rattle.wire_body.specs.Member.{without_fault, member_of, required, optional, if_there, list_of}
 use Rattle.wire_body.specs.Naming.{zero_id, unless_zero, id_in, naming_of}
@@ -191,10 +191,10 @@ ovn_faultless words v is =
     let none = faultless (ovn_fault word.0) word.0 v word.2 in
     subst (λ (s : List ℕ). ovn_fault s ≡ None) none.1 none.0
 
-supplier_faultless : (words : Words) (uss : List ℕ) → supplier_named words ≡ Some uss → name_fault uss ≡ None
-unfolding supplier_named
+supplier_faultless : (words : Words) (uss : List ℕ) → uss_parameter words ≡ Some uss → name_fault uss ≡ None
+unfolding uss_parameter
 supplier_faultless words uss is =
-    let word = both_steps (only_word words) (λ s. without_fault (name_fault s) s) uss is in
+    let word = both_steps (only_parameter words) (λ s. without_fault (name_fault s) s) uss is in
     let none = faultless (name_fault word.0) word.0 uss word.2 in
     subst (λ (s : List ℕ). name_fault s ≡ None) none.1 none.0
 
@@ -220,8 +220,8 @@ record IsRightFor (kind : OpKind) (op : Operation) : Type 0 where
   same_kind : kind_of op ≡ Some kind
   limits : IsWithinLimits op
 
-asked_faultless : (words : Words) (d : Data) (r : Region) → area_asked words d ≡ Some r → region_fault r ≡ None
-unfolding area_asked
+asked_faultless : (words : Words) (d : Data) (r : Region) → query_area words d ≡ Some r → region_fault r ≡ None
+unfolding query_area
 asked_faultless words d r is =
     let test = let_through (is_query words) (required area_in (codes "area_of_interest") d) r is in
     let found = both_steps (member_of (codes "area_of_interest") d) area_in r test.1 in
@@ -230,7 +230,7 @@ asked_faultless words d r is =
 right_query : (kind : Kind) (words : Words) (d : Data) (op : Operation) → query_of kind words d ≡ Some op → IsRightFor (kinds.Query kind) op
 unfolding query_of
 right_query kind words d op is =
-    let area = mapped (area_asked words d) (Query kind) op is in
+    let area = mapped (query_area words d) (Query kind) op is in
     let right : IsRightFor (kinds.Query kind) (Query kind area.0) = record { same_kind = refl; limits = asked_faultless words d area.0 area.1 } in
     subst (IsRightFor (kinds.Query kind)) area.2 right
 
@@ -274,14 +274,14 @@ right_delete kind words op is =
 right_availability : (words : Words) (op : Operation) → availability_read_of words ≡ Some op → IsRightFor kinds.ReadAvail op
 unfolding availability_read_of
 right_availability words op is =
-    let uss = mapped (supplier_named words) ReadAvail op is in
+    let uss = mapped (uss_parameter words) ReadAvail op is in
     let right : IsRightFor kinds.ReadAvail (ReadAvail uss.0) = record { same_kind = refl; limits = supplier_faultless words uss.0 uss.1 } in
     subst (IsRightFor kinds.ReadAvail) uss.2 right
 
 right_setting : (words : Words) (d : Data) (op : Operation) → setting_of words d ≡ Some op → IsRightFor kinds.SetAvail op
 unfolding setting_of
 right_setting words d op is =
-    let uss = both_steps (supplier_named words) _ op is in
+    let uss = both_steps (uss_parameter words) _ op is in
     let availability = both_steps (availability_of d) _ op uss.2 in
     let version = both_steps (old_version_of d) _ op availability.2 in
     let same : SetAvail uss.0 version.0 availability.0 ≡ op = cc in
@@ -291,7 +291,7 @@ right_setting words d op is =
 right_sub_query : (words : Words) (d : Data) (op : Operation) → sub_query_of words d ≡ Some op → IsRightFor kinds.QuerySub op
 unfolding sub_query_of
 right_sub_query words d op is =
-    let area = mapped (area_asked words d) QuerySub op is in
+    let area = mapped (query_area words d) QuerySub op is in
     let right : IsRightFor kinds.QuerySub (QuerySub area.0) = record { same_kind = refl; limits = asked_faultless words d area.0 area.1 } in
     subst (IsRightFor kinds.QuerySub) area.2 right
 

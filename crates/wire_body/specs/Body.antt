@@ -36,22 +36,22 @@ abbrev pub unless_second : List ℕ → Option (List ℕ) → Option (List ℕ)
 unless_second first None = Some first
 unless_second first (Some second) = None
 
-abbrev pub only_word : Words → Option (List ℕ)
-only_word words = unless_second words.first words.second
+abbrev pub only_parameter : Words → Option (List ℕ)
+only_parameter words = unless_second words.first words.second
 
 abbrev pub is_query : Words → Bool
 is_query words = is_none words.second && bytes_eq words.first (codes "query")
 
 -- The id that the only path parameter represents.
 unfoldable pub id_named : Words → Option ℕ
-id_named words = option_and_then spelled (only_word words)
+id_named words = option_and_then spelled (only_parameter words)
 
 -- The OVN in the second path parameter.
 unfoldable pub ovn_named : Words → Option (List ℕ)
 ovn_named words = option_and_then (λ s. without_fault (ovn_fault s) s) words.second
 
-unfoldable pub supplier_named : Words → Option (List ℕ)
-supplier_named words = option_and_then (λ s. without_fault (name_fault s) s) (only_word words)
+unfoldable pub uss_parameter : Words → Option (List ℕ)
+uss_parameter words = option_and_then (λ s. without_fault (name_fault s) s) (only_parameter words)
 
 -- ---- availabilities
 
@@ -74,12 +74,12 @@ old_version_of d = option_map (λ version. unwrap_or version []) (optional short
 -- ---- operations
 
 -- The area of a query.
-unfoldable pub area_asked : Words → Data → Option Region
-area_asked words d =
+unfoldable pub query_area : Words → Data → Option Region
+query_area words d =
     if is_query words then required area_in (codes "area_of_interest") d else None
 
 unfoldable pub query_of : Kind → Words → Data → Option Operation
-query_of kind words d = option_map (Query kind) (area_asked words d)
+query_of kind words d = option_map (Query kind) (query_area words d)
 
 unfoldable pub read_of : Kind → Words → Option Operation
 read_of kind words = option_map (Read kind) (id_named words)
@@ -104,11 +104,11 @@ delete_of kind words = do
   Some (Delete kind id ovn)
 
 unfoldable pub availability_read_of : Words → Option Operation
-availability_read_of words = option_map ReadAvail (supplier_named words)
+availability_read_of words = option_map ReadAvail (uss_parameter words)
 
 unfoldable pub setting_of : Words → Data → Option Operation
 setting_of words d = do
-  uss ← supplier_named words
+  uss ← uss_parameter words
   availability ← availability_of d
   version ← old_version_of d
   Some (SetAvail uss version availability)
@@ -116,7 +116,7 @@ setting_of words d = do
 -- ---- operations on subscriptions
 
 unfoldable pub sub_query_of : Words → Data → Option Operation
-sub_query_of words d = option_map QuerySub (area_asked words d)
+sub_query_of words d = option_map QuerySub (query_area words d)
 
 unfoldable pub sub_read_of : Words → Option Operation
 sub_read_of words = option_map ReadSub (id_named words)

@@ -2,7 +2,7 @@
 ghost use Rattle.std.specs.Prelude.{◌≡◌, IfOk, IfErr, option_and_then};
 ghost use Rattle.serde_json.specs.Data.{Data};
 ghost use Rattle.serde_json.specs.View.{view};
-ghost use Rattle.wire_body.specs.Body.{IsBody, IsJson, Says, words_of, id_named, area_asked, query_of, read_of, create_of, update_of, delete_of, availability_read_of, setting_of, sub_query_of, sub_read_of, sub_create_of, sub_update_of, sub_delete_of};
+ghost use Rattle.wire_body.specs.Body.{IsBody, IsJson, Says, words_of, id_named, query_area, query_of, read_of, create_of, update_of, delete_of, availability_read_of, setting_of, sub_query_of, sub_read_of, sub_create_of, sub_update_of, sub_delete_of};
 ghost use Rattle.wire_body.specs.Given.{Gives};
 ghost use Rattle.wire_body.specs.Naming as naming;
 ghost use Rattle.entity_core.specs.EntityId.{spelled};
@@ -14,7 +14,7 @@ use crate::put::put_of;
 use crate::setting::{availability_of, old_version_of};
 use crate::sub_put::sub_put_of;
 use crate::volume::area_in;
-use crate::words::{first_id, id_named, is_query, ovn_named, supplier_named};
+use crate::words::{first_id, id_named, is_query, ovn_named, uss_parameter};
 use entity_core::entity_id::EntityId;
 use entity_core::nature::Kind;
 use grid_core::volume::Area;
@@ -46,9 +46,9 @@ fn json_of(alloc: Global, body: &[u8]) -> Result<Value, BodyFault>
     }
 }
 
-#[tactic(auto, unfolding(crate::specs::Body::area_asked))]
-fn area_asked(alloc: Global, words: &PathWords<'_>, value: &Value) -> Result<Area, BodyFault>
-    ensures { Gives result (area_asked (words_of words.now) (view value.now)) }
+#[tactic(auto, unfolding(crate::specs::Body::query_area))]
+fn query_area(alloc: Global, words: &PathWords<'_>, value: &Value) -> Result<Area, BodyFault>
+    ensures { Gives result (query_area (words_of words.now) (view value.now)) }
 {
     if !is_query(words) {
         return Err(BodyFault::Malformed);
@@ -68,7 +68,7 @@ fn query_of(
 ) -> Result<Operation, BodyFault>
     ensures { Gives result (query_of kind (words_of words.now) (view value.now)) }
 {
-    let area = area_asked(alloc, words, value)?;
+    let area = query_area(alloc, words, value)?;
     Ok(Operation::Query(kind, area))
 }
 
@@ -128,7 +128,7 @@ fn delete_of(alloc: Global, kind: Kind, words: &PathWords<'_>) -> Result<Operati
 fn availability_read_of(alloc: Global, words: &PathWords<'_>) -> Result<Operation, BodyFault>
     ensures { Gives result (availability_read_of (words_of words.now)) }
 {
-    let uss = supplier_named(alloc, words)?;
+    let uss = uss_parameter(alloc, words)?;
     Ok(Operation::ReadAvail(uss))
 }
 
@@ -136,7 +136,7 @@ fn availability_read_of(alloc: Global, words: &PathWords<'_>) -> Result<Operatio
 fn setting_of(alloc: Global, words: &PathWords<'_>, value: &Value) -> Result<Operation, BodyFault>
     ensures { Gives result (setting_of (words_of words.now) (view value.now)) }
 {
-    let uss = supplier_named(alloc, words)?;
+    let uss = uss_parameter(alloc, words)?;
     let Some(availability) = availability_of(value) else {
         return Err(BodyFault::Malformed);
     };
@@ -148,7 +148,7 @@ fn setting_of(alloc: Global, words: &PathWords<'_>, value: &Value) -> Result<Ope
 fn sub_query_of(alloc: Global, words: &PathWords<'_>, value: &Value) -> Result<Operation, BodyFault>
     ensures { Gives result (sub_query_of (words_of words.now) (view value.now)) }
 {
-    let area = area_asked(alloc, words, value)?;
+    let area = query_area(alloc, words, value)?;
     Ok(Operation::QuerySub(area))
 }
 

@@ -1,6 +1,6 @@
 //! The parameters of a path.
 ghost use Rattle.std.specs.Prelude.{◌≡◌, option_map};
-ghost use Rattle.wire_body.specs.Body.{words_of, only_word, is_query, id_named, ovn_named, supplier_named};
+ghost use Rattle.wire_body.specs.Body.{words_of, only_parameter, is_query, id_named, ovn_named, uss_parameter};
 ghost use Rattle.wire_body.specs.Given.{Gives};
 ghost use Rattle.entity_core.specs.EntityId.{spelled};
 
@@ -12,8 +12,8 @@ use entity_core::ovn::Ovn;
 use entity_core::uss_id::UssId;
 use std::alloc::Global;
 
-fn only_word<'a>(words: &PathWords<'a>) -> Option<&'a str>
-    ensures { option_map (λ s. s.now) result ≡ only_word (words_of words.now) }
+fn only_parameter<'a>(words: &PathWords<'a>) -> Option<&'a str>
+    ensures { option_map (λ s. s.now) result ≡ only_parameter (words_of words.now) }
 {
     match words.second {
         None => Some(words.first),
@@ -53,7 +53,7 @@ pub(crate) fn first_id(words: &PathWords<'_>) -> Option<EntityId>
 pub(crate) fn id_named(words: &PathWords<'_>) -> Option<EntityId>
     ensures { result ≡ id_named (words_of words.now) }
 {
-    match only_word(words) {
+    match only_parameter(words) {
         Some(word) => id_of(word),
         None => None,
     }
@@ -76,11 +76,11 @@ pub(crate) fn ovn_named(alloc: Global, words: &PathWords<'_>) -> Result<Ovn, Bod
 }
 
 /// Returns the USS in the only parameter.
-#[tactic(auto, unfolding(crate::specs::Body::supplier_named))]
-pub(crate) fn supplier_named(alloc: Global, words: &PathWords<'_>) -> Result<UssId, BodyFault>
-    ensures { Gives result (supplier_named (words_of words.now)) }
+#[tactic(auto, unfolding(crate::specs::Body::uss_parameter))]
+pub(crate) fn uss_parameter(alloc: Global, words: &PathWords<'_>) -> Result<UssId, BodyFault>
+    ensures { Gives result (uss_parameter (words_of words.now)) }
 {
-    let Some(word) = only_word(words) else {
+    let Some(word) = only_parameter(words) else {
         return Err(BodyFault::Malformed);
     };
     match UssId::read(alloc, word) {

@@ -11,12 +11,12 @@ abbrev pub Fields : Type 0
 Fields = List (List ℕ × List ℕ)
 
 -- Returns true if two texts are equal without case.
-abbrev pub is_same_word : List ℕ → List ℕ → Bool
-is_same_word word text = bytes_eq (map to_ascii_lowercase text) (map to_ascii_lowercase word)
+abbrev pub equals_ignoring_case : List ℕ → List ℕ → Bool
+equals_ignoring_case word text = bytes_eq (map to_ascii_lowercase text) (map to_ascii_lowercase word)
 
 -- The values of the fields with this name, in order.
 abbrev pub values_of : List ℕ → Fields → List (List ℕ)
-values_of name fields = map (λ f. f.1) (filter (λ f. is_same_word name f.0) fields)
+values_of name fields = map (λ f. f.1) (filter (λ f. equals_ignoring_case name f.0) fields)
 
 -- Holds if this is the result of a search for the only field of a name in a buffer.
 abbrev pub IsOccurrence : List ℕ → List (List ℕ) → Occurrence → Type 0

@@ -3,9 +3,9 @@ ghost use Rattle.std.specs.Prelude.{◌≡◌, ◌≤◌, length, map, All, code
 ghost use Rattle.std.specs.List.{list_all};
 ghost use Rattle.std.specs.Char.{is_ascii_graphic};
 ghost use Rattle.httparse.specs.Spans.{header_bytes, IsHeaderWithin};
-ghost use Rattle.wire_head.specs.Bearer.{skip_spaces, visible, spaced, borne, bearer_token};
+ghost use Rattle.wire_head.specs.Bearer.{skip_spaces, visible, spaced, bearer_in, bearer_token};
 
-use crate::fields::{Occurrence, is_same_word, only};
+use crate::fields::{Occurrence, equals_ignoring_case, only};
 use httparse::spans::HeaderSpan;
 
 // Returns the bytes after the leading spaces.
@@ -56,11 +56,11 @@ fn spaced(bytes: &[u8]) -> Option<&str>
 }
 
 // Returns the token in the value of a field Authorization.
-fn borne(value: &[u8]) -> Option<&str>
-    ensures { MatchOption result (borne value.now ≡ None)
-        (λ token. borne value.now ≡ Some token.now) }
+fn bearer_in(value: &[u8]) -> Option<&str>
+    ensures { MatchOption result (bearer_in value.now ≡ None)
+        (λ token. bearer_in value.now ≡ Some token.now) }
 {
-    if value.len() < 6 || !is_same_word(&value[..6], b"Bearer") {
+    if value.len() < 6 || !equals_ignoring_case(&value[..6], b"Bearer") {
         return None;
     }
     spaced(&value[6..])
@@ -74,7 +74,7 @@ pub fn bearer_token<'b>(buffer: &'b [u8], fields: &[HeaderSpan]) -> Option<&'b s
         (λ token. bearer_token (map (header_bytes buffer.now) fields.now) ≡ Some token.now) }
 {
     match only(buffer, fields, b"Authorization") {
-        Occurrence::One(value) => borne(value.of(buffer)),
+        Occurrence::One(value) => bearer_in(value.of(buffer)),
         Occurrence::Absent => None,
         Occurrence::Many => None,
     }

@@ -4,9 +4,9 @@ ghost use Rattle.std.specs.List.{list_any};
 ghost use Rattle.httparse.specs.Grammar.{skip_ows, trim_ows};
 ghost use Rattle.httparse.specs.Spans.{header_bytes, IsHeaderWithin};
 ghost use Rattle.wire_head.specs.Fields.{values_of};
-ghost use Rattle.wire_head.specs.Close.{is_close, tells_close, closes_by};
+ghost use Rattle.wire_head.specs.Close.{is_close, is_close_option, closes_by};
 
-use crate::fields::is_same_word;
+use crate::fields::equals_ignoring_case;
 use httparse::spans::HeaderSpan;
 
 // Returns the bytes after the leading spaces and tabs.
@@ -48,12 +48,12 @@ fn trimmed(bytes: &[u8]) -> &[u8]
 fn is_close(word: &[u8]) -> bool
     ensures { result ≡ is_close word.now }
 {
-    is_same_word(trimmed(word), b"close")
+    equals_ignoring_case(trimmed(word), b"close")
 }
 
 // Returns true if `close` is one of the comma-separated options.
-fn tells_close(value: &[u8]) -> bool
-    ensures { result ≡ tells_close value.now }
+fn is_close_option(value: &[u8]) -> bool
+    ensures { result ≡ is_close_option value.now }
 {
     value.split(|b| *b == b',').any(|word| is_close(word))
 }
@@ -61,13 +61,15 @@ fn tells_close(value: &[u8]) -> bool
 // Returns true if a field Connection has the option `close`.
 fn fields_close(buffer: &[u8], fields: &[HeaderSpan]) -> bool
     requires { All (IsHeaderWithin (length buffer.now)) fields.now }
-    ensures { result ≡ list_any tells_close
+    ensures { result ≡ list_any is_close_option
         (values_of (codes "connection") (map (header_bytes buffer.now) fields.now)) }
 {
     let Some((field, rest)) = fields.split_first() else {
         return false;
     };
-    if is_same_word(field.name.of(buffer), b"connection") && tells_close(field.value.of(buffer)) {
+    if equals_ignoring_case(field.name.of(buffer), b"connection")
+        && is_close_option(field.value.of(buffer))
+    {
         return true;
     }
     fields_close(buffer, rest)

@@ -1,7 +1,7 @@
 //! The fields of a head.
 ghost use Rattle.std.specs.Prelude.{◌≡◌, ◌≤◌, length, map, All};
 ghost use Rattle.httparse.specs.Spans.{header_bytes, IsHeaderWithin};
-ghost use Rattle.wire_head.specs.Fields.{values_of, IsOccurrence, is_same_word};
+ghost use Rattle.wire_head.specs.Fields.{values_of, IsOccurrence, equals_ignoring_case};
 
 use httparse::spans::{HeaderSpan, Span};
 
@@ -17,8 +17,8 @@ pub(crate) enum Occurrence {
 }
 
 /// Returns true if two texts are equal without case.
-pub(crate) fn is_same_word(text: &[u8], word: &[u8]) -> bool
-    ensures { result ≡ is_same_word word.now text.now }
+pub(crate) fn equals_ignoring_case(text: &[u8], word: &[u8]) -> bool
+    ensures { result ≡ equals_ignoring_case word.now text.now }
 {
     text.eq_ignore_ascii_case(word)
 }
@@ -33,7 +33,7 @@ pub(crate) fn only(buffer: &[u8], fields: &[HeaderSpan], name: &[u8]) -> Occurre
         return Occurrence::Absent;
     };
     let later = only(buffer, rest, name);
-    if !is_same_word(field.name.of(buffer), name) {
+    if !equals_ignoring_case(field.name.of(buffer), name) {
         return later;
     }
     match later {

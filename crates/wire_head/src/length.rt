@@ -4,7 +4,7 @@ ghost use Rattle.std.specs.List.{list_all};
 ghost use Rattle.std.specs.Char.{is_ascii_digit};
 ghost use Rattle.std.specs.Str.Parse.{digits_value};
 ghost use Rattle.httparse.specs.Spans.{header_bytes, IsHeaderWithin};
-ghost use Rattle.wire_head.specs.Length.{content_length, told_length};
+ghost use Rattle.wire_head.specs.Length.{content_length, declared_length};
 
 use crate::fields::{Occurrence, only};
 use crate::rule::WireRule;
@@ -35,8 +35,8 @@ fn are_digits(text: &[u8]) -> bool
 }
 
 // Returns the length that the value of a field gives.
-fn told_length(text: &[u8]) -> Result<usize, WireRule>
-    ensures { result ≡ told_length text.now }
+fn declared_length(text: &[u8]) -> Result<usize, WireRule>
+    ensures { result ≡ declared_length text.now }
 {
     if text.is_empty() || !are_digits(text) {
         return Err(WireRule::Length);
@@ -61,7 +61,7 @@ pub fn content_length(buffer: &[u8], fields: &[HeaderSpan]) -> Result<usize, Wir
     };
     match only(buffer, fields, b"content-length") {
         Occurrence::Absent => Ok(0),
-        Occurrence::One(value) => told_length(value.of(buffer)),
+        Occurrence::One(value) => declared_length(value.of(buffer)),
         Occurrence::Many => Err(WireRule::Length),
     }
 }

@@ -1,7 +1,7 @@
 pub mod CallLaws
 pub mod CallUnique
-pub mod HeldBackLaws
-pub mod HeldLaws
+pub mod DeferredLaws
+pub mod BufferedLaws
 pub mod KnownBytes
 pub mod ManyLaws
 pub mod NextLaws

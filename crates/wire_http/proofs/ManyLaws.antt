@@ -14,18 +14,18 @@ use Rattle.wire_http.specs.declared.connection.Connection.{Connection}
 use Rattle.wire_http.specs.declared.connection.Step.{Step}
 use Rattle.wire_http.specs.declared.connection.Step.TheVariants as steps
 use Rattle.wire_http.specs.declared.end.End.{End}
-use Rattle.wire_http.specs.Connection.{held_of, has_ended, is_done, left_of, output_of, ready_of, slot_of, IsStep}
-use Rattle.wire_http.specs.Count.{most_requests}
+use Rattle.wire_http.specs.Connection.{buffered_of, has_ended, is_done, left_of, output_of, ready_of, slot_of, IsStep}
+use Rattle.wire_http.specs.Count.{max_requests}
 use Rattle.wire_http.specs.BufferState.{MayCome}
-use Rattle.wire_http.specs.Many.{AnyMoment, HoldsBackLast, IsNextCall, IsServed, IsServedAfter, IsServedWhole}
+use Rattle.wire_http.specs.Many.{AnyMoment, DefersLast, IsNextCall, IsServed, IsServedAfter, IsServedWhole}
 use Rattle.wire_http.specs.Text.{response_text, end_texts}
 use Rattle.wire_http.specs.Wire.{RequestCall, AsksCall, answers, left_after}
 use Rattle.wire_http.specs.DeferredResponse.{text_at}
-use Rattle.wire_http.proofs.HeldBackLaws.{ready_first}
+use Rattle.wire_http.proofs.DeferredLaws.{ready_first}
 use Rattle.wire_http.proofs.StreamLaws.{answers_more, concat_more, leads_more}
 
 module _ (callers : Callers) where
-  pub served_new : (c : Connection) → held_of c ≡ [] → output_of c ≡ [] → left_of c ≡ most_requests → is_done c ≡ false → IsServed callers [] [] [] [] c
+  pub served_new : (c : Connection) → buffered_of c ≡ [] → output_of c ≡ [] → left_of c ≡ max_requests → is_done c ≡ false → IsServed callers [] [] [] [] c
   served_new c h o l d = record {
     one_each = refl;
     spells = λ later. (l, ap (λ v. v ++ later) h, refl);
@@ -34,7 +34,7 @@ module _ (callers : Callers) where
   }
 
   pub served_rests : (came : List ℕ) (all : List RequestCall) (replies : List Reply) (sent : List ℕ) (c c' : Connection) → IsServed callers came all replies sent c
-      → held_of c' ≡ held_of c → output_of c' ≡ output_of c → left_of c' ≡ left_of c → is_done c' ≡ is_done c → IsServed callers came all replies sent c'
+      → buffered_of c' ≡ buffered_of c → output_of c' ≡ output_of c → left_of c' ≡ left_of c → is_done c' ≡ is_done c → IsServed callers came all replies sent c'
   served_rests came all replies sent c c' s h o l d = record {
     one_each = s.one_each;
     spells = λ later. rw (l, h) (s.spells later);
@@ -43,20 +43,20 @@ module _ (callers : Callers) where
   }
 
   pub served_came : (came more : List ℕ) (all : List RequestCall) (replies : List Reply) (sent : List ℕ) (c c' : Connection) → IsServed callers came all replies sent c
-      → held_of c' ≡ held_of c ++ more → output_of c' ≡ output_of c → left_of c' ≡ left_of c → is_done c' ≡ is_done c
+      → buffered_of c' ≡ buffered_of c ++ more → output_of c' ≡ output_of c → left_of c' ≡ left_of c → is_done c' ≡ is_done c
       → IsServed callers (came ++ more) all replies sent c'
   served_came came more all replies sent c c' s h o l d = record {
     one_each = s.one_each;
     spells = λ later.
         let there = s.spells (more ++ later) in
-        let rest : held_of c ++ (more ++ later) ≡ held_of c' ++ later = sym (append_assoc (held_of c) more later) ∙ ap (λ v. v ++ later) (sym h) in
+        let rest : buffered_of c ++ (more ++ later) ≡ buffered_of c' ++ later = sym (append_assoc (buffered_of c) more later) ∙ ap (λ v. v ++ later) (sym h) in
         rw (append_assoc came more later, l, sym rest) there;
     texts = ap (λ v. sent ++ v) o ∙ s.texts;
     goes_on = d ∙ s.goes_on;
   }
 
   pub served_sent : (came : List ℕ) (all : List RequestCall) (replies : List Reply) (sent : List ℕ) (n : ℕ) (c c' : Connection) → IsServed callers came all replies sent c
-      → held_of c' ≡ held_of c → output_of c' ≡ drop n (output_of c) → left_of c' ≡ left_of c → is_done c' ≡ is_done c
+      → buffered_of c' ≡ buffered_of c → output_of c' ≡ drop n (output_of c) → left_of c' ≡ left_of c → is_done c' ≡ is_done c
       → IsServed callers came all replies (sent ++ take n (output_of c)) c'
   served_sent came all replies sent n c c' s h o l d = record {
     one_each = s.one_each;
@@ -68,12 +68,12 @@ module _ (callers : Callers) where
 
 -- ---- a deferred response
 
-pub back_rests : (all : List RequestCall) (replies : List Reply) (asked : RequestCall) (sent : List ℕ) (c c' : Connection) → HoldsBackLast all replies asked sent c
-    → slot_of c' ≡ slot_of c → ready_of c' ≡ ready_of c → HoldsBackLast all replies asked sent c'
+pub back_rests : (all : List RequestCall) (replies : List Reply) (asked : RequestCall) (sent : List ℕ) (c c' : Connection) → DefersLast all replies asked sent c
+    → slot_of c' ≡ slot_of c → ready_of c' ≡ ready_of c → DefersLast all replies asked sent c'
 back_rests all replies asked sent c c' h slot ready = record { slot = slot ∙ h.slot; before = ap (λ v. sent ++ v) ready ∙ h.before }
 
-pub back_sent : (all : List RequestCall) (replies : List Reply) (asked : RequestCall) (sent : List ℕ) (n : ℕ) (c c' : Connection) → HoldsBackLast all replies asked sent c
-    → n ≤ length (ready_of c) → slot_of c' ≡ slot_of c → ready_of c' ≡ drop n (ready_of c) → HoldsBackLast all replies asked (sent ++ take n (output_of c)) c'
+pub back_sent : (all : List RequestCall) (replies : List Reply) (asked : RequestCall) (sent : List ℕ) (n : ℕ) (c c' : Connection) → DefersLast all replies asked sent c
+    → n ≤ length (ready_of c) → slot_of c' ≡ slot_of c → ready_of c' ≡ drop n (ready_of c) → DefersLast all replies asked (sent ++ take n (output_of c)) c'
 back_sent all replies asked sent n c c' h fits slot ready = record {
   slot = slot ∙ h.slot;
   before = ap (λ v. (sent ++ v) ++ ready_of c') (ready_first c n fits) ∙ ap (λ v. (sent ++ take n (ready_of c)) ++ v) ready
@@ -81,8 +81,8 @@ back_sent all replies asked sent n c c' h fits slot ready = record {
 }
 
 pub served_replaced : (callers : Callers) (came : List ℕ) (all : List RequestCall) (replies : List Reply) (asked : RequestCall) (reply other : Reply) (sent : List ℕ) (c c' : Connection)
-    → IsServed callers came (all ++ asked ∷ []) (replies ++ reply ∷ []) sent c → HoldsBackLast all replies asked sent c
-    → held_of c' ≡ held_of c → output_of c' ≡ ready_of c ++ text_at (slot_of c) other → left_of c' ≡ left_of c → is_done c' ≡ is_done c
+    → IsServed callers came (all ++ asked ∷ []) (replies ++ reply ∷ []) sent c → DefersLast all replies asked sent c
+    → buffered_of c' ≡ buffered_of c → output_of c' ≡ ready_of c ++ text_at (slot_of c) other → left_of c' ≡ left_of c → is_done c' ≡ is_done c
     → IsServed callers came (all ++ asked ∷ []) (replies ++ other ∷ []) sent c'
 served_replaced callers came all replies asked reply other sent c c' s h held output left done =
     let text : List ℕ = response_text asked.endpoint asked.closing other in
@@ -121,16 +121,16 @@ module _ {S M : Type 0} (g : Ghosts S) (Gives : M → ℕ → M → Type 0) (cal
         served = record {
           one_each = omega (arith, s.one_each, length-append all (asked ∷ []), length-append replies (reply ∷ []));
           spells = λ later.
-              let here : AsksCall Gives callers (held_of c ++ later) clock asked (held_of c' ++ later) clock' =
-              subst (λ (v : List ℕ). AsksCall Gives callers (held_of c ++ (v ++ later)) clock asked (held_of c' ++ later) clock') none (asks later) in
+              let here : AsksCall Gives callers (buffered_of c ++ later) clock asked (buffered_of c' ++ later) clock' =
+              subst (λ (v : List ℕ). AsksCall Gives callers (buffered_of c ++ (v ++ later)) clock asked (buffered_of c' ++ later) clock') none (asks later) in
               rw (left_is, took.n_is) (
-              leads_more AnyMoment callers most_requests (came ++ later) tt all (left_of c) k (held_of c ++ later) tt asked (held_of c' ++ later) tt (s.spells later) next
-              (any_moment Gives callers (held_of c ++ later) clock clock' asked (held_of c' ++ later) here) closing);
+              leads_more AnyMoment callers max_requests (came ++ later) tt all (left_of c) k (buffered_of c ++ later) tt asked (buffered_of c' ++ later) tt (s.spells later) next
+              (any_moment Gives callers (buffered_of c ++ later) clock clock' asked (buffered_of c' ++ later) here) closing);
           texts = ap (λ v. sent ++ v) wrote ∙ sym (append_assoc sent (output_of c) text) ∙ ap (λ v. v ++ text) s.texts
               ∙ sym (concat_more (answers all replies) text) ∙ ap concat (sym (answers_more all replies asked reply s.one_each));
           goes_on = done ∙ s.goes_on;
         };
-        held_back = record { slot = slot; before = ap (λ v. sent ++ v) ready ∙ s.texts };
+        deferred_response = record { slot = slot; before = ap (λ v. sent ++ v) ready ∙ s.texts };
       }
 
   pub served_whole : (came : List ℕ) (all : List RequestCall) (replies : List Reply) (sent : List ℕ) (end : End) (c c' : Connection)
@@ -139,7 +139,7 @@ module _ {S M : Type 0} (g : Ghosts S) (Gives : M → ℕ → M → Type 0) (cal
       → IsServedWhole callers (came ++ later) all replies end (sent ++ output_of c')
   served_whole came all replies sent end c c' s (same, ticks, stops, wrote, held, left, done, slot) later may = record {
     n = left_of c;
-    rest = held_of c ++ later;
+    rest = buffered_of c ++ later;
     spells = s.spells later;
     finishes = stops later may;
     text_is = ap (λ v. sent ++ v) wrote ∙ sym (append_assoc sent (output_of c) (concat (end_texts end))) ∙ ap (λ v. v ++ concat (end_texts end)) s.texts

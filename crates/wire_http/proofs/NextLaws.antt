@@ -16,7 +16,7 @@ use Rattle.wire_http.specs.declared.request.Next.TheVariants.{Request, Stop}
 use Rattle.wire_head.specs.Rest.{IsKind, whole, after}
 use Rattle.wire_head.specs.FinalHead.{Covers}
 use Rattle.wire_head.specs.Fields.{Fields, values_of}
-use Rattle.wire_head.specs.Length.{content_length, refuse_coded, told_by, is_number}
+use Rattle.wire_head.specs.Length.{content_length, reject_coded, length_by, is_number}
 use Rattle.wire_http.specs.Asked.{fields_of}
 use Rattle.wire_http.specs.Stop.{Breaks, HasRefused, StopsAs}
 use Rattle.wire_http.specs.Next.{IsNext, body_at}
@@ -30,7 +30,7 @@ same_head rest h k x y = let e : whole k ≡ whole h = one_kind rest (whole h) (
 
 -- The fields of a head break only the last three rules.
 not_told : (a b : List (List ℕ)) (e : WireRule) → (rules.Transfer ≡ e → ⊥) → (rules.Length ≡ e → ⊥) → (rules.BodySize ≡ e → ⊥)
-    → refuse_coded a (told_by b) ≡ Err e → ⊥
+    → reject_coded a (length_by b) ≡ Err e → ⊥
 not_told (a ∷ more) b e transfer length size h = transfer cc
 not_told [] [] e transfer length size h = cc
 not_told [] (a ∷ b ∷ more) e transfer length size h = length cc

@@ -19,12 +19,12 @@ use Rattle.wire_http.specs.declared.fault.StreamFault.{StreamFault}
 use Rattle.wire_http.specs.declared.fault.StreamFault.TheVariants as faults
 use Rattle.wire_http.specs.Connection.{slot_for}
 use Rattle.wire_http.specs.Count.{one_more}
-use Rattle.wire_http.specs.Fault.{GaveUpAsking}
+use Rattle.wire_http.specs.Fault.{AbortedCall}
 use Rattle.wire_http.specs.BufferState.{IsHeld, MayCome}
 use Rattle.wire_http.specs.DeferredResponse.{Slot}
 use Rattle.wire_http.specs.Input.{BufferGrew}
 use Rattle.wire_http.specs.Next.{IsNext}
-use Rattle.wire_http.specs.RequestInfo.{kind_asked, noted_as, noted_for, outcome_of}
+use Rattle.wire_http.specs.RequestInfo.{requested_kind, info_for, noted_for, outcome_of}
 use Rattle.wire_http.specs.Reply.{Replies, RepliesPart}
 use Rattle.wire_http.specs.Stop.{StopsAs}
 use Rattle.wire_http.specs.Wire.{RequestCall, Finishes}
@@ -77,16 +77,16 @@ slot_is asked endpoint closing e f = ap (λ v. Some (slot v closing)) (sym e) �
 
 -- The recorded information is about that request and its reply.
 pub noted_is : (asked : RequestCall) (reply made : Reply) (endpoint : Option Endpoint) (kind : Option OpKind) (method : List ℕ) (call : Call) (outcome : Outcome)
-    → asked.endpoint ≡ endpoint → asked.call ≡ call → reply ≡ made → kind ≡ kind_asked endpoint method → method ≡ asked.head.method → outcome ≡ outcome_of made
-    → Some (noted_as kind call outcome) ≡ Some (noted_for asked reply)
+    → asked.endpoint ≡ endpoint → asked.call ≡ call → reply ≡ made → kind ≡ requested_kind endpoint method → method ≡ asked.head.method → outcome ≡ outcome_of made
+    → Some (info_for kind call outcome) ≡ Some (noted_for asked reply)
 noted_is asked reply made endpoint kind method call outcome p c r k m o =
-    let kinds : kind ≡ kind_asked asked.endpoint asked.head.method = k ∙ ap (λ v. kind_asked v method) (sym p) ∙ ap (λ v. kind_asked asked.endpoint v) m in
-    ap (λ v. Some (noted_as v call outcome)) kinds
-    ∙ ap (λ v. Some (noted_as (kind_asked asked.endpoint asked.head.method) v outcome)) (sym c)
-    ∙ ap (λ v. Some (noted_as (kind_asked asked.endpoint asked.head.method) asked.call v)) (o ∙ ap outcome_of (sym r))
+    let kinds : kind ≡ requested_kind asked.endpoint asked.head.method = k ∙ ap (λ v. requested_kind v method) (sym p) ∙ ap (λ v. requested_kind asked.endpoint v) m in
+    ap (λ v. Some (info_for v call outcome)) kinds
+    ∙ ap (λ v. Some (info_for (requested_kind asked.endpoint asked.head.method) v outcome)) (sym c)
+    ∙ ap (λ v. Some (info_for (requested_kind asked.endpoint asked.head.method) asked.call v)) (o ∙ ap outcome_of (sym r))
 
 -- A clock that failed did so once.
-pub clock_failed : (fault : StreamFault) (failures failures' : ℕ) → GaveUpAsking fault failures failures'
+pub clock_failed : (fault : StreamFault) (failures failures' : ℕ) → AbortedCall fault failures failures'
     → fault ≡ faults.Clock → failures' ≡ one_more failures
 clock_failed faults.Clock failures failures' gave e = gave
 clock_failed faults.Memory failures failures' gave e = absurd (let is = e in cc)

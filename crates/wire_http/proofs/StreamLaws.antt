@@ -207,7 +207,7 @@ module _ {S M : Type 0} (sp : Ghosts S) (Gives : M → ℕ → M → Type 0) (ca
       leads = leads;
       answered = answered sp old (map timed all) replies new (subst (λ (v : Service S). AskedInOrder sp old (map timed all) replies v) (sym p.same) in_order);
       bytes = concat (answers all replies);
-      gives_up = inl (record {
+      aborts = inl (record {
         fault_is = p.fault_is;
         more = omega (arith, some);
         clock_is = p.clock_is;
@@ -232,7 +232,7 @@ module _ {S M : Type 0} (sp : Ghosts S) (Gives : M → ℕ → M → Type 0) (ca
           leads = leads_more Gives callers bound input clock all n k left later asked p.next mid leads some p.asks closing;
           answered = answered sp old (map timed (all ++ asked ∷ [])) (replies ++ reply ∷ []) new (asked_next old now new all replies asked reply in_order p.took.is_reply);
           bytes = concat (answers all replies) ++ take p.size (response_text asked.endpoint asked.closing reply);
-          gives_up = inr (record {
+          aborts = inr (record {
             fault_is = p.fault_is;
             clock_is = refl;
             tail = [];
@@ -254,7 +254,7 @@ module _ {S M : Type 0} (sp : Ghosts S) (Gives : M → ℕ → M → Type 0) (ca
       leads = leads;
       answered = answered sp old (map timed all) replies new (subst (λ (v : Service S). AskedInOrder sp old (map timed all) replies v) (sym p.same) in_order);
       bytes = concat (answers all replies) ++ take p.size (rule_text p.rule);
-      gives_up = inr (record {
+      aborts = inr (record {
         fault_is = p.fault_is;
         clock_is = p.clock_is;
         tail = rule_text p.rule ∷ [];

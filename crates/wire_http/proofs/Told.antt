@@ -5,7 +5,7 @@ use Rattle.wire_http.specs.declared.fault.StreamFault.{StreamFault}
 use Rattle.wire_http.specs.declared.fault.StreamFault.TheVariants as faults
 use Rattle.wire_http.specs.declared.source.Source.{Source}
 use Rattle.wire_http.specs.Counted.{failures_of, has_failed}
-use Rattle.wire_http.specs.Fault.{GaveUpAnswering, ReportsFailure}
+use Rattle.wire_http.specs.Fault.{AbortedResponse, ReportsFailure}
 
 module _ {R W T : Type 0} (old new : Source R) (writer writer' : Counted W) (clock clock' : ℕ) (reads : failures_of new.reader.now ≡ failures_of old.reader.now) (ticks : clock' ≡ clock) where
   -- Nothing failed.
@@ -21,7 +21,7 @@ module _ {R W T : Type 0} (old new : Source R) (writer writer' : Counted W) (clo
   }
 
   -- Responding was aborted.
-  pub tells_answering : (fault : StreamFault) → GaveUpAnswering (failures_of writer) (failures_of writer') (has_failed writer') fault → ReportsFailure {T = T} old new writer writer' clock clock' (Err fault)
+  pub tells_answering : (fault : StreamFault) → AbortedResponse (failures_of writer) (failures_of writer') (has_failed writer') fault → ReportsFailure {T = T} old new writer writer' clock clock' (Err fault)
   tells_answering faults.Write failed = record {
     read = λ e. absurd (let is = e in cc);
     write = λ e. failed;

@@ -26,7 +26,7 @@ use Rattle.wire_http.specs.declared.serve.Turn.TheVariants.{Answered, Ended}
 use Rattle.wire_http.specs.declared.source.Source.{Source}
 use Rattle.wire_http.specs.Asked.{IsCallOf}
 use Rattle.wire_head.specs.Close.{closes_by}
-use Rattle.wire_http.specs.Fault.{GaveUpAnswering, GaveUpAsking, GaveUpReading, IsOfAnswering, IsOfAsking}
+use Rattle.wire_http.specs.Fault.{AbortedResponse, AbortedCall, AbortedReading, IsOfAnswering, IsOfAsking}
 use Rattle.wire_http.specs.Input.{BufferGrew, known_bytes}
 use Rattle.wire_head.specs.FinalHead.{Covers}
 use Rattle.wire_http.specs.Next.{IsNext, NextFits, body_at}
@@ -58,7 +58,7 @@ unread_next b buffer rest left h len size e l fits d =
 
 module _ {M : Type 0} (Gives : M → ℕ → M → Type 0) (callers : Callers) where
   -- The clock was not read.
-  clock_read : {R : Type 0} (a b : Source R) (fault : StreamFault) (left : List ℕ) (clock : M) → GaveUpReading a b fault → ClockAfter Gives callers fault left clock clock
+  clock_read : {R : Type 0} (a b : Source R) (fault : StreamFault) (left : List ℕ) (clock : M) → AbortedReading a b fault → ClockAfter Gives callers fault left clock clock
   clock_read a b faults.Read left clock g = refl
   clock_read a b faults.Write left clock g = absurd g
   clock_read a b faults.Clock left clock g = absurd g
@@ -67,7 +67,7 @@ module _ {M : Type 0} (Gives : M → ℕ → M → Type 0) (callers : Callers) w
 
   -- The clock was read, and a time was possibly taken.
   clock_asked : (fault : StreamFault) (f f' : ℕ) (left : List ℕ) (h : RequestHead) (body : List ℕ) (clock clock' : M)
-      → IsRequest left h body → GaveUpAsking fault f f' → (fault ≡ faults.Memory → (moment : ℕ) × Gives clock moment clock')
+      → IsRequest left h body → AbortedCall fault f f' → (fault ≡ faults.Memory → (moment : ℕ) × Gives clock moment clock')
       → ClockAfter Gives callers fault left clock clock'
   clock_asked faults.Read f f' left h body clock clock' x g t = absurd g
   clock_asked faults.Write f f' left h body clock clock' x g t = absurd g
@@ -76,21 +76,21 @@ module _ {M : Type 0} (Gives : M → ℕ → M → Type 0) (callers : Callers) w
   clock_asked faults.Turns f f' left h body clock clock' x g t = absurd g
 
 -- A fault of reading is a fault before the call.
-of_reading : {R : Type 0} (a b : Source R) (fault : StreamFault) → GaveUpReading a b fault → IsOfAsking fault
+of_reading : {R : Type 0} (a b : Source R) (fault : StreamFault) → AbortedReading a b fault → IsOfAsking fault
 of_reading a b faults.Read g = tt
 of_reading a b faults.Write g = g
 of_reading a b faults.Clock g = tt
 of_reading a b faults.Memory g = tt
 of_reading a b faults.Turns g = tt
 
-of_asking : (fault : StreamFault) (f f' : ℕ) → GaveUpAsking fault f f' → IsOfAsking fault
+of_asking : (fault : StreamFault) (f f' : ℕ) → AbortedCall fault f f' → IsOfAsking fault
 of_asking faults.Read f f' g = tt
 of_asking faults.Write f f' g = g
 of_asking faults.Clock f f' g = tt
 of_asking faults.Memory f f' g = tt
 of_asking faults.Turns f f' g = tt
 
-pub of_answering : (f f' : ℕ) (b : Bool) (fault : StreamFault) → GaveUpAnswering f f' b fault → IsOfAnswering fault
+pub of_answering : (f f' : ℕ) (b : Bool) (fault : StreamFault) → AbortedResponse f f' b fault → IsOfAnswering fault
 of_answering f f' b faults.Read g = g
 of_answering f f' b faults.Write g = tt
 of_answering f f' b faults.Clock g = g
@@ -146,7 +146,7 @@ module _ {S M : Type 0} (sp : Ghosts S) (Gives : M → ℕ → M → Type 0) (ca
 
   pub part_ask : (a b : Option (List ℕ)) (old buffer : List ℕ) (fields : List HeaderSpan) (n : Next) (spans : RequestSpans) (size : ℕ) (s : Service S) (clock clock' : M) (w : Option (List ℕ)) (fault : StreamFault) (f f' : ℕ)
       → n ≡ Request spans size → BufferGrew a b old buffer → IsNext (known_bytes b) buffer fields n
-      → GaveUpAsking fault f f' → (fault ≡ faults.Memory → (moment : ℕ) × Gives clock moment clock')
+      → AbortedCall fault f f' → (fault ≡ faults.Memory → (moment : ℕ) × Gives clock moment clock')
       → IsTurnPart sp Gives callers k s s clock clock' w w a old fault
   part_ask a b old buffer fields n spans size s clock clock' w fault f f' e (came, grown, p) h g t =
       let x : IsNext (known_bytes b) buffer fields (Request spans size) = known_next (known_bytes b) buffer fields n (Request spans size) e h in (

@@ -13,9 +13,9 @@ use Rattle.wire_http.specs.declared.connection.Connection.{Connection}
 use Rattle.wire_http.specs.declared.connection.Step.{Step}
 use Rattle.wire_http.specs.declared.connection.Step.TheVariants as steps
 use Rattle.wire_http.specs.declared.fault.StreamFault.{StreamFault}
-use Rattle.wire_http.specs.Connection.{held_of, is_done, left_of, output_of, ready_of, slot_of, IsStep, IsStepPart}
+use Rattle.wire_http.specs.Connection.{buffered_of, is_done, left_of, output_of, ready_of, slot_of, IsStep, IsStepPart}
 use Rattle.wire_http.specs.DeferredResponse.{text_at}
-use Rattle.wire_http.specs.Many.{HoldsBackLast, IsServed}
+use Rattle.wire_http.specs.Many.{DefersLast, IsServed}
 use Rattle.wire_http.specs.Turns.{AreServed, AreServedAfter, MadeCall, asked_for, made_for, retold, set_at, told_for}
 use Rattle.wire_http.specs.Wire.{RequestCall, timed}
 use Rattle.wire_http.proofs.ManyLaws.{one_more_call, served_answered, served_replaced, served_rests}
@@ -72,7 +72,7 @@ module _ {S : Type 0} (g : Ghosts S) (callers : Callers) (first : Service S) whe
       → AreServed g callers first old log came sent conns
       → IsReplyTo g old new asked.moment asked.call reply
       → (is_done c' ≡ false → IsServed callers (came who) (asked_for who log ++ asked ∷ []) (told_for who log ++ reply ∷ []) (sent who) c')
-      → (is_done c' ≡ false → HoldsBackLast (asked_for who log) (told_for who log) asked (sent who) c')
+      → (is_done c' ≡ false → DefersLast (asked_for who log) (told_for who log) asked (sent who) c')
       → AreServedAfter g callers first new log came sent conns who c'
   put_call old new log came sent conns who asked reply c' s is_reply served back =
       let call : MadeCall = record { connection = who; asked = asked; reply = reply; told = reply } in
@@ -80,8 +80,8 @@ module _ {S : Type 0} (g : Ghosts S) (callers : Callers) (first : Service S) whe
         more = call ∷ [];
         its_own = own who asked reply;
         as_made = All-cons (λ (v : MadeCall). v.told ≡ v.reply) call [] refl (All-nil (λ (v : MadeCall). v.told ≡ v.reply));
-        held_back = λ d.
-            let Back : MadeCall → Type 0 = λ v. HoldsBackLast (asked_for who log) (told_for who log) v.asked (sent who) c' in
+        deferred_response = λ d.
+            let Back : MadeCall → Type 0 = λ v. DefersLast (asked_for who log) (told_for who log) v.asked (sent who) c' in
             All-cons Back call [] (back d) (All-nil Back);
         served = record {
           one_list = rw (map-append (λ (v : MadeCall). timed v.asked) log (call ∷ []), map-append (λ (v : MadeCall). v.reply) log (call ∷ []))
@@ -104,7 +104,7 @@ module _ {S : Type 0} (g : Ghosts S) (callers : Callers) (first : Service S) whe
     more = [];
     its_own = refl;
     as_made = All-nil (λ (v : MadeCall). v.told ≡ v.reply);
-    held_back = λ d. All-nil (λ (v : MadeCall). HoldsBackLast (asked_for who log) (told_for who log) v.asked (sent who) c');
+    deferred_response = λ d. All-nil (λ (v : MadeCall). DefersLast (asked_for who log) (told_for who log) v.asked (sent who) c');
     served = rw (append-nil log, same) (put old log came sent came sent conns who c' s (λ other e. refl) (λ other e. refl) served);
   }
 
@@ -112,9 +112,9 @@ module _ {S : Type 0} (g : Ghosts S) (callers : Callers) (first : Service S) whe
   pub put_retold : (now : Service S) (log after : List MadeCall) (call : MadeCall) (other : Reply) (came sent : ℕ → List ℕ) (conns : ℕ → Connection) (c' : Connection)
       → AreServed g callers first now (log ++ call ∷ after) came sent conns
       → made_for call.connection after ≡ []
-      → HoldsBackLast (asked_for call.connection log) (told_for call.connection log) call.asked (sent call.connection) (conns call.connection)
+      → DefersLast (asked_for call.connection log) (told_for call.connection log) call.asked (sent call.connection) (conns call.connection)
       → is_done (conns call.connection) ≡ false
-      → held_of c' ≡ held_of (conns call.connection)
+      → buffered_of c' ≡ buffered_of (conns call.connection)
       → output_of c' ≡ ready_of (conns call.connection) ++ text_at (slot_of (conns call.connection)) other
       → left_of c' ≡ left_of (conns call.connection) → is_done c' ≡ is_done (conns call.connection)
       → AreServed g callers first now (log ++ retold call other ∷ after) came sent (set_at conns call.connection c')
@@ -158,7 +158,7 @@ module _ {S : Type 0} (g : Ghosts S) (callers : Callers) (first : Service S) whe
         (λ _. served_rests callers (came who) (asked_for who log) (told_for who log) (sent who) (conns who) c' (s.each who goes) same.held same.output same.left same.done)
     turn_of (steps.Answered n) h =
         let next = served_answered g Gives callers old new clock clock' (came who) (asked_for who log) (told_for who log) (sent who) n (conns who) c' (s.each who goes) h in
-        put_call old new log came sent conns who next.asked next.reply c' s next.is_reply (λ _. next.served) (λ _. next.held_back)
+        put_call old new log came sent conns who next.asked next.reply c' s next.is_reply (λ _. next.served) (λ _. next.deferred_response)
     turn_of (steps.Ended end) (asked, ticks, stops, wrote, held, left, done, slot) =
         put_none old new log came sent conns who c' s asked (λ d. let no : true ≡ false = sym done ∙ d in let none : ⊥ = cc in absurd none)
 

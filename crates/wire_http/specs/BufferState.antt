@@ -38,6 +38,6 @@ IsHeld bytes ended fields (Wants count) = (ended ≡ false) × (length bytes < c
     × (count ≤ max_buffered) × HasNoneBelow bytes count
 
 -- Holds if the request is within the buffered bytes.
-abbrev pub HeldFits : List ℕ → List HeaderSpan → BufferState → Type 0
-HeldFits bytes fields (Gives next) = NextFits bytes fields next
-HeldFits bytes fields (Wants count) = Unit {0}
+abbrev pub BufferedFits : List ℕ → List HeaderSpan → BufferState → Type 0
+BufferedFits bytes fields (Gives next) = NextFits bytes fields next
+BufferedFits bytes fields (Wants count) = Unit {0}

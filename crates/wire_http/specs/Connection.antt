@@ -18,8 +18,8 @@ use Rattle.wire_http.specs.Turn.{IsTurn, IsTurnPart}
 use Rattle.wire_http.specs.Wire.{RequestCall, Finishes}
 
 -- The received bytes after the last request.
-abbrev pub held_of : Connection → List ℕ
-held_of c = c.held.items
+abbrev pub buffered_of : Connection → List ℕ
+buffered_of c = c.held.items
 
 -- The number of requests that may still be answered.
 abbrev pub left_of : Connection → ℕ
@@ -43,17 +43,17 @@ noted_of c = c.noted
 
 -- Returns true if the last response is deferred.
 abbrev pub holds_back : Connection → Bool
-holds_back c = is_some c.held_back
+holds_back c = is_some c.deferred_response
 
 abbrev pub slot_of : Connection → Option Slot
-slot_of c = option_map slot_at c.held_back
+slot_of c = option_map slot_at c.deferred_response
 
 -- The unsent bytes that may be sent, and the deferred ones.
 abbrev pub ready_of : Connection → List ℕ
-ready_of c = before_last c.sent (output_of c) c.held_back
+ready_of c = before_last c.sent (output_of c) c.deferred_response
 
-abbrev pub held_back_of : Connection → List ℕ
-held_back_of c = last_alone c.sent (output_of c) c.held_back
+abbrev pub deferred_of : Connection → List ℕ
+deferred_of c = last_alone c.sent (output_of c) c.deferred_response
 
 -- The slot of the response to a request.
 abbrev pub slot_for : RequestCall → Slot
@@ -61,11 +61,11 @@ slot_for asked = record { endpoint = asked.endpoint; closing = asked.closing }
 
 -- Holds if the connection has room for these bytes.
 abbrev pub HasRoom : Connection → List ℕ → Type 0
-HasRoom c bytes = length bytes ≤ max_buffered - length (held_of c)
+HasRoom c bytes = length bytes ≤ max_buffered - length (buffered_of c)
 
 -- Holds if a step left the connection unchanged.
 pub record IsSame (c c' : Connection) : Type 0 where
-  pub held : held_of c' ≡ held_of c
+  pub held : buffered_of c' ≡ buffered_of c
   pub output : output_of c' ≡ output_of c
   pub ready : ready_of c' ≡ ready_of c
   pub slot : slot_of c' ≡ slot_of c
@@ -81,19 +81,19 @@ module _ {S M : Type 0} (g : Ghosts S) (Gives : M → ℕ → M → Type 0) (cal
   abbrev pub IsStep : Step → Type 0
   IsStep steps.NeedsInput =
       (new ≡ old) × (clock' ≡ clock) × IsSame c c' × (0 < left_of c) × (has_ended c ≡ false)
-      × HasNoRequest (held_of c) × (length (held_of c) < max_buffered)
+      × HasNoRequest (buffered_of c) × (length (buffered_of c) < max_buffered)
   IsStep (steps.Answered n) =
       (0 < left_of c)
       × (turn : IsTurn g Gives callers (left_of c - 1) old new clock clock' (Some (output_of c))
-      (Some (output_of c')) (Some []) (Some []) (held_of c) (held_of c') (turns.Answered n))
+      (Some (output_of c')) (Some []) (Some []) (buffered_of c) (buffered_of c') (turns.Answered n))
       × (left_of c' ≡ n) × (has_ended c' ≡ has_ended c) × (is_done c' ≡ is_done c)
       × (ready_of c' ≡ output_of c) × (slot_of c' ≡ Some (slot_for turn.0))
   IsStep (steps.Ended end) =
       (new ≡ old) × (clock' ≡ clock)
       × ((later : List ℕ) → MayCome (has_ended c) later
-      → Finishes (left_of c) (held_of c ++ later) end)
+      → Finishes (left_of c) (buffered_of c ++ later) end)
       × (output_of c' ≡ output_of c ++ concat (end_texts end))
-      × (held_of c' ≡ held_of c) × (left_of c' ≡ left_of c) × (is_done c' ≡ true)
+      × (buffered_of c' ≡ buffered_of c) × (left_of c' ≡ left_of c) × (is_done c' ≡ true)
       × (slot_of c' ≡ slot_of c)
 
   -- Holds if the recorded information is about that request and its reply, or about the protocol
@@ -113,6 +113,6 @@ module _ {S M : Type 0} (g : Ghosts S) (Gives : M → ℕ → M → Type 0) (cal
   IsStepPart fault =
       (0 < left_of c)
       × IsTurnPart g Gives callers (left_of c - 1) old new clock clock' (Some (output_of c))
-      (Some (output_of c')) (Some []) (held_of c) fault
-      × (output_of c' ≡ output_of c) × (held_of c' ≡ held_of c) × (is_done c' ≡ true)
+      (Some (output_of c')) (Some []) (buffered_of c) fault
+      × (output_of c' ≡ output_of c) × (buffered_of c' ≡ buffered_of c) × (is_done c' ≡ true)
       × (slot_of c' ≡ slot_of c)

@@ -2,12 +2,12 @@
 use Rattle.std.specs.Prelude.{◌≡◌, ◌≤◌, ◌⊎◌, ℕ, zero, suc, Bool, true, false, ◌+◌, ◌-◌, ◌^◌, min, Result, Ok, Err}
 
 -- The maximum of a count.
-abbrev pub greatest_count : ℕ
-greatest_count = 2 ^ 64 - 1
+abbrev pub max_count : ℕ
+max_count = 2 ^ 64 - 1
 
 -- The count plus one, up to its maximum.
 abbrev pub one_more : ℕ → ℕ
-one_more n = min (n + 1) greatest_count
+one_more n = min (n + 1) max_count
 
 -- The count of failures after a read.
 abbrev pub after_read : {E : Type 0} → Result ℕ E → ℕ → ℕ
@@ -44,19 +44,19 @@ abbrev pub FailsLast : ℕ → ℕ → Bool → Type 0
 FailsLast failures failures' failed = (failures' ≡ one_more failures) × (failed ≡ true)
 
 -- Holds if the count is at its maximum.
-abbrev pub IsGreatest : ℕ → Type 0
-IsGreatest count = greatest_count ≤ count
+abbrev pub IsMax : ℕ → Type 0
+IsMax count = max_count ≤ count
 
 -- Holds if no count fell, and the count of calls rose by the number of turns that were used, or is
 -- at its maximum.
 abbrev pub Spends : ℕ → ℕ → ℕ → ℕ → Type 0
 Spends left left' calls calls' = (left' ≤ left) × (calls ≤ calls')
-    × ((calls' + left' ≡ calls + left) ⊎ IsGreatest calls')
+    × ((calls' + left' ≡ calls + left) ⊎ IsMax calls')
 
 -- The maximum number of reads of a stream.
-abbrev pub most_reads : ℕ
-most_reads = 1000000
+abbrev pub max_reads : ℕ
+max_reads = 1000000
 
 -- The maximum number of requests of a stream.
-abbrev pub most_requests : ℕ
-most_requests = 100
+abbrev pub max_requests : ℕ
+max_requests = 100

@@ -40,32 +40,32 @@ IsOfAsking Write = ⊥
 
 -- Holds if this is why reading was aborted: the last read failed, or none did and no turn is left
 -- or memory ran out.
-abbrev pub GaveUpReading : {R : Type 0} → Source R → Source R → StreamFault → Type 0
-GaveUpReading old new Read =
+abbrev pub AbortedReading : {R : Type 0} → Source R → Source R → StreamFault → Type 0
+AbortedReading old new Read =
     FailsLast (failures_of old.reader.now) (failures_of new.reader.now) (has_failed new.reader.now)
-GaveUpReading old new Turns =
+AbortedReading old new Turns =
     (new.turns ≡ 0) × (failures_of new.reader.now ≡ failures_of old.reader.now)
-GaveUpReading old new Memory = failures_of new.reader.now ≡ failures_of old.reader.now
-GaveUpReading old new Write = ⊥
-GaveUpReading old new Clock = ⊥
+AbortedReading old new Memory = failures_of new.reader.now ≡ failures_of old.reader.now
+AbortedReading old new Write = ⊥
+AbortedReading old new Clock = ⊥
 
 -- Holds if this is why the call was not made: the clock failed once, or it did not and memory ran
 -- out.
-abbrev pub GaveUpAsking : StreamFault → ℕ → ℕ → Type 0
-GaveUpAsking Clock failures failures' = failures' ≡ one_more failures
-GaveUpAsking Memory failures failures' = failures' ≡ failures
-GaveUpAsking Read failures failures' = ⊥
-GaveUpAsking Write failures failures' = ⊥
-GaveUpAsking Turns failures failures' = ⊥
+abbrev pub AbortedCall : StreamFault → ℕ → ℕ → Type 0
+AbortedCall Clock failures failures' = failures' ≡ one_more failures
+AbortedCall Memory failures failures' = failures' ≡ failures
+AbortedCall Read failures failures' = ⊥
+AbortedCall Write failures failures' = ⊥
+AbortedCall Turns failures failures' = ⊥
 
 -- Holds if this is why a response was aborted: the last write failed, or none did and memory ran
 -- out.
-abbrev pub GaveUpAnswering : ℕ → ℕ → Bool → StreamFault → Type 0
-GaveUpAnswering failures failures' failed Write = FailsLast failures failures' failed
-GaveUpAnswering failures failures' failed Memory = failures' ≡ failures
-GaveUpAnswering failures failures' failed Read = ⊥
-GaveUpAnswering failures failures' failed Clock = ⊥
-GaveUpAnswering failures failures' failed Turns = ⊥
+abbrev pub AbortedResponse : ℕ → ℕ → Bool → StreamFault → Type 0
+AbortedResponse failures failures' failed Write = FailsLast failures failures' failed
+AbortedResponse failures failures' failed Memory = failures' ≡ failures
+AbortedResponse failures failures' failed Read = ⊥
+AbortedResponse failures failures' failed Clock = ⊥
+AbortedResponse failures failures' failed Turns = ⊥
 
 -- Holds if the reported device failed once, and a reader or a writer was not called after it. No
 -- other count of failures rose. If the fault says that no turn is left, none is left.

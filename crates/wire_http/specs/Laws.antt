@@ -10,11 +10,11 @@ use Rattle.wire_http.specs.declared.connection.Step.{Step}
 use Rattle.wire_http.specs.declared.connection.Step.TheVariants as steps
 use Rattle.wire_http.specs.declared.end.End.{End}
 use Rattle.wire_http.specs.declared.fault.StreamFault.{StreamFault}
-use Rattle.wire_http.specs.Connection.{IsStep, IsStepPart, has_ended, held_of, is_done, left_of, output_of, ready_of, slot_of}
-use Rattle.wire_http.specs.Count.{most_requests}
+use Rattle.wire_http.specs.Connection.{IsStep, IsStepPart, has_ended, buffered_of, is_done, left_of, output_of, ready_of, slot_of}
+use Rattle.wire_http.specs.Count.{max_requests}
 use Rattle.wire_http.specs.BufferState.{MayCome}
 use Rattle.wire_http.specs.DeferredResponse.{text_at}
-use Rattle.wire_http.specs.Many.{HoldsBackLast, IsNextCall, IsServed, IsServedAfter, IsServedWhole}
+use Rattle.wire_http.specs.Many.{DefersLast, IsNextCall, IsServed, IsServedAfter, IsServedWhole}
 use Rattle.wire_http.specs.Stop.{AreSameEnds}
 use Rattle.wire_http.specs.Turns.{AreServed, AreServedAfter, MadeCall, asked_for, made_for, retold, set_at, told_for}
 use Rattle.wire_http.specs.Wire.{RequestCall, Finishes, Leads}
@@ -39,14 +39,14 @@ OneStream {M} Gives = OneMoment Gives
 
 -- States that a new connection is served: nothing was received, and no call was made.
 abbrev pub ServedAtFirst : Type 0
-ServedAtFirst = (callers : Callers) (c : Connection) → held_of c ≡ [] → output_of c ≡ []
-    → left_of c ≡ most_requests → is_done c ≡ false → IsServed callers [] [] [] [] c
+ServedAtFirst = (callers : Callers) (c : Connection) → buffered_of c ≡ [] → output_of c ≡ []
+    → left_of c ≡ max_requests → is_done c ≡ false → IsServed callers [] [] [] [] c
 
 -- States that it stays served without input, output and calls.
 abbrev pub ServedAsItRests : Type 0
 ServedAsItRests = (callers : Callers) (came : List ℕ) (all : List RequestCall) (replies : List Reply)
     (sent : List ℕ) (c next : Connection) → IsServed callers came all replies sent c
-    → held_of next ≡ held_of c → output_of next ≡ output_of c → left_of next ≡ left_of c
+    → buffered_of next ≡ buffered_of c → output_of next ≡ output_of c → left_of next ≡ left_of c
     → is_done next ≡ is_done c → IsServed callers came all replies sent next
 
 -- States that it stays served when bytes arrive.
@@ -54,7 +54,7 @@ abbrev pub ServedAsBytesCome : Type 0
 ServedAsBytesCome = (callers : Callers) (came more : List ℕ) (all : List RequestCall)
     (replies : List Reply) (sent : List ℕ) (c next : Connection)
     → IsServed callers came all replies sent c
-    → held_of next ≡ held_of c ++ more → output_of next ≡ output_of c
+    → buffered_of next ≡ buffered_of c ++ more → output_of next ≡ output_of c
     → left_of next ≡ left_of c → is_done next ≡ is_done c
     → IsServed callers (came ++ more) all replies sent next
 
@@ -62,23 +62,23 @@ ServedAsBytesCome = (callers : Callers) (came more : List ℕ) (all : List Reque
 abbrev pub ServedAsBytesGo : Type 0
 ServedAsBytesGo = (callers : Callers) (came : List ℕ) (all : List RequestCall) (replies : List Reply)
     (sent : List ℕ) (n : ℕ) (c next : Connection) → IsServed callers came all replies sent c
-    → held_of next ≡ held_of c → output_of next ≡ drop n (output_of c)
+    → buffered_of next ≡ buffered_of c → output_of next ≡ drop n (output_of c)
     → left_of next ≡ left_of c → is_done next ≡ is_done c
     → IsServed callers came all replies (sent ++ take n (output_of c)) next
 
 -- States that a response stays deferred if nothing is sent.
-abbrev pub HeldBackAsItRests : Type 0
-HeldBackAsItRests = (all : List RequestCall) (replies : List Reply) (asked : RequestCall) (sent : List ℕ)
-    (c next : Connection) → HoldsBackLast all replies asked sent c
+abbrev pub DeferredAsItRests : Type 0
+DeferredAsItRests = (all : List RequestCall) (replies : List Reply) (asked : RequestCall) (sent : List ℕ)
+    (c next : Connection) → DefersLast all replies asked sent c
     → slot_of next ≡ slot_of c → ready_of next ≡ ready_of c
-    → HoldsBackLast all replies asked sent next
+    → DefersLast all replies asked sent next
 
 -- States that it stays deferred when the bytes before it are sent.
-abbrev pub HeldBackAsBytesGo : Type 0
-HeldBackAsBytesGo = (all : List RequestCall) (replies : List Reply) (asked : RequestCall) (sent : List ℕ)
-    (n : ℕ) (c next : Connection) → HoldsBackLast all replies asked sent c
+abbrev pub DeferredAsBytesGo : Type 0
+DeferredAsBytesGo = (all : List RequestCall) (replies : List Reply) (asked : RequestCall) (sent : List ℕ)
+    (n : ℕ) (c next : Connection) → DefersLast all replies asked sent c
     → n ≤ length (ready_of c) → slot_of next ≡ slot_of c → ready_of next ≡ drop n (ready_of c)
-    → HoldsBackLast all replies asked (sent ++ take n (output_of c)) next
+    → DefersLast all replies asked (sent ++ take n (output_of c)) next
 
 -- States that after a deferred response is replaced, the connection is served with the other reply
 -- to its last request.
@@ -86,7 +86,7 @@ abbrev pub ServedAsReplaced : Type 0
 ServedAsReplaced = (callers : Callers) (came : List ℕ) (all : List RequestCall) (replies : List Reply)
     (asked : RequestCall) (reply other : Reply) (sent : List ℕ) (c next : Connection)
     → IsServed callers came (all ++ asked ∷ []) (replies ++ reply ∷ []) sent c
-    → HoldsBackLast all replies asked sent c → held_of next ≡ held_of c
+    → DefersLast all replies asked sent c → buffered_of next ≡ buffered_of c
     → output_of next ≡ ready_of c ++ text_at (slot_of c) other
     → left_of next ≡ left_of c → is_done next ≡ is_done c
     → IsServed callers came (all ++ asked ∷ []) (replies ++ other ∷ []) sent next
@@ -174,10 +174,10 @@ ToldOtherwise {S} g =
     (connections : ℕ → Connection) (next : Connection)
     → AreServed g callers first now (log ++ call ∷ after) came sent connections
     → made_for call.connection after ≡ []
-    → HoldsBackLast (asked_for call.connection log) (told_for call.connection log) call.asked
+    → DefersLast (asked_for call.connection log) (told_for call.connection log) call.asked
     (sent call.connection) (connections call.connection)
     → is_done (connections call.connection) ≡ false
-    → held_of next ≡ held_of (connections call.connection)
+    → buffered_of next ≡ buffered_of (connections call.connection)
     → output_of next
     ≡ ready_of (connections call.connection)
     ++ text_at (slot_of (connections call.connection)) other

@@ -10,8 +10,8 @@ use Rattle.wire_http.specs.declared.connection.Connection.{Connection}
 use Rattle.wire_http.specs.declared.connection.Step.{Step}
 use Rattle.wire_http.specs.declared.connection.Step.TheVariants as steps
 use Rattle.wire_http.specs.declared.end.End.{End}
-use Rattle.wire_http.specs.Connection.{has_ended, held_of, is_done, left_of, output_of, ready_of, slot_for, slot_of}
-use Rattle.wire_http.specs.Count.{most_requests}
+use Rattle.wire_http.specs.Connection.{has_ended, buffered_of, is_done, left_of, output_of, ready_of, slot_for, slot_of}
+use Rattle.wire_http.specs.Count.{max_requests}
 use Rattle.wire_http.specs.BufferState.{MayCome}
 use Rattle.wire_http.specs.Text.{end_texts}
 use Rattle.wire_http.specs.Wire.{RequestCall, Finishes, Leads, answers}
@@ -23,7 +23,7 @@ AnyMoment clock moment clock' = Unit {0}
 -- Holds if the received bytes begin with these requests, whatever follows. `n` more requests may
 -- come, and `rest` is left.
 abbrev pub Spells : Callers → List ℕ → List RequestCall → ℕ → List ℕ → Type 0
-Spells callers came all n rest = Leads AnyMoment callers most_requests came tt all n rest tt
+Spells callers came all n rest = Leads AnyMoment callers max_requests came tt all n rest tt
 
 -- Holds if these bytes were received, these requests of them got these replies, and the responses
 -- are what was sent and what is still unsent.
@@ -31,13 +31,13 @@ pub record IsServed (callers : Callers) (came : List ℕ) (all : List RequestCal
     (sent : List ℕ) (c : Connection) : Type 0 where
   pub one_each : length replies ≡ length all
   pub spells : (later : List ℕ)
-      → Spells callers (came ++ later) all (left_of c) (held_of c ++ later)
+      → Spells callers (came ++ later) all (left_of c) (buffered_of c ++ later)
   pub texts : sent ++ output_of c ≡ concat (answers all replies)
   pub goes_on : is_done c ≡ false
 
 -- Holds if the response to that request is deferred and the last one. The bytes that were sent or
 -- may be sent are the responses to the requests before it.
-pub record HoldsBackLast (all : List RequestCall) (replies : List Reply) (asked : RequestCall) (sent : List ℕ)
+pub record DefersLast (all : List RequestCall) (replies : List Reply) (asked : RequestCall) (sent : List ℕ)
     (c : Connection) : Type 0 where
   pub slot : slot_of c ≡ Some (slot_for asked)
   pub before : sent ++ ready_of c ≡ concat (answers all replies)
@@ -62,7 +62,7 @@ pub record IsNextCall {S M : Type 0} (g : Ghosts S) (Gives : M → ℕ → M →
   pub moment : Gives clock asked.moment clock'
   pub is_reply : IsReplyTo g old new asked.moment asked.call reply
   pub served : IsServed callers came (all ++ asked ∷ []) (replies ++ reply ∷ []) sent c
-  pub held_back : HoldsBackLast all replies asked sent c
+  pub deferred_response : DefersLast all replies asked sent c
 
 -- Holds if this is how a connection is served after a step: as before, with its next call, or
 -- whole, whatever may still arrive.

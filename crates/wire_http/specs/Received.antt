@@ -10,7 +10,7 @@ use Rattle.wire_route.specs.declared.endpoint.Endpoint.{Endpoint}
 use Rattle.wire_head.specs.FinalHead.{Covers}
 use Rattle.wire_http.specs.Next.{body_at}
 use Rattle.wire_http.specs.Asked.{IsCallOf}
-use Rattle.wire_http.specs.RequestInfo.{kind_asked}
+use Rattle.wire_http.specs.RequestInfo.{requested_kind}
 
 -- Holds if the request is within the bytes, and its target is UTF-8.
 abbrev pub IsReceived : Received → Type 0
@@ -27,4 +27,4 @@ IsMadeBy callers r endpoint call =
 
 -- Holds if this is the kind of operation of the method at the endpoint.
 abbrev pub IsKindIn : Received → Option Endpoint → Option OpKind → Type 0
-IsKindIn r endpoint kind = kind ≡ kind_asked endpoint (span_bytes r.buffer.now r.spans.method)
+IsKindIn r endpoint kind = kind ≡ requested_kind endpoint (span_bytes r.buffer.now r.spans.method)

@@ -38,11 +38,11 @@ abbrev pub supplier_of : Call → Option (List ℕ)
 supplier_of call = option_map (λ caller. caller.uss) call.caller
 
 -- The kind of operation of a method at an endpoint, if there is one and it allows the method.
-abbrev pub kind_asked : Option Endpoint → List ℕ → Option OpKind
-kind_asked endpoint method = option_and_then (λ there. kind_at there method) endpoint
+abbrev pub requested_kind : Option Endpoint → List ℕ → Option OpKind
+requested_kind endpoint method = option_and_then (λ there. kind_at there method) endpoint
 
-abbrev pub noted_as : Option OpKind → Call → Outcome → RequestInfo
-noted_as kind call outcome = record {
+abbrev pub info_for : Option OpKind → Call → Outcome → RequestInfo
+info_for kind call outcome = record {
   operation = kind;
   supplier = supplier_of call;
   entity = entity_of call.op;
@@ -52,7 +52,7 @@ noted_as kind call outcome = record {
 -- The information about a request with this reply.
 abbrev pub noted_for : RequestCall → Reply → RequestInfo
 noted_for asked reply =
-    noted_as (kind_asked asked.endpoint asked.head.method) asked.call (outcome_of reply)
+    info_for (requested_kind asked.endpoint asked.head.method) asked.call (outcome_of reply)
 
 -- The information after the end of a stream: the protocol rule that a request broke, otherwise what
 -- was recorded before.

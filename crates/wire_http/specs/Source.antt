@@ -4,7 +4,7 @@ use Rattle.wire_http.specs.declared.fault.StreamFault.{StreamFault}
 use Rattle.wire_http.specs.declared.source.Source.{Source}
 use Rattle.wire_http.specs.Count.{Spends}
 use Rattle.wire_http.specs.Counted.{inner_of, calls_of, failures_of}
-use Rattle.wire_http.specs.Fault.{GaveUpReading}
+use Rattle.wire_http.specs.Fault.{AbortedReading}
 use Rattle.wire_http.specs.Input.{BufferGrew}
 
 -- The bytes that were read and belong to no earlier request.
@@ -30,7 +30,7 @@ pub record HasRead {R : Type 0} (remaining : R → Option (List ℕ)) (old new :
 -- Holds if reading used turns and was aborted.
 pub record HasGivenUp {R : Type 0} (old new : Source R) (fault : StreamFault) : Type 0 where
   pub spent : HasSpent old new
-  pub why : GaveUpReading old new fault
+  pub why : AbortedReading old new fault
 
 -- Holds if this is the effect of reading, given its result.
 abbrev pub ReadsSource : {R A : Type 0} → (R → Option (List ℕ)) → Source R → Source R

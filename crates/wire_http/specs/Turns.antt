@@ -7,7 +7,7 @@ use Rattle.service_step.specs.declared.reply.Reply.{Reply}
 use Rattle.token_conf.specs.TokenFile.{Callers}
 use Rattle.wire_http.specs.declared.connection.Connection.{Connection}
 use Rattle.wire_http.specs.Connection.{is_done}
-use Rattle.wire_http.specs.Many.{HoldsBackLast, IsServed}
+use Rattle.wire_http.specs.Many.{DefersLast, IsServed}
 use Rattle.wire_http.specs.Wire.{RequestCall, timed}
 
 -- A call with its connection, its request, its reply, and the delivered reply. The two replies
@@ -62,7 +62,7 @@ pub record AreServedAfter {S : Type 0} (g : Ghosts S) (callers : Callers) (first
   pub more : List MadeCall
   pub its_own : made_for who more ≡ more
   pub as_made : All (λ call. call.told ≡ call.reply) more
-  pub held_back : is_done next ≡ false → All (λ call.
-      HoldsBackLast (asked_for who log) (told_for who log) call.asked (sent who) next) more
+  pub deferred_response : is_done next ≡ false → All (λ call.
+      DefersLast (asked_for who log) (told_for who log) call.asked (sent who) next) more
   pub served : AreServed g callers first now (log ++ more) came sent
       (set_at connections who next)

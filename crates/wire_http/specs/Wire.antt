@@ -114,7 +114,7 @@ pub record IsFront (texts : List (List ℕ)) (bytes : List ℕ) : Type 0 where
 
 -- Holds if the stream was aborted before its next call: a request may still come, and the responses
 -- are complete.
-pub record GivesUpAsking
+pub record AbortsRequest
     {M : Type 0} (Gives : M → ℕ → M → Type 0) (callers : Callers)
     (fault : StreamFault) (n : ℕ) (left : List ℕ) (later clock' : M) (texts : List (List ℕ))
     (bytes : List ℕ) : Type 0 where
@@ -125,7 +125,7 @@ pub record GivesUpAsking
 
 -- Holds if the stream was aborted within the last response, or within the text of the rule that the
 -- rest breaks. The clock was not read since then.
-pub record GivesUpAnswering
+pub record AbortsResponse
     {M : Type 0} (fault : StreamFault) (n : ℕ) (left : List ℕ) (later clock' : M)
     (texts : List (List ℕ)) (bytes : List ℕ) : Type 0 where
   pub fault_is : IsOfAnswering fault
@@ -166,7 +166,7 @@ pub record ServesPart
   pub leads : Leads Gives callers bound input clock all n left later
   pub answered : Answered g old (map timed all) replies new
   pub bytes : List ℕ
-  pub gives_up :
-      GivesUpAsking Gives callers fault n left later clock' (answers all replies) bytes
-      ⊎ GivesUpAnswering fault n left later clock' (answers all replies) bytes
+  pub aborts :
+      AbortsRequest Gives callers fault n left later clock' (answers all replies) bytes
+      ⊎ AbortsResponse fault n left later clock' (answers all replies) bytes
   pub written : Appends before text bytes

@@ -4,7 +4,7 @@ ghost use Rattle.httparse.specs.Grammar.{RequestHead};
 ghost use Rattle.httparse.specs.Spans.{IsRequestWithin, span_bytes};
 ghost use Rattle.wire_head.specs.FinalHead.{Covers};
 ghost use Rattle.wire_head.specs.Rest.{IsKind, whole, window};
-ghost use Rattle.wire_http.specs.BufferState.{IsHeld, HeldFits};
+ghost use Rattle.wire_http.specs.BufferState.{IsHeld, BufferedFits};
 
 use crate::end::End;
 use crate::request::Next;
@@ -26,7 +26,7 @@ pub(crate) enum BufferState {
 }
 
 // Returns the body after a head that is in the first bytes.
-fn held_body(
+fn buffered_body(
     bytes: &[u8],
     front: &[u8],
     ended: bool,
@@ -40,7 +40,7 @@ fn held_body(
         → ((later : List ℕ) → IsKind (front.now ++ later) (whole h))
         → Covers front.now fields.now spans h
         → IsHeld bytes.now ended fields.now result }
-    ensures fits { HeldFits bytes.now fields.now result }
+    ensures fits { BufferedFits bytes.now fields.now result }
 {
     let size = match content_length(front, &fields[..spans.headers]) {
         Ok(size) => size,
@@ -57,14 +57,14 @@ fn held_body(
 }
 
 /// Returns what the buffered bytes give next. `ended` says whether the input ends after them.
-pub(crate) fn next_held(bytes: &[u8], ended: bool, fields: &mut [HeaderSpan]) -> BufferState
+pub(crate) fn next_buffered(bytes: &[u8], ended: bool, fields: &mut [HeaderSpan]) -> BufferState
     requires room { length fields.old ≡ FIELD_LIMIT }
     ensures held { IsHeld bytes.now ended fields.new result }
-    ensures fits { HeldFits bytes.now fields.new result }
+    ensures fits { BufferedFits bytes.now fields.new result }
 {
     let front = &bytes[..bytes.len().min(HEAD_LIMIT)];
     match head_so_far(front, fields) {
-        PartialHead::Head(spans) => return held_body(bytes, front, ended, fields, spans),
+        PartialHead::Head(spans) => return buffered_body(bytes, front, ended, fields, spans),
         PartialHead::Bad => return BufferState::Gives(Next::Stop(End::Wire(WireRule::Head))),
         PartialHead::Large => {
             return BufferState::Gives(Next::Stop(End::Wire(WireRule::HeadSize)));

@@ -4,9 +4,9 @@ ghost use Rattle.std.specs.Prelude.{All, Err, IfOk, IfErr, OnOk};
 ghost use Rattle.httparse.specs.Spans.{IsHeaderWithin, header_bytes};
 ghost use Rattle.token_conf.specs.TokenFile.{callers_of};
 ghost use Rattle.wire_body.specs.Body.{words_of};
-ghost use Rattle.wire_http.specs.Fault.{GaveUpAsking};
+ghost use Rattle.wire_http.specs.Fault.{AbortedCall};
 ghost use Rattle.wire_http.specs.Received.{IsKindIn, IsMadeBy, IsReceived};
-ghost use Rattle.wire_http.specs.RequestInfo.{kind_asked};
+ghost use Rattle.wire_http.specs.RequestInfo.{requested_kind};
 ghost use Rattle.wire_head.specs.Close.{closes_by};
 ghost use Rattle.wire_http.specs.Asked.{caller_of, IsReadAs, IsAsked};
 
@@ -59,7 +59,7 @@ fn seek(
     body: &[u8],
 ) -> Result<RoutedOperation, AllocError>
     ensures asked { IfOk result (λ s. IsAsked path.now method.now body.now s.endpoint s.op) }
-    ensures kind { IfOk result (λ s. s.kind ≡ kind_asked s.endpoint method.now) }
+    ensures kind { IfOk result (λ s. s.kind ≡ requested_kind s.endpoint method.now) }
 {
     let Some(Route { endpoint, words }) = routes.find(path) else {
         return Ok(RoutedOperation {
@@ -206,7 +206,7 @@ pub(crate) fn ask<M: Moments>(
     ensures taken { result ≡ Err StreamFault.Memory
         → (moment : ℕ) × M.gives moments.old moment moments.new }
     ensures err { IfErr result (λ e.
-        GaveUpAsking e (M.failures moments.old) (M.failures moments.new)) }
+        AbortedCall e (M.failures moments.old) (M.failures moments.new)) }
 {
     let Ok(moment) = moments.next() else {
         return Err(StreamFault::Clock);

@@ -4,19 +4,19 @@ ghost use Rattle.std.specs.Prelude.{◌++◌, IfOk, OnOk, OnErr, vec_len, vec_ca
 ghost use Rattle.std.specs.List.{concat};
 ghost use Rattle.std.specs.Option.{ForSome};
 ghost use Rattle.service_calls.specs.Held.{Stays};
-ghost use Rattle.wire_http.specs.BufferState.{HasNoneBelow, HeldFits, IsHeld, IsLight, max_buffered};
+ghost use Rattle.wire_http.specs.BufferState.{HasNoneBelow, BufferedFits, IsHeld, IsLight, max_buffered};
 ghost use Rattle.wire_http.specs.DeferredResponse.{StandsWithin};
 ghost use Rattle.wire_http.specs.RequestInfo.{outcome_of};
 ghost use Rattle.wire_http.specs.Reply.{Replies, RepliesPart};
 ghost use Rattle.wire_http.specs.Text.{response_text, end_texts};
 
-use crate::buffered::{BufferState, next_held};
+use crate::buffered::{BufferState, next_buffered};
 use crate::call::{Received, RoutedCall, ask, left_after};
 use crate::end::End;
 use crate::fault::StreamFault;
 use crate::moments::Moments;
 use crate::request::Next;
-use crate::request_info::{Outcome, RequestInfo, note_end, note_instead, noted_as, outcome_of};
+use crate::request_info::{Outcome, RequestInfo, info_for, outcome_of, record_end, record_reply};
 use crate::serve::REQUESTS;
 use crate::source::shift;
 use crate::text::{response_text, rule_text};
@@ -30,10 +30,10 @@ use wire_route::endpoint::Endpoint;
 use wire_route::routes::Routes;
 
 // The maximum number of buffered bytes: those of a head and a body.
-const MOST_HELD: usize = 1_056_768;
+const MAX_BUFFERED: usize = 1_056_768;
 
 // The maximum memory of an empty buffer, in bytes.
-const MOST_KEPT: usize = 65_536;
+const MAX_RETAINED: usize = 65_536;
 
 /// The effect of one step of a connection.
 #[derive(Clone, Copy, Debug, PartialEq, Eq)]
@@ -47,11 +47,11 @@ pub enum Step {
 }
 
 // Releases the memory of a large buffer that holds little. An empty one keeps at most 64 KB.
-fn give_back(buffer: &mut Vec<u8>)
+fn shrink(buffer: &mut Vec<u8>)
     ensures same { buffer.new.items ≡ buffer.old.items }
     ensures light { IsLight (vec_len buffer.new) (vec_capacity buffer.new) }
 {
-    if buffer.len() < MOST_KEPT && buffer.capacity() > MOST_KEPT {
+    if buffer.len() < MAX_RETAINED && buffer.capacity() > MAX_RETAINED {
         buffer.shrink_to_fit();
     }
 }
@@ -64,7 +64,7 @@ fn put_behind(buffer: &mut Vec<u8>, bytes: &[u8]) -> Result<(), AllocError>
 {
     let done = buffer.extend_from_slice(bytes);
     if buffer.is_empty() {
-        give_back(buffer);
+        shrink(buffer);
     }
     done
 }
@@ -164,13 +164,13 @@ pub struct Connection {
     done: bool,
     answers: Vec<u8>,
     sent: usize,
-    held_back: Option<DeferredResponse>,
+    deferred_response: Option<DeferredResponse>,
     noted: Option<RequestInfo>,
     ghost held_fits: { length held.items ≤ max_buffered },
     ghost wanted_fits: { wanted ≤ max_buffered },
     ghost none_below: { HasNoneBelow held.items wanted },
     ghost sent_fits: { sent ≤ length answers.items },
-    ghost last_fits: { ForSome held_back (StandsWithin sent (length answers.items)) },
+    ghost last_fits: { ForSome deferred_response (StandsWithin sent (length answers.items)) },
     // An empty buffer keeps little memory.
     ghost held_light: { IsLight (vec_len held) (vec_capacity held) },
     ghost answers_light: { IsLight (vec_len answers) (vec_capacity answers) },
@@ -179,8 +179,8 @@ pub struct Connection {
 impl Connection {
     ghost use Rattle.std.specs.Prelude.{[], true, false, IsTrue, ◌↔◌, Err, IfErr, None, option_map};
     ghost use Rattle.token_conf.specs.TokenFile.{callers_of};
-    ghost use Rattle.wire_http.specs.Connection.{held_of, left_of, has_ended, is_done};
-    ghost use Rattle.wire_http.specs.Connection.{output_of, ready_of, held_back_of};
+    ghost use Rattle.wire_http.specs.Connection.{buffered_of, left_of, has_ended, is_done};
+    ghost use Rattle.wire_http.specs.Connection.{output_of, ready_of, deferred_of};
     ghost use Rattle.wire_http.specs.Connection.{holds_back, slot_of, noted_of, HasRoom};
     ghost use Rattle.wire_http.specs.Connection.{IsStep, IsNotedStep, IsStepPart};
     ghost use Rattle.wire_http.specs.DeferredResponse.{text_at};
@@ -189,7 +189,7 @@ impl Connection {
 
     /// Creates a connection from which nothing was received. Allocates nothing.
     pub fn new(alloc: Global) -> Connection
-        ensures held { held_of result ≡ [] }
+        ensures held { buffered_of result ≡ [] }
         ensures output { output_of result ≡ [] }
         ensures left { left_of result ≡ 100 }
         ensures ended { has_ended result ≡ false }
@@ -205,7 +205,7 @@ impl Connection {
             done: false,
             answers: Vec::new(alloc),
             sent: 0,
-            held_back: None,
+            deferred_response: None,
             noted: None,
         }
     }
@@ -213,14 +213,14 @@ impl Connection {
     /// Returns the number of bytes that can still be received. It is zero if a head and a body of
     /// the maximum sizes are buffered.
     pub fn remaining_capacity(&self) -> usize
-        ensures { result ≡ max_buffered - length (held_of self.now) }
+        ensures { result ≡ max_buffered - length (buffered_of self.now) }
     {
-        MOST_HELD - self.held.len()
+        MAX_BUFFERED - self.held.len()
     }
 
     /// Returns the number of buffered bytes.
     pub fn buffered_len(&self) -> usize
-        ensures held { result ≡ length (held_of self.now) }
+        ensures held { result ≡ length (buffered_of self.now) }
         ensures most { result ≤ max_buffered }
     {
         self.held.len()
@@ -228,7 +228,7 @@ impl Connection {
 
     /// Returns true if bytes are buffered.
     pub fn has_buffered(&self) -> bool
-        ensures { IsTrue result ↔ (0 < length (held_of self.now)) }
+        ensures { IsTrue result ↔ (0 < length (buffered_of self.now)) }
     {
         !self.held.is_empty()
     }
@@ -254,8 +254,8 @@ impl Connection {
     /// `bytes` must fit into `remaining_capacity`.
     pub fn receive(&mut self, bytes: &[u8]) -> Result<(), AllocError>
         requires room { HasRoom self.old bytes.now }
-        ensures held { OnOk result (held_of self.new ≡ held_of self.old ++ bytes.now) }
-        ensures none { OnErr result (held_of self.new ≡ held_of self.old) }
+        ensures held { OnOk result (buffered_of self.new ≡ buffered_of self.old ++ bytes.now) }
+        ensures none { OnErr result (buffered_of self.new ≡ buffered_of self.old) }
         ensures output { output_of self.new ≡ output_of self.old }
         ensures ready { ready_of self.new ≡ ready_of self.old }
         ensures slot { slot_of self.new ≡ slot_of self.old }
@@ -272,7 +272,7 @@ impl Connection {
 
     /// Marks the end of the input: no more bytes arrive.
     pub fn end_of_input(&mut self)
-        ensures held { held_of self.new ≡ held_of self.old }
+        ensures held { buffered_of self.new ≡ buffered_of self.old }
         ensures output { output_of self.new ≡ output_of self.old }
         ensures ready { ready_of self.new ≡ ready_of self.old }
         ensures slot { slot_of self.new ≡ slot_of self.old }
@@ -288,7 +288,7 @@ impl Connection {
     pub fn output(&self) -> &[u8]
         ensures { result.now ≡ ready_of self.now }
     {
-        match self.held_back {
+        match self.deferred_response {
             Some(last) => &self.answers[self.sent..last.start],
             None => &self.answers[self.sent..],
         }
@@ -304,7 +304,7 @@ impl Connection {
     /// Removes the first `count` bytes of the output, which were sent.
     pub fn mark_sent(&mut self, count: usize)
         requires { count ≤ length (ready_of self.old) }
-        ensures held { held_of self.new ≡ held_of self.old }
+        ensures held { buffered_of self.new ≡ buffered_of self.old }
         ensures output { output_of self.new ≡ drop count (output_of self.old) }
         ensures ready { ready_of self.new ≡ drop count (ready_of self.old) }
         ensures slot { slot_of self.new ≡ slot_of self.old }
@@ -313,10 +313,10 @@ impl Connection {
         ensures done { is_done self.new ≡ is_done self.old }
         ensures noted { noted_of self.new ≡ noted_of self.old }
     {
-        if self.held_back.is_none() && self.answers.len() - self.sent <= count {
+        if self.deferred_response.is_none() && self.answers.len() - self.sent <= count {
             self.answers.clear();
             self.sent = 0;
-            give_back(&mut self.answers);
+            shrink(&mut self.answers);
         } else {
             self.sent += count;
         }
@@ -326,14 +326,14 @@ impl Connection {
     pub fn has_deferred(&self) -> bool
         ensures { result ≡ holds_back self.now }
     {
-        self.held_back.is_some()
+        self.deferred_response.is_some()
     }
 
     /// Returns the deferred response, or no bytes if none is deferred.
     pub fn deferred(&self) -> &[u8]
-        ensures { result.now ≡ held_back_of self.now }
+        ensures { result.now ≡ deferred_of self.now }
     {
-        match self.held_back {
+        match self.deferred_response {
             Some(last) => &self.answers[last.start..],
             None => &[],
         }
@@ -341,7 +341,7 @@ impl Connection {
 
     /// Releases the deferred response for sending.
     pub fn release_deferred(&mut self)
-        ensures held { held_of self.new ≡ held_of self.old }
+        ensures held { buffered_of self.new ≡ buffered_of self.old }
         ensures output { output_of self.new ≡ output_of self.old }
         ensures ready { ready_of self.new ≡ output_of self.old }
         ensures slot { slot_of self.new ≡ None }
@@ -350,14 +350,14 @@ impl Connection {
         ensures done { is_done self.new ≡ is_done self.old }
         ensures noted { noted_of self.new ≡ noted_of self.old }
     {
-        self.held_back = None;
+        self.deferred_response = None;
     }
 
     /// Replaces the deferred response by the response to this reply, and releases it.
     ///
     /// If memory runs out, no byte of either is sent, and no more requests are answered.
     pub fn replace_deferred(&mut self, alloc: Global, reply: &Reply) -> Result<(), AllocError>
-        ensures held { held_of self.new ≡ held_of self.old }
+        ensures held { buffered_of self.new ≡ buffered_of self.old }
         ensures output { OnOk result
             (output_of self.new ≡ ready_of self.old ++ text_at (slot_of self.old) reply.now) }
         ensures dropped { OnErr result (output_of self.new ≡ ready_of self.old) }
@@ -366,17 +366,17 @@ impl Connection {
         ensures left { left_of self.new ≡ left_of self.old }
         ensures ended { has_ended self.new ≡ has_ended self.old }
         ensures done { OnOk result (is_done self.new ≡ is_done self.old) }
-        ensures gives_up { OnErr result (is_done self.new ≡ true) }
+        ensures aborts { OnErr result (is_done self.new ≡ true) }
         ensures noted { noted_of self.new
             ≡ noted_instead (slot_of self.old) reply.now (noted_of self.old) }
     {
-        let Some(last) = self.held_back else {
+        let Some(last) = self.deferred_response else {
             return Ok(());
         };
-        self.held_back = None;
-        note_instead(&mut self.noted, reply);
+        self.deferred_response = None;
+        record_reply(&mut self.noted, reply);
         self.answers.truncate(last.start);
-        give_back(&mut self.answers);
+        shrink(&mut self.answers);
         match answer_behind(alloc, &mut self.answers, last.endpoint, last.closing, reply) {
             Ok(()) => Ok(()),
             Err(_) => {
@@ -400,9 +400,9 @@ impl Connection {
     ) -> Result<Step, StreamFault>
         requires none_back { holds_back self.old ≡ false }
         requires some { 0 < left_of self.old }
-        requires held { IsHeld (held_of self.old) (has_ended self.old) fields.now
+        requires held { IsHeld (buffered_of self.old) (has_ended self.old) fields.now
             (BufferState.Gives (Next.Request spans size)) }
-        requires fits { HeldFits (held_of self.old) fields.now
+        requires fits { BufferedFits (buffered_of self.old) fields.now
             (BufferState.Gives (Next.Request spans size)) }
         ensures step { IfOk result (IsStep S.Space M.gives (callers_of tokens.now)
             service.old service.new moments.old moments.new self.old self.new) }
@@ -438,15 +438,15 @@ impl Connection {
             }
         };
         shift(&mut self.held, spans.len + size);
-        give_back(&mut self.held);
+        shrink(&mut self.held);
         self.wanted = 0;
         self.left = left;
-        self.held_back = Some(DeferredResponse {
+        self.deferred_response = Some(DeferredResponse {
             start,
             endpoint: pending.endpoint,
             closing: left == 0,
         });
-        self.noted = Some(noted_as(pending, outcome));
+        self.noted = Some(info_for(pending, outcome));
         Ok(Step::Answered(left))
     }
 
@@ -486,7 +486,7 @@ impl Connection {
             return Ok(Step::NeedsInput);
         }
         let mut fields = [EMPTY_HEADER_SPAN; 64];
-        match next_held(self.held.as_slice(), self.ended, &mut fields) {
+        match next_buffered(self.held.as_slice(), self.ended, &mut fields) {
             BufferState::Gives(Next::Request(spans, size)) => {
                 self.answer_first(
                     alloc, routes, service, tokens, moments, &fields, spans, size,
@@ -496,7 +496,7 @@ impl Connection {
                 self.done = true;
                 match end_behind(alloc, &mut self.answers, end) {
                     Ok(()) => {
-                        note_end(&mut self.noted, end);
+                        record_end(&mut self.noted, end);
                         Ok(Step::Ended(end))
                     }
                     Err(_) => Err(StreamFault::Memory),

@@ -1,8 +1,8 @@
 //! Laws of many connections: each is served as its own stream, and the calls of all are one list.
 ghost use Rattle.std.specs.Prelude.{◌≡◌, ◌++◌, false};
 ghost use Rattle.wire_http.specs.declared.connection.Connection.{Connection};
-ghost use Rattle.wire_http.specs.Connection.{held_back_of, holds_back, output_of, ready_of};
-ghost use Rattle.wire_http.specs.Laws.{EachOnItsOwn, HeldBackAsBytesGo, HeldBackAsItRests};
+ghost use Rattle.wire_http.specs.Connection.{deferred_of, holds_back, output_of, ready_of};
+ghost use Rattle.wire_http.specs.Laws.{EachOnItsOwn, DeferredAsBytesGo, DeferredAsItRests};
 ghost use Rattle.wire_http.specs.Laws.{OneList, OthersGoOn, ServedAsAnswered, ServedAsBytesCome};
 ghost use Rattle.wire_http.specs.Laws.{ServedAsBytesGo, ServedAsItRests, ServedAsReplaced};
 ghost use Rattle.wire_http.specs.Laws.{ServedAtEachStep, ServedAtFirst, ServedWhole};
@@ -38,19 +38,19 @@ pub fn served_as_bytes_go()
 ///
 /// They are all unsent bytes if no response is deferred.
 pub fn what_may_be_sent()
-    ensures first { (c : Connection) → ready_of c ++ held_back_of c ≡ output_of c }
+    ensures first { (c : Connection) → ready_of c ++ deferred_of c ≡ output_of c }
     ensures all { (c : Connection) → holds_back c ≡ false → ready_of c ≡ output_of c }
 {}
 
 /// States that a response stays deferred if nothing is sent: when bytes arrive, and when the input
 /// ends.
-pub fn held_back_as_it_rests()
-    ensures { HeldBackAsItRests }
+pub fn deferred_as_it_rests()
+    ensures { DeferredAsItRests }
 {}
 
 /// States that it stays deferred when the bytes before it are sent.
-pub fn held_back_as_bytes_go()
-    ensures { HeldBackAsBytesGo }
+pub fn deferred_as_bytes_go()
+    ensures { DeferredAsBytesGo }
 {}
 
 /// States that after a deferred response is replaced, the connection is served with the other reply

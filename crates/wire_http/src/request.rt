@@ -1,11 +1,11 @@
 //! The next request of a stream.
 ghost use Rattle.std.specs.Prelude.{◌≡◌, length, true, IfOk};
-ghost use Rattle.wire_http.specs.BufferState.{HeldFits, IsHeld};
+ghost use Rattle.wire_http.specs.BufferState.{BufferedFits, IsHeld};
 ghost use Rattle.wire_http.specs.Input.{known_bytes};
 ghost use Rattle.wire_http.specs.Next.{IsNext, NextFits};
 ghost use Rattle.wire_http.specs.Source.{ReadsSource, ahead_of, bytes_of};
 
-use crate::buffered::{BufferState, next_held};
+use crate::buffered::{BufferState, next_buffered};
 use crate::end::End;
 use crate::fault::StreamFault;
 use crate::source::Source;
@@ -23,12 +23,12 @@ pub(crate) enum Next {
 }
 
 // Returns what the bytes give if the input ends after them.
-fn last_held(bytes: &[u8], fields: &mut [HeaderSpan]) -> Next
+fn last_buffered(bytes: &[u8], fields: &mut [HeaderSpan]) -> Next
     requires room { length fields.old ≡ FIELD_LIMIT }
     ensures held { IsHeld bytes.now true fields.new (BufferState.Gives result) }
     ensures fits { NextFits bytes.now fields.new result }
 {
-    match next_held(bytes, true, fields) {
+    match next_buffered(bytes, true, fields) {
         BufferState::Gives(next) => next,
         BufferState::Wants(_) => unreachable!(),
     }
@@ -47,11 +47,11 @@ pub(crate) fn next_request<R: Read>(
     ensures within { IfOk result (NextFits (bytes_of source.new) fields.new) }
 {
     'reading: loop {
-        match next_held(source.buffer.as_slice(), false, fields) {
+        match next_buffered(source.buffer.as_slice(), false, fields) {
             BufferState::Gives(next) => return Ok(next),
             BufferState::Wants(count) => {
                 if !source.fill(count)? {
-                    return Ok(last_held(source.buffer.as_slice(), fields));
+                    return Ok(last_buffered(source.buffer.as_slice(), fields));
                 }
             }
         }

@@ -1,6 +1,6 @@
 //! Information about a response, for metrics and logs.
 ghost use Rattle.std.specs.Prelude.{◌≡◌, Some};
-ghost use Rattle.wire_http.specs.RequestInfo.{entity_of, noted_after, noted_as, outcome_of, told_as};
+ghost use Rattle.wire_http.specs.RequestInfo.{entity_of, noted_after, info_for, outcome_of, told_as};
 
 use crate::call::RoutedCall;
 use crate::end::End;
@@ -72,8 +72,8 @@ fn entity_of(op: &Operation) -> Option<EntityId>
 }
 
 /// Returns the information about a call with this outcome.
-pub(crate) fn noted_as(pending: RoutedCall, outcome: Outcome) -> RequestInfo
-    ensures { result ≡ noted_as pending.kind pending.call outcome }
+pub(crate) fn info_for(pending: RoutedCall, outcome: Outcome) -> RequestInfo
+    ensures { result ≡ info_for pending.kind pending.call outcome }
 {
     let RoutedCall {
         endpoint: _,
@@ -94,7 +94,7 @@ pub(crate) fn noted_as(pending: RoutedCall, outcome: Outcome) -> RequestInfo
 }
 
 /// Records how a stream ended, if a response says so.
-pub(crate) fn note_end(noted: &mut Option<RequestInfo>, end: End)
+pub(crate) fn record_end(noted: &mut Option<RequestInfo>, end: End)
     ensures { noted.new ≡ noted_after end noted.old }
 {
     if let End::Wire(rule) = end {
@@ -108,7 +108,7 @@ pub(crate) fn note_end(noted: &mut Option<RequestInfo>, end: End)
 }
 
 /// Records that this reply is delivered instead of another.
-pub(crate) fn note_instead(noted: &mut Option<RequestInfo>, reply: &Reply)
+pub(crate) fn record_reply(noted: &mut Option<RequestInfo>, reply: &Reply)
     ensures { noted.new ≡ told_as reply.now noted.old }
 {
     if let Some(noted) = noted {

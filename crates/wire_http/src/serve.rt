@@ -6,9 +6,9 @@ ghost use Rattle.std.specs.Io.KnownBytes.{Appends};
 ghost use Rattle.token_conf.specs.TokenFile.{callers_of};
 ghost use Rattle.service_calls.specs.Held.{Stays};
 ghost use Rattle.wire_http.specs.Counted.{inner_of, calls_of, failures_of, has_failed};
-ghost use Rattle.wire_http.specs.Count.{FailsLast, IsGreatest, one_more};
-ghost use Rattle.wire_http.specs.Count.{most_reads, most_requests};
-ghost use Rattle.wire_http.specs.Fault.{GaveUpAnswering, ReportsFailure};
+ghost use Rattle.wire_http.specs.Count.{FailsLast, IsMax, one_more};
+ghost use Rattle.wire_http.specs.Count.{max_reads, max_requests};
+ghost use Rattle.wire_http.specs.Fault.{AbortedResponse, ReportsFailure};
 ghost use Rattle.wire_http.specs.Reply.{Replies, RepliesPart};
 ghost use Rattle.wire_http.specs.Source.{HasSpent, ahead_of, bytes_of};
 ghost use Rattle.wire_http.specs.Stream.{ServesStream, ServesStreamPart};
@@ -53,7 +53,7 @@ fn answer<S: Space + Drop, W: Write>(
         pending.now.moment pending.now.call pending.now.endpoint closing
         (W.contents (inner_of writer.old)) (W.contents (inner_of writer.new))) }
     ensures good { OnOk result (failures_of writer.new ≡ failures_of writer.old) }
-    ensures err { IfErr result (GaveUpAnswering (failures_of writer.old) (failures_of writer.new)
+    ensures err { IfErr result (AbortedResponse (failures_of writer.old) (failures_of writer.new)
         (has_failed writer.new)) }
     ensures rises { calls_of writer.old ≤ calls_of writer.new }
     ensures stays { Stays S.Space service.old service.new }
@@ -76,7 +76,7 @@ fn end_with<W: Write>(alloc: Global, writer: &mut Counted<W>, end: End) -> Resul
         × Appends (W.contents (inner_of writer.old)) (W.contents (inner_of writer.new))
         (take size (concat (end_texts end)))) }
     ensures good { OnOk result (failures_of writer.new ≡ failures_of writer.old) }
-    ensures err { IfErr result (GaveUpAnswering (failures_of writer.old) (failures_of writer.new)
+    ensures err { IfErr result (AbortedResponse (failures_of writer.old) (failures_of writer.new)
         (has_failed writer.new)) }
     ensures rises { calls_of writer.old ≤ calls_of writer.new }
 {
@@ -198,10 +198,10 @@ pub fn serve_stream<S: Space + Drop, M: Moments, R: Read, W: Write>(
     ensures told_clock { (result ≡ Err StreamFault.Clock)
         ⊎ (M.failures moments.new ≡ M.failures moments.old) }
     ensures turns { result ≡ Err StreamFault.Turns
-        → (calls_of reader.new ≡ calls_of reader.old + most_reads) ⊎ IsGreatest
+        → (calls_of reader.new ≡ calls_of reader.old + max_reads) ⊎ IsMax
         (calls_of reader.new) }
-    ensures reads { (calls_of reader.new ≤ calls_of reader.old + most_reads)
-        ⊎ IsGreatest (calls_of reader.new) }
+    ensures reads { (calls_of reader.new ≤ calls_of reader.old + max_reads)
+        ⊎ IsMax (calls_of reader.new) }
     // No count of calls falls.
     ensures rises_reader { calls_of reader.old ≤ calls_of reader.new }
     ensures rises_writer { calls_of writer.old ≤ calls_of writer.new }

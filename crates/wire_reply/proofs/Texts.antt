@@ -22,7 +22,7 @@ use Rattle.service_step.specs.declared.reply.Answer.{Answer}
 use Rattle.service_step.specs.declared.reply.Answer.TheVariants as answers
 use Rattle.service_step.specs.declared.reply.Reply.{Reply}
 use Rattle.service_step.specs.declared.reply.Reply.TheVariants.{Done, Denied, Fault, Stopped}
-use Rattle.wire_reply.specs.Answer.{answer_text, availability_text, changed_text, denied_text, found_text, listed_text, message_text, missing_text, reply_text, rule_words, sub_stored_text, sub_found_text, sub_listed_text}
+use Rattle.wire_reply.specs.Answer.{answer_text, availability_text, changed_text, denied_text, found_text, listed_text, message_text, missing_text, reply_text, rule_text, sub_stored_text, sub_found_text, sub_listed_text}
 use Rattle.wire_body.specs.Availability.{name_of}
 use Rattle.wire_reply.specs.Built.{answer_data, availability_data, changed_data, denied_data, found_data, listed_data, message_data, missing_data, reference_data, references_data, reply_data, id_data, ids_data, sub_data, subs_data, sub_stored_data, sub_found_data, sub_listed_data, state_data, states_data, notify_data, subscribers_data}
 use Rattle.wire_reply.specs.Json.{array_text, object_text}
@@ -261,11 +261,11 @@ no_float_missing : (words : List ℕ) (m : Missing) → has_float (missing_data 
 no_float_missing words m = rw (no_float_references m.constraints, no_float_references m.intents) refl
 
 compact_denied : (p : Rule) (m : Missing) → compact_text (denied_data p m) ≡ denied_text p m
-compact_denied Key m = compact_missing (rule_words Key) m
-compact_denied p m = compact_message (rule_words p)
+compact_denied Key m = compact_missing (rule_text Key) m
+compact_denied p m = compact_message (rule_text p)
 
 no_float_denied : (p : Rule) (m : Missing) → has_float (denied_data p m) ≡ false
-no_float_denied Key m = no_float_missing (rule_words Key) m
+no_float_denied Key m = no_float_missing (rule_text Key) m
 no_float_denied p m = refl
 
 pub compact_reply : (r : Reply) → compact_text (reply_data r) ≡ reply_text r

@@ -79,8 +79,8 @@ abbrev pub message_text : List ℕ → List ℕ
 message_text words = object_text ((codes "message", quoted words) ∷ [])
 
 -- The message of a denial: the number and the name of the rule.
-abbrev pub rule_words : Rule → List ℕ
-rule_words p = codes "P" ++ (decimal (rules.number_of p) ++ (codes " " ++ rules.name_of p))
+abbrev pub rule_text : Rule → List ℕ
+rule_text p = codes "P" ++ (decimal (rules.number_of p) ++ (codes " " ++ rules.name_of p))
 
 -- A message, and the references that a key lacks.
 abbrev pub missing_text : List ℕ → Missing → List ℕ
@@ -93,8 +93,8 @@ missing_text words m =
 
 -- The body of a denial. Only P14 lists missing references.
 abbrev pub denied_text : Rule → Missing → List ℕ
-denied_text Key m = missing_text (rule_words Key) m
-denied_text p m = message_text (rule_words p)
+denied_text Key m = missing_text (rule_text Key) m
+denied_text p m = message_text (rule_text p)
 
 -- The body of the response to a call.
 abbrev pub reply_text : Reply → List ℕ

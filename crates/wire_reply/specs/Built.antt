@@ -21,7 +21,7 @@ use Rattle.service_step.specs.declared.reply.Answer.{Answer}
 use Rattle.service_step.specs.declared.reply.Answer.TheVariants.{Created, Changed, Found, Listed, Avail, SubStored, SubFound, SubListed}
 use Rattle.service_step.specs.declared.reply.Reply.{Reply}
 use Rattle.service_step.specs.declared.reply.Reply.TheVariants.{Done, Denied, Fault, Stopped}
-use Rattle.wire_reply.specs.Answer.{rule_words}
+use Rattle.wire_reply.specs.Answer.{rule_text}
 use Rattle.wire_body.specs.Availability as availabilities
 use Rattle.wire_body.specs.Naming.{naming_text}
 use Rattle.wire_reply.specs.Reference.{reference_name, references_name}
@@ -124,8 +124,8 @@ missing_data words m =
     (member (codes "missing_operational_intents") (references_data m.intents) no_members)))
 
 abbrev pub denied_data : Rule → Missing → Data
-denied_data Key m = missing_data (rule_words Key) m
-denied_data p m = message_data (rule_words p)
+denied_data Key m = missing_data (rule_text Key) m
+denied_data p m = message_data (rule_text p)
 
 abbrev pub reply_data : Reply → Data
 reply_data (Done answer) = answer_data answer

@@ -1,7 +1,7 @@
 //! The bodies of responses.
 ghost use Rattle.std.specs.Prelude.{◌≡◌, IfOk, string_bytes};
 ghost use Rattle.serde_json.specs.View.{view};
-ghost use Rattle.wire_reply.specs.Answer.{rule_words, reply_text, answer_status, status_of};
+ghost use Rattle.wire_reply.specs.Answer.{rule_text, reply_text, answer_status, status_of};
 ghost use Rattle.wire_reply.specs.Built.{availability_data, found_data, changed_data, listed_data, sub_stored_data, sub_found_data, sub_listed_data, answer_data, message_data, missing_data, denied_data, reply_data};
 
 use crate::reference::{reference_json, reference_name, references_json, references_name};
@@ -138,8 +138,8 @@ fn missing_json(alloc: Global, words: &str, missing: &Missing) -> Result<Value, 
 }
 
 /// Returns the message of a denial: the number and the name of the rule.
-fn rule_words(alloc: Global, rule: Rule) -> Result<String, AllocError>
-    ensures { IfOk result (λ s. string_bytes s ≡ rule_words rule) }
+fn rule_text(alloc: Global, rule: Rule) -> Result<String, AllocError>
+    ensures { IfOk result (λ s. string_bytes s ≡ rule_text rule) }
 {
     let number = rule.number();
     let name = rule.name();
@@ -149,7 +149,7 @@ fn rule_words(alloc: Global, rule: Rule) -> Result<String, AllocError>
 fn denied_json(alloc: Global, rule: Rule, missing: &Missing) -> Result<Value, AllocError>
     ensures { IfOk result (λ v. view v ≡ denied_data rule missing.now) }
 {
-    let words = rule_words(alloc, rule)?;
+    let words = rule_text(alloc, rule)?;
     match rule {
         Rule::Key => missing_json(alloc, words.as_str(), missing),
         _ => message_json(alloc, words.as_str()),

@@ -2,7 +2,8 @@
 #![tactic(auto)]
 
 pub mod answer;
+pub mod members;
 mod naming;
-mod reference;
+pub mod reference;
 mod sub_view;
 mod subscribers;

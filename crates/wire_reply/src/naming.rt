@@ -4,7 +4,7 @@ ghost use Rattle.serde_json.specs.Data.{string, put};
 ghost use Rattle.serde_json.specs.View.{members_view};
 ghost use Rattle.wire_body.specs.Naming.{naming_text};
 
-use crate::reference::put_text;
+use crate::members::put_text;
 use entity_core::entity_id::EntityId;
 use serde_json::{Map, Value};
 use std::alloc::{AllocError, Global};

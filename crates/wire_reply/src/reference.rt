@@ -1,20 +1,20 @@
 //! References of entities, as JSON.
 ghost use Rattle.std.specs.Prelude.{◌≡◌, IfOk, OnOk};
-ghost use Rattle.serde_json.specs.Data.{string, number, unsigned, put};
 ghost use Rattle.serde_json.specs.View.{view, members_view};
 ghost use Rattle.wire_reply.specs.Built.{with_ovn, with_nature, reference_data, references_data};
 ghost use Rattle.wire_reply.specs.Reference.{reference_name, references_name};
 
+use crate::members::{put_number, put_text};
 use crate::naming::put_naming;
 use entity_core::nature::{Kind, Nature};
 use entity_core::ovn::Ovn;
 use policy_core::reference::{Reference, References};
-use serde_json::{Map, Value, put};
+use serde_json::{Map, Value};
 use std::alloc::{AllocError, Global};
 use wire_body::availability;
 
 /// Returns the member name for the reference of one entity of the kind.
-pub(crate) fn reference_name(kind: Kind) -> &'static str
+pub fn reference_name(kind: Kind) -> &'static str
     ensures { result.now ≡ reference_name kind }
 {
     match kind {
@@ -33,33 +33,6 @@ pub(crate) fn references_name(kind: Kind) -> &'static str
     }
 }
 
-/// Adds a text as a member.
-pub(crate) fn put_text(
-    members: &mut Map<String, Value>,
-    alloc: Global,
-    name: &str,
-    text: &str,
-) -> Result<(), AllocError>
-    ensures { OnOk result (members_view members.new.entries
-        ≡ put name.now (string text.now) (members_view members.old.entries)) }
-{
-    let text = Value::try_from_str(alloc, text)?;
-    put(members, alloc, name, text)
-}
-
-/// Adds a number as a member.
-pub(crate) fn put_number(
-    members: &mut Map<String, Value>,
-    alloc: Global,
-    name: &str,
-    value: u64,
-) -> Result<(), AllocError>
-    ensures { OnOk result (members_view members.new.entries
-        ≡ put name.now (number (unsigned value)) (members_view members.old.entries)) }
-{
-    put(members, alloc, name, Value::from(value))
-}
-
 // Adds the OVN, if the caller may see it.
 fn put_ovn(
     members: &mut Map<String, Value>,
@@ -75,8 +48,8 @@ fn put_ovn(
     }
 }
 
-// Adds the members that only references of one kind have.
-fn put_nature(
+/// Adds the members that only references of one kind have.
+pub fn put_nature(
     members: &mut Map<String, Value>,
     alloc: Global,
     nature: Nature,

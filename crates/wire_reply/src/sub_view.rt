@@ -1,27 +1,14 @@
 //! Subscriptions as their managers see them, as JSON.
-ghost use Rattle.std.specs.Prelude.{◌≡◌, IfOk, OnOk};
-ghost use Rattle.serde_json.specs.Data.{boolean, put};
-ghost use Rattle.serde_json.specs.View.{view, members_view};
+ghost use Rattle.std.specs.Prelude.{◌≡◌, IfOk};
+ghost use Rattle.serde_json.specs.View.{view};
 ghost use Rattle.wire_reply.specs.Built.{id_data, ids_data, sub_data, subs_data};
 
-use crate::reference::{put_number, put_text};
+use crate::members::{put_flag, put_number, put_text};
 use entity_core::entity_id::EntityId;
 use entity_core::nature::Kind;
 use policy_core::sub_view::{EntityIds, SubView, SubViews};
-use serde_json::{Map, Value, put};
+use serde_json::{Map, Value};
 use std::alloc::{AllocError, Global};
-
-fn put_flag(
-    members: &mut Map<String, Value>,
-    alloc: Global,
-    name: &str,
-    flag: bool,
-) -> Result<(), AllocError>
-    ensures { OnOk result (members_view members.new.entries
-        ≡ put name.now (boolean flag) (members_view members.old.entries)) }
-{
-    put(members, alloc, name, Value::from(flag))
-}
 
 fn id_json(alloc: Global, id: EntityId) -> Result<Value, AllocError>
     ensures { IfOk result (λ v. view v ≡ id_data id) }

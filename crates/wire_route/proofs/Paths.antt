@@ -18,8 +18,8 @@ use Rattle.wire_body.specs.Body.{Words}
 use Rattle.wire_route.specs.declared.endpoint.Endpoint.{Endpoint}
 use Rattle.wire_route.specs.declared.endpoint.Endpoint.TheVariants.{Query, Entity, EntityAtOvn, Availability, SubscriptionQuery, Subscription, SubscriptionAtVersion}
 use Rattle.wire_route.specs.Endpoint.{references_of, subscriptions, front_of}
-use Rattle.wire_route.specs.Route.{has_slash, is_part, may_be_id, two_words, AreTwoWords, AreWordsOf, IsRoute, HasNoRoute}
-use Rattle.wire_route.specs.Table.{table, with_route, named_place}
+use Rattle.wire_route.specs.Route.{has_slash, is_part, may_be_id, two_parameters, AreTwoWords, AreWordsOf, IsRoute, HasNoRoute}
+use Rattle.wire_route.specs.Table.{table, with_route, named_endpoint}
 use Rattle.wire_route.proofs.Seeks.{is_plain, steps, pass, seek-empty, leaf, single, two_parts, last_part}
 
 -- ---- slashes
@@ -105,7 +105,7 @@ two_are rest id ovn words e p a =
 same_two : (rest : List ℕ) (v w : Words) → AreTwoWords rest v → AreTwoWords rest w → w ≡ v
 same_two rest v w x y =
     let same = two_are rest x.id x.ovn w x.splits (part_lacks x.id (and_parts _ _ x.names).0) y in
-    y.words_are ∙ ap (λ i. two_words i y.ovn) same.0 ∙ ap (two_words x.id) same.1 ∙ sym x.words_are
+    y.words_are ∙ ap (λ i. two_parameters i y.ovn) same.0 ∙ ap (two_parameters x.id) same.1 ∙ sym x.words_are
 
 one_words : (endpoint : Endpoint) (rest : List ℕ) (v w : Words) → AreWordsOf endpoint rest v → AreWordsOf endpoint rest w → w ≡ v
 one_words (Query kind) rest v w x y = y.1 ∙ sym x.1
@@ -125,7 +125,7 @@ mapped : (x : Option (RouteOf Endpoint)) → option_map (λ r. r.value) x ≡ ma
 mapped None = refl
 mapped (Some r) = refl
 
-named_is : (path : List ℕ) → named_place path ≡ seek.seek 0 places path
+named_is : (path : List ℕ) → named_endpoint path ≡ seek.seek 0 places path
 unfolding places
 named_is path = mapped (first table path) ∙ sym (first-rename (λ r. r.value) table path)
 
@@ -168,7 +168,7 @@ subscriptions_lead : LeadsTo subscriptions SubscriptionQuery Subscription Subscr
 subscriptions_lead = record { plain = subscriptions_plain; rest_is = subscriptions_steps }
 
 -- The endpoint of a path with such a prefix follows from what is after the prefix.
-named_after : (front : List ℕ) (query id at : Endpoint) → LeadsTo front query id at → (rest : List ℕ) → named_place (front ++ rest) ≡ seek.seek 0 (leaf query at id) rest
+named_after : (front : List ℕ) (query id at : Endpoint) → LeadsTo front query id at → (rest : List ℕ) → named_endpoint (front ++ rest) ≡ seek.seek 0 (leaf query at id) rest
 named_after front query id at leads rest =
     named_is (front ++ rest) ∙ pass front places rest leads.plain ∙ ap (λ (rows : RowsOf Endpoint). seek.seek 0 rows rest) leads.rest_is
 
@@ -176,18 +176,18 @@ query_named : (query id at : Endpoint) → seek.seek 0 (leaf query at id) (codes
 unfolding matchit_on_literals
 query_named query id at = refl
 
-query_found : (front : List ℕ) (query id at : Endpoint) → LeadsTo front query id at → (rest : List ℕ) → rest ≡ codes "query" → named_place (front ++ rest) ≡ Some query
+query_found : (front : List ℕ) (query id at : Endpoint) → LeadsTo front query id at → (rest : List ℕ) → rest ≡ codes "query" → named_endpoint (front ++ rest) ≡ Some query
 query_found front query id at leads rest e =
-    ap (λ v. named_place (front ++ v)) e ∙ named_after front query id at leads (codes "query") ∙ query_named query id at
+    ap (λ v. named_endpoint (front ++ v)) e ∙ named_after front query id at leads (codes "query") ∙ query_named query id at
 
-id_found : (front : List ℕ) (query id at : Endpoint) → LeadsTo front query id at → (w : List ℕ) → may_be_id w ≡ true → named_place (front ++ w) ≡ Some id
+id_found : (front : List ℕ) (query id at : Endpoint) → LeadsTo front query id at → (w : List ℕ) → may_be_id w ≡ true → named_endpoint (front ++ w) ≡ Some id
 id_found front query id at leads [] e = absurd (false≢true e)
 id_found front query id at leads (b ∷ w) e =
     named_after front query id at leads (b ∷ w)
     ∙ single query at id b w (no_slash (b ∷ w) (part_lacks (b ∷ w) (and_parts _ _ e).0)) (not_query (b ∷ w) e)
 
 parts_found : (front : List ℕ) (query id at : Endpoint) → LeadsTo front query id at → (first second : List ℕ) → may_be_id first ≡ true → is_part second ≡ true
-    → named_place (front ++ (first ++ 47 ∷ second)) ≡ Some at
+    → named_endpoint (front ++ (first ++ 47 ∷ second)) ≡ Some at
 parts_found front query id at leads [] second e f = absurd (false≢true e)
 parts_found front query id at leads (b ∷ first) [] e f = absurd (false≢true f)
 parts_found front query id at leads (b ∷ first) (c ∷ second) e f =
@@ -195,18 +195,18 @@ parts_found front query id at leads (b ∷ first) (c ∷ second) e f =
     ∙ two_parts query at id b first c second (no_slash (b ∷ first) (part_lacks (b ∷ first) (and_parts _ _ e).0))
     (no_slash (c ∷ second) (part_lacks (c ∷ second) f))
 
-two_found : (front : List ℕ) (query id at : Endpoint) → LeadsTo front query id at → (rest : List ℕ) (words : Words) → AreTwoWords rest words → named_place (front ++ rest) ≡ Some at
+two_found : (front : List ℕ) (query id at : Endpoint) → LeadsTo front query id at → (rest : List ℕ) (words : Words) → AreTwoWords rest words → named_endpoint (front ++ rest) ≡ Some at
 two_found front query id at leads rest words x =
-    ap (λ v. named_place (front ++ v)) x.splits ∙ parts_found front query id at leads x.id x.ovn x.names x.part
+    ap (λ v. named_endpoint (front ++ v)) x.splits ∙ parts_found front query id at leads x.id x.ovn x.names x.part
 
-supplier_found : (w : List ℕ) → is_part w ≡ true → named_place (front_of Availability ++ w) ≡ Some Availability
+supplier_found : (w : List ℕ) → is_part w ≡ true → named_endpoint (front_of Availability ++ w) ≡ Some Availability
 supplier_found [] e = absurd (false≢true e)
 supplier_found (b ∷ w) e =
     named_is (front_of Availability ++ b ∷ w) ∙ pass (front_of Availability) places (b ∷ w) availability_plain
     ∙ ap (λ (rows : RowsOf Endpoint). seek.seek 0 rows (b ∷ w)) availability_steps ∙ last_part Availability b w (no_slash (b ∷ w) (part_lacks (b ∷ w) e))
 
 -- The router finds every path of an endpoint.
-at_rest : (endpoint : Endpoint) (rest : List ℕ) (words : Words) → AreWordsOf endpoint rest words → named_place (front_of endpoint ++ rest) ≡ Some endpoint
+at_rest : (endpoint : Endpoint) (rest : List ℕ) (words : Words) → AreWordsOf endpoint rest words → named_endpoint (front_of endpoint ++ rest) ≡ Some endpoint
 at_rest (Query kind) rest words x = query_found (references_of kind) (Query kind) (Entity kind) (EntityAtOvn kind) (references_lead kind) rest x.0
 at_rest (Entity kind) rest words x = id_found (references_of kind) (Query kind) (Entity kind) (EntityAtOvn kind) (references_lead kind) rest x.0
 at_rest (EntityAtOvn kind) rest words x = two_found (references_of kind) (Query kind) (Entity kind) (EntityAtOvn kind) (references_lead kind) rest words x
@@ -215,8 +215,8 @@ at_rest SubscriptionQuery rest words x = query_found subscriptions SubscriptionQ
 at_rest Subscription rest words x = id_found subscriptions SubscriptionQuery Subscription SubscriptionAtVersion subscriptions_lead rest x.0
 at_rest SubscriptionAtVersion rest words x = two_found subscriptions SubscriptionQuery Subscription SubscriptionAtVersion subscriptions_lead rest words x
 
-pub found : (path : List ℕ) (endpoint : Endpoint) (words : Words) → IsRoute path endpoint words → named_place path ≡ Some endpoint
-found path endpoint words (rest, e, x) = ap named_place e ∙ at_rest endpoint rest words x
+pub found : (path : List ℕ) (endpoint : Endpoint) (words : Words) → IsRoute path endpoint words → named_endpoint path ≡ Some endpoint
+found path endpoint words (rest, e, x) = ap named_endpoint e ∙ at_rest endpoint rest words x
 
 -- A path leads to one endpoint, and has one list of parameters there.
 one_rest : (endpoint : Endpoint) (path a b : List ℕ) → path ≡ front_of endpoint ++ a → path ≡ front_of endpoint ++ b → b ≡ a
@@ -261,20 +261,20 @@ not_part rest id ovn words e p n a =
     let bad : is_part ovn ≡ true = subst (λ (z : List ℕ). is_part z ≡ true) same.1 a.part in
     false≢true (sym n ∙ bad)
 
-pub nowhere : (path : List ℕ) → named_place path ≡ None → HasNoRoute path
+pub nowhere : (path : List ℕ) → named_endpoint path ≡ None → HasNoRoute path
 nowhere path e endpoint words x = let bad : Some endpoint ≡ None = sym (found path endpoint words x) ∙ e in cc
 
 -- If the router finds an endpoint, but the path is not one of its paths, the path has no route.
-pub not_there : (path : List ℕ) (endpoint : Endpoint) → named_place path ≡ Some endpoint → ((words : Words) → IsRoute path endpoint words → ⊥) → HasNoRoute path
+pub not_there : (path : List ℕ) (endpoint : Endpoint) → named_endpoint path ≡ Some endpoint → ((words : Words) → IsRoute path endpoint words → ⊥) → HasNoRoute path
 not_there path endpoint e none other words x =
     let same : Some other ≡ Some endpoint = sym (found path other words x) ∙ e in
     let is : other ≡ endpoint = cc in
     none words (subst (λ (z : Endpoint). IsRoute path z words) is x)
 
-pub wrong_front : (path : List ℕ) (endpoint : Endpoint) → named_place path ≡ Some endpoint → ((rest : List ℕ) → path ≡ front_of endpoint ++ rest → ⊥) → HasNoRoute path
+pub wrong_front : (path : List ℕ) (endpoint : Endpoint) → named_endpoint path ≡ Some endpoint → ((rest : List ℕ) → path ≡ front_of endpoint ++ rest → ⊥) → HasNoRoute path
 wrong_front path endpoint e none = not_there path endpoint e (λ words x. none x.0 x.1)
 
-pub wrong_words : (path rest : List ℕ) (endpoint : Endpoint) → named_place path ≡ Some endpoint → path ≡ front_of endpoint ++ rest
+pub wrong_words : (path rest : List ℕ) (endpoint : Endpoint) → named_endpoint path ≡ Some endpoint → path ≡ front_of endpoint ++ rest
     → ((words : Words) → AreWordsOf endpoint rest words → ⊥) → HasNoRoute path
 wrong_words path rest endpoint e split none =
     not_there path endpoint e (λ words x. none words (subst (λ (z : List ℕ). AreWordsOf endpoint z words) (one_rest endpoint path rest x.0 split x.1) x.2))
@@ -282,11 +282,11 @@ wrong_words path rest endpoint e split none =
 -- ---- samples
 
 -- Neither an OVN nor a version may follow `query`.
-named_past : named_place (codes "/dss/v1/operational_intent_references/query/x") ≡ Some (EntityAtOvn Intent)
+named_past : named_endpoint (codes "/dss/v1/operational_intent_references/query/x") ≡ Some (EntityAtOvn Intent)
 unfolding matchit_on_literals table with_route
 named_past = refl
 
-named_past_subscriptions : named_place (codes "/dss/v1/subscriptions/query/x") ≡ Some SubscriptionAtVersion
+named_past_subscriptions : named_endpoint (codes "/dss/v1/subscriptions/query/x") ≡ Some SubscriptionAtVersion
 unfolding matchit_on_literals table with_route
 named_past_subscriptions = refl
 
@@ -300,7 +300,7 @@ pub past_subscription_query : HasNoRoute (codes "/dss/v1/subscriptions/query/x")
 past_subscription_query = wrong_words (codes "/dss/v1/subscriptions/query/x") (codes "query/x") SubscriptionAtVersion named_past_subscriptions refl no_words_past
 
 -- The two parameters of a path.
-pub both : (id ovn : List ℕ) → may_be_id id ≡ true → is_part ovn ≡ true → AreTwoWords (id ++ 47 ∷ ovn) (two_words id ovn)
+pub both : (id ovn : List ℕ) → may_be_id id ≡ true → is_part ovn ≡ true → AreTwoWords (id ++ 47 ∷ ovn) (two_parameters id ovn)
 both id ovn e f = record { id = id; ovn = ovn; splits = refl; names = e; part = f; words_are = refl }
 
 -- A path with a text with which no route begins has no route.
@@ -321,7 +321,7 @@ pub no_front : HasNoRoute (codes "dss/v1/uss_availability/a")
 unfolding places matchit_on_literals table with_route
 no_front = lost (codes "d") (codes "ss/v1/uss_availability/a") refl refl
 
-ends_at : named_place (codes "/dss/v1/operational_intent_references" ++ []) ≡ None
+ends_at : named_endpoint (codes "/dss/v1/operational_intent_references" ++ []) ≡ None
 unfolding places matchit_on_literals table with_route
 ends_at =
     named_is (codes "/dss/v1/operational_intent_references") ∙ pass (codes "/dss/v1/operational_intent_references") places [] refl

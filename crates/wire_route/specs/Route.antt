@@ -19,11 +19,11 @@ is_part text = nat_lt 0 (length text) && not (has_slash text)
 abbrev pub may_be_id : List ℕ → Bool
 may_be_id text = is_part text && not (bytes_eq text (codes "query"))
 
-abbrev pub one_word : List ℕ → Words
-one_word first = record { first = first; second = None }
+abbrev pub one_parameter : List ℕ → Words
+one_parameter first = record { first = first; second = None }
 
-abbrev pub two_words : List ℕ → List ℕ → Words
-two_words first second = record { first = first; second = Some second }
+abbrev pub two_parameters : List ℕ → List ℕ → Words
+two_parameters first second = record { first = first; second = Some second }
 
 -- Holds if the rest is a segment that may be an id, a slash, and another segment.
 pub record AreTwoWords (rest : List ℕ) (words : Words) : Type 0 where
@@ -32,16 +32,16 @@ pub record AreTwoWords (rest : List ℕ) (words : Words) : Type 0 where
   pub splits : rest ≡ id ++ (codes "/" ++ ovn)
   pub names : may_be_id id ≡ true
   pub part : is_part ovn ≡ true
-  pub words_are : words ≡ two_words id ovn
+  pub words_are : words ≡ two_parameters id ovn
 
 -- Holds if the rest may follow the prefix of the endpoint, and these are its parameters.
 abbrev pub AreWordsOf : Endpoint → List ℕ → Words → Type 0
-AreWordsOf (Query kind) rest words = (rest ≡ codes "query") × (words ≡ one_word rest)
-AreWordsOf (Entity kind) rest words = (may_be_id rest ≡ true) × (words ≡ one_word rest)
+AreWordsOf (Query kind) rest words = (rest ≡ codes "query") × (words ≡ one_parameter rest)
+AreWordsOf (Entity kind) rest words = (may_be_id rest ≡ true) × (words ≡ one_parameter rest)
 AreWordsOf (EntityAtOvn kind) rest words = AreTwoWords rest words
-AreWordsOf Availability rest words = (is_part rest ≡ true) × (words ≡ one_word rest)
-AreWordsOf SubscriptionQuery rest words = (rest ≡ codes "query") × (words ≡ one_word rest)
-AreWordsOf Subscription rest words = (may_be_id rest ≡ true) × (words ≡ one_word rest)
+AreWordsOf Availability rest words = (is_part rest ≡ true) × (words ≡ one_parameter rest)
+AreWordsOf SubscriptionQuery rest words = (rest ≡ codes "query") × (words ≡ one_parameter rest)
+AreWordsOf Subscription rest words = (may_be_id rest ≡ true) × (words ≡ one_parameter rest)
 AreWordsOf SubscriptionAtVersion rest words = AreTwoWords rest words
 
 -- Holds if the path leads to the endpoint, with these parameters.

@@ -45,5 +45,5 @@ table =
     (with_route (Entity Intent) (with_route (Query Intent) [])))))))))
 
 -- The endpoint to which the router leads a path.
-abbrev pub named_place : List ℕ → Option Endpoint
-named_place path = option_map (λ r. r.value) (first table path)
+abbrev pub named_endpoint : List ℕ → Option Endpoint
+named_endpoint path = option_map (λ r. r.value) (first table path)

@@ -5,7 +5,7 @@ ghost use Rattle.wire_body.specs.Body.{Words};
 ghost use Rattle.wire_route.specs.declared.endpoint.Endpoint.{Endpoint};
 ghost use Rattle.wire_route.specs.declared.endpoint.Endpoint.TheVariants.{Query, Entity, EntityAtOvn, Availability, SubscriptionQuery, Subscription, SubscriptionAtVersion};
 ghost use Rattle.wire_route.specs.Endpoint.{allow_of};
-ghost use Rattle.wire_route.specs.Route.{one_word, two_words, IsRoute, HasNoRoute};
+ghost use Rattle.wire_route.specs.Route.{one_parameter, two_parameters, IsRoute, HasNoRoute};
 
 /// States that a path leads to at most one endpoint, with one list of parameters.
 pub fn one_route()
@@ -17,33 +17,33 @@ pub fn one_route()
 /// version.
 pub fn sample_paths()
     ensures intents { IsRoute (codes "/dss/v1/operational_intent_references/query")
-        (Query Intent) (one_word (codes "query")) }
+        (Query Intent) (one_parameter (codes "query")) }
     ensures intent { IsRoute (codes "/dss/v1/operational_intent_references/a1")
-        (Entity Intent) (one_word (codes "a1")) }
+        (Entity Intent) (one_parameter (codes "a1")) }
     ensures intent_at { IsRoute (codes "/dss/v1/operational_intent_references/a1/o1")
-        (EntityAtOvn Intent) (two_words (codes "a1") (codes "o1")) }
+        (EntityAtOvn Intent) (two_parameters (codes "a1") (codes "o1")) }
     ensures constraints { IsRoute (codes "/dss/v1/constraint_references/query")
-        (Query Constraint) (one_word (codes "query")) }
+        (Query Constraint) (one_parameter (codes "query")) }
     ensures constraint { IsRoute (codes "/dss/v1/constraint_references/c1")
-        (Entity Constraint) (one_word (codes "c1")) }
+        (Entity Constraint) (one_parameter (codes "c1")) }
     ensures constraint_at { IsRoute (codes "/dss/v1/constraint_references/c1/o1")
-        (EntityAtOvn Constraint) (two_words (codes "c1") (codes "o1")) }
-    ensures supplier { IsRoute (codes "/dss/v1/uss_availability/query")
-        Availability (one_word (codes "query")) }
+        (EntityAtOvn Constraint) (two_parameters (codes "c1") (codes "o1")) }
+    ensures uss { IsRoute (codes "/dss/v1/uss_availability/query")
+        Availability (one_parameter (codes "query")) }
     ensures shorter { IsRoute (codes "/dss/v1/operational_intent_references/quer")
-        (Entity Intent) (one_word (codes "quer")) }
+        (Entity Intent) (one_parameter (codes "quer")) }
     ensures longer { IsRoute (codes "/dss/v1/operational_intent_references/queryx")
-        (Entity Intent) (one_word (codes "queryx")) }
+        (Entity Intent) (one_parameter (codes "queryx")) }
     ensures as_ovn { IsRoute (codes "/dss/v1/operational_intent_references/a1/query")
-        (EntityAtOvn Intent) (two_words (codes "a1") (codes "query")) }
+        (EntityAtOvn Intent) (two_parameters (codes "a1") (codes "query")) }
     ensures subscriptions { IsRoute (codes "/dss/v1/subscriptions/query")
-        SubscriptionQuery (one_word (codes "query")) }
+        SubscriptionQuery (one_parameter (codes "query")) }
     ensures subscription { IsRoute (codes "/dss/v1/subscriptions/d1")
-        Subscription (one_word (codes "d1")) }
+        Subscription (one_parameter (codes "d1")) }
     ensures subscription_at { IsRoute (codes "/dss/v1/subscriptions/d1/o1")
-        SubscriptionAtVersion (two_words (codes "d1") (codes "o1")) }
+        SubscriptionAtVersion (two_parameters (codes "d1") (codes "o1")) }
     ensures as_version { IsRoute (codes "/dss/v1/subscriptions/d1/query")
-        SubscriptionAtVersion (two_words (codes "d1") (codes "query")) }
+        SubscriptionAtVersion (two_parameters (codes "d1") (codes "query")) }
 {}
 
 /// States that some paths lead to no endpoint.
@@ -69,7 +69,7 @@ pub fn allowed()
     ensures query { allow_of (Query Intent) ≡ codes "POST" }
     ensures entity { allow_of (Entity Constraint) ≡ codes "GET, PUT" }
     ensures at { allow_of (EntityAtOvn Intent) ≡ codes "PUT, DELETE" }
-    ensures supplier { allow_of Availability ≡ codes "GET, PUT" }
+    ensures uss { allow_of Availability ≡ codes "GET, PUT" }
     ensures subscriptions { allow_of SubscriptionQuery ≡ codes "POST" }
     ensures subscription { allow_of Subscription ≡ codes "GET, PUT" }
     ensures subscription_at { allow_of SubscriptionAtVersion ≡ codes "PUT, DELETE" }

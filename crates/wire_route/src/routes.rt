@@ -1,9 +1,9 @@
 //! The routes of the service, and the lookup of the endpoint of a path.
 ghost use Rattle.std.specs.Prelude.{◌≡◌, ◌++◌, List, ℕ, false, codes, IfOk, OnOk, MatchOption, option_map, if◌then◌else◌, Some, None};
 ghost use Rattle.wire_body.specs.Body.{Words, words_of};
-ghost use Rattle.wire_route.specs.Route.{has_slash, is_part, may_be_id, one_word, AreTwoWords, AreWordsOf, IsRoute, HasNoRoute};
+ghost use Rattle.wire_route.specs.Route.{has_slash, is_part, may_be_id, one_parameter, AreTwoWords, AreWordsOf, IsRoute, HasNoRoute};
 ghost use Rattle.wire_route.specs.Endpoint.{front_of};
-ghost use Rattle.wire_route.specs.Table.{Fits, table, with_route, named_place};
+ghost use Rattle.wire_route.specs.Table.{Fits, table, with_route, named_endpoint};
 
 use crate::endpoint::Endpoint;
 use entity_core::nature::Kind;
@@ -68,8 +68,8 @@ fn may_be_id(text: &str) -> bool
 }
 
 // Returns the only parameter of a path, if `is_right` is true.
-fn one_word(word: &str, is_right: bool) -> Option<PathWords<'_>>
-    ensures { option_map words_of result ≡ (if is_right then Some (one_word word.now) else None) }
+fn one_parameter(word: &str, is_right: bool) -> Option<PathWords<'_>>
+    ensures { option_map words_of result ≡ (if is_right then Some (one_parameter word.now) else None) }
 {
     if is_right {
         Some(PathWords {
@@ -91,7 +91,7 @@ fn halves(rest: &str) -> Option<(&str, &str)>
 }
 
 // Returns the two parameters: a segment that may be an id, and another segment.
-fn two_words(rest: &str) -> Option<PathWords<'_>>
+fn two_parameters(rest: &str) -> Option<PathWords<'_>>
     ensures { MatchOption result ((words : Words) → AreTwoWords rest.now words → ⊥)
         (λ words. AreTwoWords rest.now (words_of words)) }
 {
@@ -111,18 +111,18 @@ fn two_words(rest: &str) -> Option<PathWords<'_>>
 }
 
 // Returns the parameters after the prefix of the endpoint's paths.
-fn words_at(endpoint: Endpoint, rest: &str) -> Option<PathWords<'_>>
+fn parameters_at(endpoint: Endpoint, rest: &str) -> Option<PathWords<'_>>
     ensures { MatchOption result ((words : Words) → AreWordsOf endpoint rest.now words → ⊥)
         (λ words. AreWordsOf endpoint rest.now (words_of words)) }
 {
     match endpoint {
-        Endpoint::Query(_) => one_word(rest, rest == "query"),
-        Endpoint::Entity(_) => one_word(rest, may_be_id(rest)),
-        Endpoint::EntityAtOvn(_) => two_words(rest),
-        Endpoint::Availability => one_word(rest, is_part(rest)),
-        Endpoint::SubscriptionQuery => one_word(rest, rest == "query"),
-        Endpoint::Subscription => one_word(rest, may_be_id(rest)),
-        Endpoint::SubscriptionAtVersion => two_words(rest),
+        Endpoint::Query(_) => one_parameter(rest, rest == "query"),
+        Endpoint::Entity(_) => one_parameter(rest, may_be_id(rest)),
+        Endpoint::EntityAtOvn(_) => two_parameters(rest),
+        Endpoint::Availability => one_parameter(rest, is_part(rest)),
+        Endpoint::SubscriptionQuery => one_parameter(rest, rest == "query"),
+        Endpoint::Subscription => one_parameter(rest, may_be_id(rest)),
+        Endpoint::SubscriptionAtVersion => two_parameters(rest),
     }
 }
 
@@ -144,8 +144,8 @@ impl Routes {
     }
 
     // Returns the endpoint to which the router leads a path.
-    fn place_at(&self, path: &str) -> Option<Endpoint>
-        ensures { result ≡ named_place path.now }
+    fn endpoint_at(&self, path: &str) -> Option<Endpoint>
+        ensures { result ≡ named_endpoint path.now }
     {
         match self.router.at(path) {
             Ok(found) => Some(*found.value),
@@ -160,13 +160,13 @@ impl Routes {
         ensures { MatchOption result (HasNoRoute path.now)
             (λ route. IsRoute path.now route.endpoint (words_of route.words)) }
     {
-        let Some(endpoint) = self.place_at(path) else {
+        let Some(endpoint) = self.endpoint_at(path) else {
             return None;
         };
         let Some(rest) = path.strip_prefix(endpoint.path_prefix()) else {
             return None;
         };
-        let Some(words) = words_at(endpoint, rest) else {
+        let Some(words) = parameters_at(endpoint, rest) else {
             return None;
         };
         Some(Route { endpoint, words })

@@ -3,7 +3,7 @@ use Rattle.std.specs.Prelude.{not}
 use Rattle.clap.specs.Words.{found_of, rows_of}
 use Rattle.clap.proofs.WalkLemmas.{first_value-rows}
 use Rattle.dss_args.specs.CommandArgs.{HasClients, HasNumberIn}
-use Rattle.dss_args.specs.declared.command_args.TheConstants.{MOST_CLIENTS}
+use Rattle.dss_args.specs.declared.command_args.TheConstants.{MAX_CONNECTIONS}
 use Rattle.dss_args.proofs.Matches.{no_text, none_too, some_text}
 use Rattle.dss_args.proofs.command_args.clients_in.Goals as goal
 
@@ -17,7 +17,7 @@ returns-clause-none c =
     let f = found_of c.args.matches.now in
     let rows = rows_of f in
     none_too c.number_in.result _ _
-    (λ (none : (n : ℕ) → HasNumberIn (codes "max-connections") 1 MOST_CLIENTS rows n → ⊥) n (has : HasClients rows n).
+    (λ (none : (n : ℕ) → HasNumberIn (codes "max-connections") 1 MAX_CONNECTIONS rows n → ⊥) n (has : HasClients rows n).
     elim has [
       | inl number ↦ none n number
       | inr without ↦ some_text c.get_str.result _ (c.is_none.ensures ∙ ap not c.if-is_none.false) (c.get_str.ensures ∙ first_value-rows f (codes "max-connections")) without.0

@@ -15,7 +15,7 @@ returns-clause-some c =
         port = c.in_ok-port_in.ensures.some;
         count = c.in_ok-choice_in.ensures.some;
         max_connections = c.in_ok-clients_in.ensures.some;
-        quota = c.in_ok-most_kept_in.ensures.some;
+        quota = c.in_ok-quota_in.ensures.some;
         retention = c.in_ok-choice_in-2.ensures.some;
         admin_port = c.in_ok-admin_in.ensures.some;
         backup_dir = sym (c.get_str-3.ensures ∙ first_value-rows f (codes "backup-dir"));
@@ -67,10 +67,10 @@ returns-in_err-admin_in-clause-none c =
     let f = found_of c.args.matches.now in
     anyway _ _ (nothing_of_serve (rows_of f) (λ given has. c.in_err-admin_in.ensures.none given.admin_port has.admin_port))
 
-pub returns-in_err-most_kept_in-clause-none : goal.returns-in_err-most_kept_in-clause-none
-returns-in_err-most_kept_in-clause-none c =
+pub returns-in_err-quota_in-clause-none : goal.returns-in_err-quota_in-clause-none
+returns-in_err-quota_in-clause-none c =
     let f = found_of c.args.matches.now in
-    anyway _ _ (nothing_of_serve (rows_of f) (λ given has. c.in_err-most_kept_in.ensures.none given.quota has.quota))
+    anyway _ _ (nothing_of_serve (rows_of f) (λ given has. c.in_err-quota_in.ensures.none given.quota has.quota))
 
 pub returns-in_err-listen_in-clause-none : goal.returns-in_err-listen_in-clause-none
 returns-in_err-listen_in-clause-none c =

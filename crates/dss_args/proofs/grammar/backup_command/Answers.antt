@@ -16,5 +16,5 @@ returns c =
     ) in
     let with_1 = arg_more with_0 c.source_option.ensures.rule c.source_option.ensures.local c.in_ok-arg.ensures in
     IfOk-weaker c.arg-2.result _ _
-    (λ command adds. arg_more with_1 c.to_word.ensures.rule c.to_word.ensures.local adds)
+    (λ command adds. arg_more with_1 c.destination_argument.ensures.rule c.destination_argument.ensures.local adds)
     c.arg-2.ensures

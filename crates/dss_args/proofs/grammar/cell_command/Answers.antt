@@ -15,5 +15,5 @@ returns c =
       ap (λ (f : Command-F Command). f.has_globals) c.about.ensures ∙ c.new.ensures.local,
     ) in
     IfOk-weaker c.arg.result _ _
-    (λ command adds. arg_more with_0 c.token_word.ensures.rule c.token_word.ensures.local adds)
+    (λ command adds. arg_more with_0 c.token_argument.ensures.rule c.token_argument.ensures.local adds)
     c.arg.ensures

@@ -17,5 +17,5 @@ returns c =
     let with_1 = arg_more with_0 c.store_option.ensures.rule c.store_option.ensures.local c.in_ok-arg.ensures in
     let with_2 = arg_more with_1 c.until_option.ensures.rule c.until_option.ensures.local c.in_ok-arg-2.ensures in
     IfOk-weaker c.arg-3.result _ _
-    (λ command adds. arg_more with_2 c.moment_option.ensures.rule c.moment_option.ensures.local adds)
+    (λ command adds. arg_more with_2 c.time_option.ensures.rule c.time_option.ensures.local adds)
     c.arg-3.ensures

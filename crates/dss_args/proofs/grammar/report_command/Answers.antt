@@ -16,5 +16,5 @@ returns c =
     ) in
     let with_1 = arg_more with_0 c.store_option.ensures.rule c.store_option.ensures.local c.in_ok-arg.ensures in
     IfOk-weaker c.arg-2.result _ _
-    (λ command adds. arg_more with_1 c.places_flag.ensures.rule c.places_flag.ensures.local adds)
+    (λ command adds. arg_more with_1 c.cells_flag.ensures.rule c.cells_flag.ensures.local adds)
     c.arg-2.ensures

@@ -18,5 +18,5 @@ returns c =
     let with_2 = arg_more with_1 c.now_option.ensures.rule c.now_option.ensures.local c.in_ok-arg-2.ensures in
     let with_3 = arg_more with_2 c.database_option.ensures.rule c.database_option.ensures.local c.in_ok-arg-3.ensures in
     IfOk-weaker c.arg-4.result _ _
-    (λ command adds. arg_more with_3 c.requests_word.ensures.rule c.requests_word.ensures.local adds)
+    (λ command adds. arg_more with_3 c.requests_argument.ensures.rule c.requests_argument.ensures.local adds)
     c.arg-4.ensures

@@ -17,5 +17,5 @@ returns c =
     let with_1 = arg_more with_0 c.tokens_option.ensures.rule c.tokens_option.ensures.local c.in_ok-arg.ensures in
     let with_2 = arg_more with_1 c.now_option.ensures.rule c.now_option.ensures.local c.in_ok-arg-2.ensures in
     IfOk-weaker c.arg-3.result _ _
-    (λ command adds. arg_more with_2 c.request_word.ensures.rule c.request_word.ensures.local adds)
+    (λ command adds. arg_more with_2 c.request_argument.ensures.rule c.request_argument.ensures.local adds)
     c.arg-3.ensures

@@ -1,6 +1,6 @@
 use Rattle.std.specs.Prelude.{None}
 use Rattle.sqlite.specs.WalFiles.{image_at}
-use Rattle.dss_database.proofs.Telling.{settled_kept}
+use Rattle.dss_database.proofs.Reporting.{settled_kept}
 use Rattle.dss_database.proofs.files.checkpoint_database.Goals as goal
 
 pub returns-clause-kept : goal.returns-clause-kept

@@ -1,5 +1,5 @@
 use Rattle.sqlite.specs.WalFiles.{image_at}
-use Rattle.dss_database.proofs.Telling.{report_told, why_unreported}
+use Rattle.dss_database.proofs.Reporting.{report_told, why_unreported}
 use Rattle.dss_database.proofs.files.report.Goals as goal
 
 pub returns-clause-reported : goal.returns-clause-reported

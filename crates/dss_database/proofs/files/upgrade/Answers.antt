@@ -1,5 +1,5 @@
 use Rattle.sqlite.specs.WalFiles.{image_at}
-use Rattle.dss_database.proofs.Telling.{upgrade_told}
+use Rattle.dss_database.proofs.Reporting.{upgrade_told}
 use Rattle.dss_database.proofs.files.upgrade.Goals as goal
 
 pub returns-clause-upgraded : goal.returns-clause-upgraded

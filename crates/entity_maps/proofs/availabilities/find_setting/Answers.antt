@@ -3,7 +3,7 @@ use Rattle.std.proofs.lemmas.Cmp.{nat_list_cmp_total}
 use Rattle.entity_core.specs.Airspace.{text_cmp}
 use Rattle.entity_maps.specs.Availabilities.{pair_of}
 use Rattle.entity_maps.specs.declared.availabilities.AvailabilityEntry.{AvailabilityEntry}
-use Rattle.entity_maps.proofs.Places.{found_hit, found_gap, not_none, read_hit}
+use Rattle.entity_maps.proofs.Positions.{found_hit, found_gap, not_none, read_hit}
 use Rattle.entity_maps.proofs.availabilities.find_setting.Goals as goal
 
 pub returns-in_ok-stated-in-Ok-clause-found : goal.returns-in_ok-stated-in-Ok-clause-found

@@ -5,7 +5,7 @@ use Rattle.entity_core.specs.Airspace.{VersionedAvailability, text_cmp}
 use Rattle.entity_core.specs.declared.availability.Availability.TheVariants.{Unknown}
 use Rattle.entity_maps.specs.Availabilities.{pair_of}
 use Rattle.entity_maps.specs.declared.availabilities.AvailabilityEntry.{AvailabilityEntry}
-use Rattle.entity_maps.proofs.Places.{found_hit, found_gap, read_hit}
+use Rattle.entity_maps.proofs.Positions.{found_hit, found_gap, read_hit}
 use Rattle.entity_maps.proofs.availabilities.present.Goals as goal
 
 pub returns-in-Ok : goal.returns-in-Ok

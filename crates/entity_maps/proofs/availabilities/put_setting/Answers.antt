@@ -5,7 +5,7 @@ use Rattle.entity_core.specs.Airspace.{text_cmp}
 use Rattle.entity_maps.specs.Sorted.{keyed, Hit, Gap}
 use Rattle.entity_maps.specs.Availabilities.{InOrder, pair_of}
 use Rattle.entity_maps.specs.declared.availabilities.AvailabilityEntry.{AvailabilityEntry}
-use Rattle.entity_maps.proofs.Places.{not_some, put_hit, put_gap}
+use Rattle.entity_maps.proofs.Positions.{not_some, put_hit, put_gap}
 use Rattle.entity_maps.proofs.availabilities.put_setting.Goals as goal
 
 pub returns-in-Ok-clause-ok : goal.returns-in-Ok-clause-ok

@@ -1,6 +1,6 @@
 use Rattle.std.proofs.Common.{ltb, rules}
 use Rattle.std.proofs.lemmas.Fn.{always_returns_same}
-use Rattle.entity_maps.proofs.Told.{rising_answer}
+use Rattle.entity_maps.proofs.Notified.{rising_answer}
 use Rattle.entity_maps.proofs.subscriptions.are_rising.Goals as goal
 
 pub returns : goal.returns

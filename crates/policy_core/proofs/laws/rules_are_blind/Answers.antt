@@ -1,4 +1,4 @@
-use Rattle.policy_core.proofs.Veils.{rules_like}
+use Rattle.policy_core.proofs.Redactions.{rules_like}
 use Rattle.policy_core.proofs.laws.rules_are_blind.Goals as goal
 
 pub returns : goal.returns

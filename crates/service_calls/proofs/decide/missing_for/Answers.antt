@@ -1,5 +1,5 @@
 use Rattle.service_step.proofs.Looked.{looks_map}
-use Rattle.service_calls.proofs.Judged.{missing_is}
+use Rattle.service_calls.proofs.Evaluated.{missing_is}
 use Rattle.service_calls.proofs.decide.missing_for.Goals as goal
 
 pub returns-in-Create : goal.returns-in-Create

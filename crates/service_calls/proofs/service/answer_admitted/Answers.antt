@@ -13,5 +13,5 @@ returns-in-Ok-Refused-clause-answers g c =
 
 pub returns-in-Err-clause-answers : goal.returns-in-Err-clause-answers
 returns-in-Err-clause-answers g c =
-    subst (AnswersTo g.S.Space c.args.admitted.now c.args.space.now c.decide.new.space) (sym c.gave_up.ensures)
+    subst (AnswersTo g.S.Space c.args.admitted.now c.args.space.now c.decide.new.space) (sym c.reply_to_fault.ensures)
     (halted_answers g.S.Space c.args.admitted.now c.args.space.now c.decide.new.space c.in-Err.halt _ c.in-Err.ensures.looks c.requires (λ e. c.in-Err.ensures.memory (ap Err e)))

@@ -1,13 +1,13 @@
 use Rattle.std.proofs.Common.{subst, sym}
 use Rattle.service_calls.specs.Service.{AnswersTo}
 use Rattle.service_calls.proofs.Outcome.{read_answers, halted_answers}
-use Rattle.service_calls.proofs.Judged.{standing_none}
+use Rattle.service_calls.proofs.Evaluated.{standing_none}
 use Rattle.service_calls.proofs.service.answer_allowed.Goals as goal
 
 pub returns-in-Err : goal.returns-in-Err
 returns-in-Err g c =
     let q = c.args.admitted.now in
-    subst (AnswersTo g.S.Space q c.args.space.now c.prepare.new.space) (sym c.gave_up.ensures)
+    subst (AnswersTo g.S.Space q c.args.space.now c.prepare.new.space) (sym c.reply_to_fault.ensures)
     (halted_answers g.S.Space q c.args.space.now c.prepare.new.space c.in-Err.halt _ c.in-Err.ensures c.requires.admitted (λ e s a h. standing_none a q.moment q.call.now (c.requires.given (c.in-Err.ensures.sound s) a h).0))
 
 pub returns : goal.returns

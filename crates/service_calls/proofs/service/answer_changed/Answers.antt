@@ -14,6 +14,6 @@ returns-in-Ok g c =
 pub returns-in-Err : goal.returns-in-Err
 returns-in-Err g c =
     let q = c.args.admitted.now in
-    subst (AnswersTo g.S.Space q c.args.space.now c.apply.new.self) (sym c.gave_up.ensures)
+    subst (AnswersTo g.S.Space q c.args.space.now c.apply.new.self) (sym c.reply_to_fault.ensures)
     (change_failed g.S.Space q c.args.space.now c.apply.new.self c.args.change c.items.result.now c.args.answer c.in-Err.fault c.in-Err.ensures.fixed c.in-Err.ensures.changes c.in-Err.ensures.tells c.requires.admitted
     (subst (λ (told : List ℕ). ForEachHeld g.S.Space c.args.space.now (λ a. Allows q a (Some c.args.change) told c.args.answer)) (sym c.items.ensures) c.requires.given))

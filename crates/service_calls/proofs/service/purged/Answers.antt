@@ -8,7 +8,7 @@ use Rattle.entity_purge.specs.Purge.{IsPartlyPurged}
 use Rattle.space_core.specs.declared.space.SpaceFault.{SpaceFault}
 use Rattle.space_core.specs.Space.{Changes, IsContent}
 use Rattle.service_calls.specs.Purged.{LeavesPartly}
-use Rattle.service_calls.proofs.Sweeping.{can_go, failed_partly, found_left, went_partly}
+use Rattle.service_calls.proofs.Purging.{can_go, failed_partly, found_left, went_partly}
 use Rattle.service_calls.proofs.service.purged.Goals as goal
 use Rattle.service_calls.proofs.service.purged.Goals.{then-not-is_empty+in_ok-purge, else-not-is_empty}
 

@@ -1,7 +1,7 @@
 use Rattle.std.proofs.Common.{ap, ◌∙◌}
 use Rattle.std.proofs.lemmas.Map.Iter.{rest_all}
 use Rattle.std.specs.Map.{values_of}
-use Rattle.service_notify.proofs.Told.{none_left, told_all}
+use Rattle.service_notify.proofs.Notified.{none_left, told_all}
 use Rattle.service_notify.proofs.notice.notices_of.Goals as goal
 
 pub returns : goal.returns

@@ -1,5 +1,5 @@
 use Rattle.entity_core.specs.Airspace.{notified_again}
-use Rattle.entity_core.proofs.Tellings.{told_more}
+use Rattle.entity_core.proofs.Notifications.{told_more}
 use Rattle.service_notify.proofs.notice.notify_each.Goals as goal
 
 pub loop-sub-preserved : goal.loop-sub-preserved

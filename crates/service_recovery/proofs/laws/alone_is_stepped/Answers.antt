@@ -1,4 +1,4 @@
-use Rattle.service_recovery.proofs.Keeping as kept
+use Rattle.service_recovery.proofs.Persisting as kept
 use Rattle.service_recovery.proofs.laws.alone_is_stepped.Goals as goal
 
 pub returns : goal.returns

@@ -1,4 +1,4 @@
-use Rattle.service_recovery.proofs.Keeping.{only_purged}
+use Rattle.service_recovery.proofs.Persisting.{only_purged}
 use Rattle.service_recovery.proofs.laws.purge_run_is_partly.Goals as goal
 
 pub returns : goal.returns

@@ -1,7 +1,7 @@
 use Rattle.std.specs.Prelude.{List}
 use Rattle.std.proofs.Common.{subst}
 use Rattle.service_calls.specs.Purged.{MayHavePersistedPurged, Segment}
-use Rattle.service_recovery.proofs.Keeping.{due_purged, due_unstopped}
+use Rattle.service_recovery.proofs.Persisting.{due_purged, due_unstopped}
 use Rattle.service_recovery.proofs.laws.unstopped_is_due.Goals as goal
 
 pub returns-clause-due : goal.returns-clause-due

@@ -1,7 +1,7 @@
 use Rattle.std.proofs.Common.{◌≡◌, List, take, map, ap, ◌∙◌, arith}
 use Rattle.std.proofs.lemmas.List.{take_all}
 use Rattle.space_core.specs.declared.met.Met.{Met}
-use Rattle.service_step.proofs.Seen.{seen_by, seen_there}
+use Rattle.service_step.proofs.Visible.{seen_by, seen_there}
 use Rattle.service_step.proofs.look_up.references.Goals as goal
 
 pub returns : goal.returns

@@ -1,5 +1,5 @@
 use Rattle.std.proofs.Common.{◌≡◌, take, map}
-use Rattle.service_step.proofs.Seen.{seen_by}
+use Rattle.service_step.proofs.Visible.{seen_by}
 use Rattle.service_step.proofs.look_up.references.Given as goal
 
 abbrev pub invariant-loop-found : goal.invariant-loop-found

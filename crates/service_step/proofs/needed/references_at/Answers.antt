@@ -4,7 +4,7 @@ use Rattle.std.specs.List.{filter_map, slice_get}
 use Rattle.policy_core.specs.View.{view_of}
 use Rattle.policy_core.specs.declared.reference.Reference.{Reference}
 use Rattle.policy_core.proofs.Places.{pick_more}
-use Rattle.service_step.proofs.Seen.{present_at}
+use Rattle.service_step.proofs.Visible.{present_at}
 use Rattle.service_step.proofs.needed.references_at.Goals as goal
 
 pub loop-place-preserved : goal.loop-place-preserved

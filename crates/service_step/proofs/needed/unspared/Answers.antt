@@ -1,7 +1,7 @@
 use Rattle.std.proofs.Common.{◌≡◌, [], ap, sym, ◌∙◌, append-nil}
 use Rattle.std.proofs.lemmas.List.{nil_from_length}
 use Rattle.std.specs.Vec.Iter.{into_iter_items}
-use Rattle.service_step.proofs.Seen.{owed_of, owed_there, present_of, present_there}
+use Rattle.service_step.proofs.Visible.{owed_of, owed_there, present_of, present_there}
 use Rattle.service_step.specs.Needed.{manager_has}
 use Rattle.std.specs.Prelude.{map}
 use Rattle.service_step.proofs.needed.unspared.Goals as goal

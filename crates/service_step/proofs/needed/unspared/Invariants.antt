@@ -1,6 +1,6 @@
 use Rattle.std.proofs.Common.{◌≡◌, ◌++◌, length}
 use Rattle.std.specs.Vec.Iter.{into_iter_items, into_iter_len}
-use Rattle.service_step.proofs.Seen.{owed_of, present_of}
+use Rattle.service_step.proofs.Visible.{owed_of, present_of}
 use Rattle.service_step.proofs.needed.unspared.Given as goal
 
 abbrev pub invariant-loop-found : goal.invariant-loop-found

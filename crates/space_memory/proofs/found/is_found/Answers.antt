@@ -1,6 +1,6 @@
 use Rattle.std.proofs.Common.{ap, sym, ◌∙◌}
 use Rattle.std.specs.Option.{option_copied}
-use Rattle.space_memory.proofs.SoughtMaps.{entity_judged, entity_left_out}
+use Rattle.space_memory.proofs.SearchMaps.{entity_judged, entity_left_out}
 use Rattle.space_memory.proofs.found.is_found.Goals as goal
 
 pub returns-then-is_other : goal.returns-then-is_other

@@ -4,7 +4,7 @@ use Rattle.entity_core.specs.declared.entity.Entity.{Entity}
 use Rattle.entity_maps.specs.Entities.{entity_map}
 use Rattle.space_memory.specs.Found.{AllPassing, OnlyPassing, entity_of, is_sought_of}
 use Rattle.space_memory.specs.Near.{HasMeeting}
-use Rattle.space_memory.proofs.SoughtMaps.{meeting_answers}
+use Rattle.space_memory.proofs.SearchMaps.{meeting_answers}
 use Rattle.space_memory.proofs.indexed.meeting_in.Goals as goal
 
 pub returns : goal.returns

@@ -6,7 +6,7 @@ use Rattle.grid_core.proofs.Meets.{both}
 use Rattle.entity_core.specs.IdTexts.{same_text}
 use Rattle.entity_maps.specs.Subscriptions.{subscription_map}
 use Rattle.space_memory.specs.Found.{is_own_of}
-use Rattle.space_memory.proofs.SoughtMaps.{sub_judged}
+use Rattle.space_memory.proofs.SearchMaps.{sub_judged}
 use Rattle.space_memory.proofs.indexed_subscriptions.is_own.Goals as goal
 
 pub returns-then-is_of : goal.returns-then-is_of

@@ -6,7 +6,7 @@ use Rattle.grid_core.proofs.Meets.{both}
 use Rattle.entity_core.specs.Search.{is_for_near}
 use Rattle.entity_core.specs.Subscription.{wants}
 use Rattle.entity_maps.specs.Subscriptions.{subscription_map}
-use Rattle.space_memory.proofs.SoughtMaps.{sub_judged}
+use Rattle.space_memory.proofs.SearchMaps.{sub_judged}
 use Rattle.space_memory.proofs.indexed_subscriptions.is_wanted.Goals as goal
 
 pub returns-then-wants : goal.returns-then-wants

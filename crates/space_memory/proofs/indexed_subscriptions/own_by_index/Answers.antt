@@ -5,7 +5,7 @@ use Rattle.space_memory.specs.Found.{AllPassing, OnlyPassing, is_own_of}
 use Rattle.entity_maps.specs.Subscriptions.{subscription_map}
 use Rattle.space_memory.specs.IndexedSubscriptions.{volumes_of}
 use Rattle.space_memory.specs.Near.{HasMeeting}
-use Rattle.space_memory.proofs.SoughtMaps.{own_answers}
+use Rattle.space_memory.proofs.SearchMaps.{own_answers}
 use Rattle.space_memory.proofs.indexed_subscriptions.own_by_index.Goals as goal
 
 pub returns : goal.returns

@@ -6,7 +6,7 @@ use Rattle.space_memory.specs.Found.{AllPassing, OnlyPassing}
 use Rattle.entity_maps.specs.Subscriptions.{subscription_map}
 use Rattle.space_memory.specs.IndexedSubscriptions.{volumes_of}
 use Rattle.space_memory.specs.Near.{HasMeeting}
-use Rattle.space_memory.proofs.SoughtMaps.{wanted_answers}
+use Rattle.space_memory.proofs.SearchMaps.{wanted_answers}
 use Rattle.space_memory.proofs.indexed_subscriptions.wanted_by_index.Goals as goal
 
 pub returns : goal.returns

@@ -2,7 +2,7 @@ use Rattle.std.proofs.Common.{subst}
 use Rattle.entity_core.specs.Airspace.{Airspace}
 use Rattle.space_core.specs.Space.{Fits}
 use Rattle.space_mirror.specs.Mirrored.{MirrorAgrees, IsSoundIn, pending_if_mirrored, mirrored_model, holds_in}
-use Rattle.space_mirror.proofs.Waits.{alone_fits, alone_agrees, list_ahead, list_changes, store_changes}
+use Rattle.space_mirror.proofs.Pending.{alone_fits, alone_agrees, list_ahead, list_changes, store_changes}
 use Rattle.space_mirror.proofs.changes.apply.Goals as goal
 
 pub returns-in-Some-clause-agrees : goal.returns-in-Some-clause-agrees
@@ -29,4 +29,4 @@ returns-in-None-clause-changes g c =
 pub returns-in-None-clause-agrees : goal.returns-in-None-clause-agrees
 returns-in-None-clause-agrees g c =
     let none = subst (λ l. MirrorAgrees g.S.Space c.args.store.now l c.args.state.now c.args.batch.now.items) c.in-None.is c.requires.agrees in
-    rw c.in-None.is (alone_agrees g.S.Space c.args.store.now c.apply-answer.new.self c.args.state.now c.note_made.new.state c.args.batch.now.items _ c.apply-answer.result none c.apply-answer.ensures.tells c.apply-answer.ensures.changes c.note_made.ensures)
+    rw c.in-None.is (alone_agrees g.S.Space c.args.store.now c.apply-answer.new.self c.args.state.now c.note_outcome.new.state c.args.batch.now.items _ c.apply-answer.result none c.apply-answer.ensures.tells c.apply-answer.ensures.changes c.note_outcome.ensures)

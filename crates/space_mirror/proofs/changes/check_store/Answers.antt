@@ -1,4 +1,4 @@
-use Rattle.space_mirror.proofs.Settled.{agrees_checked}
+use Rattle.space_mirror.proofs.Committed.{agrees_checked}
 use Rattle.space_mirror.proofs.changes.check_store.Goals as goal
 
 pub returns-in_default-clause-agrees : goal.returns-in_default-clause-agrees

@@ -1,6 +1,6 @@
 use Rattle.std.proofs.Common.{subst}
 use Rattle.space_mirror.specs.Lists.{Making}
-use Rattle.space_mirror.proofs.Settled.{settled_keeps}
+use Rattle.space_mirror.proofs.Committed.{settled_keeps}
 use Rattle.space_mirror.proofs.changes.commit.Goals as goal
 
 pub returns-clause-keeps : goal.returns-clause-keeps

@@ -1,5 +1,5 @@
 use Rattle.space_mirror.specs.Mirrored.{is_full}
-use Rattle.space_mirror.proofs.Settled.{agrees_kept, making_of_listed}
+use Rattle.space_mirror.proofs.Committed.{agrees_kept, making_of_listed}
 use Rattle.space_mirror.proofs.changes.commit_batch.Goals as goal
 
 pub returns-clause-making : goal.returns-clause-making

@@ -1,6 +1,6 @@
 use Rattle.std.proofs.Common.{ap}
 use Rattle.space_mirror.specs.Mirrored.{is_dropped}
-use Rattle.space_mirror.proofs.Settled.{one_where_lost}
+use Rattle.space_mirror.proofs.Committed.{one_where_lost}
 use Rattle.space_mirror.proofs.changes.rebuild_if_due.Goals as goal
 
 pub rebuild_mirror-requires-clause-one : goal.rebuild_mirror-requires-clause-one

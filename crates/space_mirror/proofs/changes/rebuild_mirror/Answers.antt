@@ -1,4 +1,4 @@
-use Rattle.space_mirror.proofs.Settled.{ahead_anew}
+use Rattle.space_mirror.proofs.Committed.{ahead_anew}
 use Rattle.space_mirror.proofs.changes.rebuild_mirror.Goals as goal
 
 pub returns-in-Ok-clause-agrees : goal.returns-in-Ok-clause-agrees

@@ -1,4 +1,4 @@
-use Rattle.space_mirror.proofs.Going.{untold_by_store}
+use Rattle.space_mirror.proofs.Purging.{untold_by_store}
 use Rattle.space_mirror.proofs.purges.ended.Goals as goal
 
 pub returns-in-None : goal.returns-in-None

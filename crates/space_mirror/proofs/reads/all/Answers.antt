@@ -1,4 +1,4 @@
-use Rattle.space_mirror.proofs.Groups.{list_reads, store_reads}
+use Rattle.space_mirror.proofs.Mirrors.{list_reads, store_reads}
 use Rattle.space_mirror.proofs.reads.all.Goals as goal
 
 pub returns-in-Some : goal.returns-in-Some

@@ -1,6 +1,6 @@
 use Rattle.std.specs.Prelude.{◌≡◌}
 use Rattle.std.specs.FinMap.{get}
-use Rattle.space_mirror.proofs.Groups.{list_reads, reads_kept, store_reads}
+use Rattle.space_mirror.proofs.Mirrors.{list_reads, reads_kept, store_reads}
 use Rattle.space_mirror.proofs.reads.availability.Goals as goal
 
 pub returns-in-Some : goal.returns-in-Some

@@ -3,7 +3,7 @@ use Rattle.std.proofs.Common.{ap, ◌∙◌}
 use Rattle.entity_core.specs.Airspace.{Airspace}
 use Rattle.space_core.specs.Space.{ReportsFault, refusals_after}
 use Rattle.space_memory.specs.Memory.{content_of}
-use Rattle.space_mirror.proofs.Groups.{list_reads, reads_kept, store_reads}
+use Rattle.space_mirror.proofs.Mirrors.{list_reads, reads_kept, store_reads}
 use Rattle.space_mirror.proofs.reads.serial.Goals as goal
 
 pub returns-in-Some : goal.returns-in-Some

@@ -1,7 +1,7 @@
 use Rattle.std.proofs.Common.{Some, sym, ap, ◌∙◌, to_z-of_z}
 use Rattle.std.specs.Ordering.{int_cmp}
 use Rattle.std.proofs.lemmas.Cmp.{int_cmp_total}
-use Rattle.entity_maps.proofs.Places.{place_hit, place_gap, found_hit, found_gap, read_hit}
+use Rattle.entity_maps.proofs.Positions.{place_hit, place_gap, found_hit, found_gap, read_hit}
 use Rattle.space_sql_load.specs.declared.naming.Numbered.{Numbered}
 use Rattle.space_sql_load.specs.Gathering.{number_pair}
 use Rattle.space_sql_load.proofs.naming.id_of.Goals as goal

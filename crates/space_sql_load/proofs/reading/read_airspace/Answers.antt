@@ -1,8 +1,8 @@
 use Rattle.sqlite.specs.Held.{state}
 use Rattle.space_sql_select.proofs.Readings.{alive_judged}
-use Rattle.space_sql_load.specs.Judging.{JudgesDatabase}
+use Rattle.space_sql_load.specs.Checking.{JudgesDatabase}
 use Rattle.space_sql_load.specs.Showing.{ShowsTables}
-use Rattle.space_sql_load.proofs.Judged.{judges_database}
+use Rattle.space_sql_load.proofs.Checked.{judges_database}
 use Rattle.space_sql_load.proofs.reading.read_airspace.Goals as goal
 
 pub returns-clause-reads : goal.returns-clause-reads

@@ -1,5 +1,5 @@
 use Rattle.sqlite.specs.Held.{state}
-use Rattle.space_sql_load.proofs.Judged.{reads_database}
+use Rattle.space_sql_load.proofs.Checked.{reads_database}
 use Rattle.space_sql_load.proofs.reading.read_airspace_in_transaction.Goals as goal
 
 pub returns-clause-reads : goal.returns-clause-reads

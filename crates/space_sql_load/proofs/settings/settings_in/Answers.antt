@@ -4,7 +4,7 @@ use Rattle.entity_core.specs.Airspace.{text_cmp}
 use Rattle.entity_maps.specs.Availabilities.{availability_map, pair_of}
 use Rattle.entity_maps.proofs.Maps.{map_of_none}
 use Rattle.space_sql_select.specs.AvailabilityRecord.{stated_by}
-use Rattle.space_sql_load.proofs.Settlings.{settles_start, settles_more, settles_none}
+use Rattle.space_sql_load.proofs.StoredAvailabilities.{settles_start, settles_more, settles_none}
 use Rattle.space_sql_load.proofs.settings.settings_in.Goals as goal
 
 pub loop-row-init : goal.loop-row-init

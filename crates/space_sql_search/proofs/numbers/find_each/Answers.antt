@@ -22,8 +22,8 @@ loop-interval-preserved g c =
     record {
       same_reference = c.find.ensures.same_reference ∙ c.loop-interval.invariant.same_reference;
       keeps = λ i h. keeps i (c.loop-interval.invariant.keeps i h);
-      so_far = reads_as _ (λ db _. AllByRecursion (HasNumbers c.args.table c.args.sought db after) (take (n + 1) intervals)) a d _ tt
-          (λ db h. each_more (HasNumbers c.args.table c.args.sought db after) (take n intervals) (take (n + 1) intervals) _ (take_more intervals n _ (omega arith)) (numbers_stay c.args.table c.args.sought db before after (take n intervals) keeps h.0) h.1)
+      so_far = reads_as _ (λ db _. AllByRecursion (HasNumbers c.args.table c.args.range db after) (take (n + 1) intervals)) a d _ tt
+          (λ db h. each_more (HasNumbers c.args.table c.args.range db after) (take n intervals) (take (n + 1) intervals) _ (take_more intervals n _ (omega arith)) (numbers_stay c.args.table c.args.range db before after (take n intervals) keeps h.0) h.1)
           (reads_then _ _ a b d tt _ c.loop-interval.invariant.so_far c.in_ok-find.ensures.finds);
     }
 
@@ -31,5 +31,5 @@ pub returns-clause-finds : goal.returns-clause-finds
 returns-clause-finds g c =
     let intervals = c.args.intervals.now in
     let found = c.loop-interval.found.items in
-    reads_as _ (λ db _. AllByRecursion (HasNumbers c.args.table c.args.sought db found) intervals) (state g.S.Store c.args.tx.now.conn.now) (state g.S.Store c.loop-interval.tx.conn.now) tt tt
-    (λ db h. subst (λ (l : List Interval). AllByRecursion (HasNumbers c.args.table c.args.sought db found) l) (take_all c.loop-interval.interval-index intervals (omega arith)) h) c.loop-interval.invariant.so_far
+    reads_as _ (λ db _. AllByRecursion (HasNumbers c.args.table c.args.range db found) intervals) (state g.S.Store c.args.tx.now.conn.now) (state g.S.Store c.loop-interval.tx.conn.now) tt tt
+    (λ db h. subst (λ (l : List Interval). AllByRecursion (HasNumbers c.args.table c.args.range db found) l) (take_all c.loop-interval.interval-index intervals (omega arith)) h) c.loop-interval.invariant.so_far

@@ -10,5 +10,5 @@ abbrev pub invariant-loop-interval : goal.invariant-loop-interval
 invariant-loop-interval g l = record {
   same_reference : l.tx.conn.ghost_name ≡ l.fn.tx.conn.ghost_name;
   keeps : IsSubset l.fn.found.items l.found.items;
-  so_far : Reads {X = Unit {0}} (λ db _. AllByRecursion (HasNumbers l.table l.sought db l.found.items) (take l.interval-index l.intervals)) (state g.S.Store l.fn.tx.conn.now) (state g.S.Store l.tx.conn.now) (Ok tt);
+  so_far : Reads {X = Unit {0}} (λ db _. AllByRecursion (HasNumbers l.table l.range db l.found.items) (take l.interval-index l.intervals)) (state g.S.Store l.fn.tx.conn.now) (state g.S.Store l.tx.conn.now) (Ok tt);
 }

@@ -11,8 +11,8 @@ use Rattle.space_sql_search.proofs.numbers.find_numbers.Goals as goal
 pub returns-clause-finds : goal.returns-clause-finds
 returns-clause-finds g c =
     let table = c.args.table in
-    let ranges = c.args.asked.now.ranges.items in
-    let ancestors = c.args.asked.now.ancestors.items in
+    let ranges = c.args.searched.now.ranges.items in
+    let ancestors = c.args.searched.now.ancestors.items in
     let first = c.find_each.new.found.items in
     let both = c.find_each-2.new.found.items in
     let all = c.order_numbers.new.numbers.items in
@@ -20,7 +20,7 @@ returns-clause-finds g c =
     let a = state g.S.Store c.args.tx.now.conn.now in
     let b = state g.S.Store c.find_each.new.tx.conn.now in
     let d = state g.S.Store c.find_each-2.new.tx.conn.now in
-    reads_as _ (λ db found. FindsNumbers table c.args.asked.now db found.items) a d tt c.order_numbers.new.numbers
+    reads_as _ (λ db found. FindsNumbers table c.args.searched.now db found.items) a d tt c.order_numbers.new.numbers
     (λ db h. record {
       in_ranges = numbers_stay table Within db first all ranges (λ n here. keeps n (c.in_ok-find_each-2.ensures.keeps n here)) (subst (λ (l : List Interval). AllByRecursion (HasNumbers table Within db first) l) c.as_slice.ensures.value h.0);
       above = numbers_stay table Exactly db both all ancestors keeps (subst (λ (l : List Interval). AllByRecursion (HasNumbers table Exactly db both) l) c.as_slice-2.ensures.value h.1);

@@ -5,17 +5,17 @@ use Rattle.sqlite_rules.specs.Lists.{Has}
 use Rattle.sqlite_rules.proofs.ListLemmas.{all_more, has_front, has_last}
 use Rattle.grid_core.specs.Cell.{Cell}
 use Rattle.space_sql_search.specs.declared.search_ranges.SearchRanges.{SearchRanges}
-use Rattle.space_sql_search.specs.SearchRanges.{AsksFor, KeepsAsked}
+use Rattle.space_sql_search.specs.SearchRanges.{AsksFor, KeepsRanges}
 use Rattle.space_sql_search.proofs.Asking.{cells_stay}
 use Rattle.space_sql_search.proofs.search_ranges.add_cells.Goals as goal
 
 pub loop-cell-preserved : goal.loop-cell-preserved
 loop-cell-preserved c =
-    let old = c.loop-cell.asked in
+    let old = c.loop-cell.searched in
     let ranges = c.push.new.self in
     let new : SearchRanges = record { ranges = ranges; ancestors = c.add_ancestors.new.out } in
     let is = c.in_ok-push.ensures.items in
-    let keeps : KeepsAsked old new = (λ i h. has_front ranges.items old.ranges.items _ i is h, c.in_ok-add_ancestors.ensures.keeps) in
+    let keeps : KeepsRanges old new = (λ i h. has_front ranges.items old.ranges.items _ i is h, c.in_ok-add_ancestors.ensures.keeps) in
     record {
       keeps = (λ i h. keeps.0 i (c.loop-cell.invariant.keeps.0 i h), λ i h. keeps.1 i (c.loop-cell.invariant.keeps.1 i h));
       each = all_more (AsksFor new) c.args.cells.now c.loop-cell.cell-index c.cell-item.result (omega arith) c.cell-item.is
@@ -24,4 +24,4 @@ loop-cell-preserved c =
     }
 
 pub returns-clause-each : goal.returns-clause-each
-returns-clause-each c = subst (λ (l : List Cell). AllByRecursion (AsksFor c.loop-cell.asked) l) (take_all c.loop-cell.cell-index c.args.cells.now (omega arith)) c.loop-cell.invariant.each
+returns-clause-each c = subst (λ (l : List Cell). AllByRecursion (AsksFor c.loop-cell.searched) l) (take_all c.loop-cell.cell-index c.args.cells.now (omega arith)) c.loop-cell.invariant.each

@@ -3,7 +3,7 @@ use Rattle.sqlite.specs.Held.{state}
 use Rattle.space_sql_write.specs.Statements.{MakesChange}
 use Rattle.space_sql_write.specs.SubPutting.{NotifiesRows}
 use Rattle.space_sql_write.proofs.Running.{runs_last}
-use Rattle.space_sql_write.proofs.ToldAll.{changes_told}
+use Rattle.space_sql_write.proofs.NotifiedAll.{changes_told}
 use Rattle.space_sql_write.proofs.change.write_change.Goals as goal
 
 pub returns-clause-changes : goal.returns-clause-changes

@@ -5,7 +5,7 @@ use Rattle.entity_core.specs.Airspace.{is_one_of, with_notified_subs}
 use Rattle.space_sql_write.specs.Numbering.{Makes}
 use Rattle.space_sql_write.specs.SubPutting.{NotifiesRows}
 use Rattle.space_sql_write.proofs.Running.{runs_then, runs_as_well, runs_none}
-use Rattle.space_sql_write.proofs.ToldAll.{TellsFirst, tells_more, tells_none}
+use Rattle.space_sql_write.proofs.NotifiedAll.{TellsFirst, tells_more, tells_none}
 use Rattle.space_sql_write.proofs.notify.notify_all.Goals as goal
 
 pub loop-id-init : goal.loop-id-init
@@ -19,10 +19,10 @@ loop-id-preserved g c =
     let i = c.loop-id.id-index in
     let a = state g.S.Store c.args.tx.now.conn.now in
     let b = state g.S.Store c.loop-id.tx.conn.now in
-    let d = state g.S.Store c.tell.new.tx.conn.now in
+    let d = state g.S.Store c.notify_one.new.tx.conn.now in
     record {
-      same_reference = c.tell.ensures.same_reference ∙ c.loop-id.invariant.same_reference;
-      so_far = runs_then _ _ (λ _ x y. TellsFirst (i + 1) ids x y) a b d tt _ tt (λ first one. tells_more ids i c.id-item.result a.now b.now d.now (omega arith) c.id-item.is first one) c.loop-id.invariant.so_far c.in_ok-tell.ensures.tells;
+      same_reference = c.notify_one.ensures.same_reference ∙ c.loop-id.invariant.same_reference;
+      so_far = runs_then _ _ (λ _ x y. TellsFirst (i + 1) ids x y) a b d tt _ tt (λ first one. tells_more ids i c.id-item.result a.now b.now d.now (omega arith) c.id-item.is first one) c.loop-id.invariant.so_far c.in_ok-notify_one.ensures.tells;
     }
 
 pub returns-clause-tells : goal.returns-clause-tells

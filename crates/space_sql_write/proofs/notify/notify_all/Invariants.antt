@@ -1,7 +1,7 @@
 use Rattle.std.proofs.Common.{◌≡◌, Ok}
 use Rattle.sqlite.specs.Held.{state}
 use Rattle.space_sql_write.specs.Statements.{Runs}
-use Rattle.space_sql_write.proofs.ToldAll.{TellsFirst}
+use Rattle.space_sql_write.proofs.NotifiedAll.{TellsFirst}
 use Rattle.space_sql_write.proofs.notify.notify_all.Given as goal
 
 abbrev pub invariant-loop-id : goal.invariant-loop-id

@@ -8,4 +8,4 @@ use Rattle.token_check.proofs.report.check_token_file.Goals as goal
 
 pub returns-clause-explain : goal.returns-clause-explain
 returns-clause-explain c =
-    IfOk-weaker c.report_of_text.result _ _ (λ report h. subst (λ (ms : List TokenFileError). Explain ms (file_of c.args.text.now)) (sym h) (explains c.args.text.now)) c.report_of_text.ensures.mistakes
+    IfOk-weaker c.report_of_text.result _ _ (λ report h. subst (λ (ms : List TokenFileError). Explain ms (file_of c.args.text.now)) (sym h) (explains c.args.text.now)) c.report_of_text.ensures.errors

@@ -1,7 +1,7 @@
 use Rattle.std.proofs.Common.{◌∙◌, ap}
 use Rattle.token_conf.specs.TokenFile.{callers_of}
 use Rattle.wire_head.specs.Target.{path_of}
-use Rattle.wire_http.specs.RequestInfo.{kind_asked}
+use Rattle.wire_http.specs.RequestInfo.{requested_kind}
 use Rattle.wire_http.proofs.CallLaws.{call_made}
 use Rattle.wire_http.proofs.call.call_of.Goals as goal
 
@@ -13,4 +13,4 @@ returns-clause-made c = λ h cover.
     c.of-2.ensures c.in_ok-endpoint.ensures.asked c.in_ok-caller.ensures cover
 
 pub returns-clause-kind : goal.returns-clause-kind
-returns-clause-kind c = c.in_ok-endpoint.ensures.kind ∙ ap (λ v. kind_asked c.in_ok-endpoint.field-0.endpoint v) c.of-2.ensures
+returns-clause-kind c = c.in_ok-endpoint.ensures.kind ∙ ap (λ v. requested_kind c.in_ok-endpoint.field-0.endpoint v) c.of-2.ensures

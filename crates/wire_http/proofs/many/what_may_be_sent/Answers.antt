@@ -1,4 +1,4 @@
-use Rattle.wire_http.proofs.HeldBackLaws.{all_ready, ready_and_back}
+use Rattle.wire_http.proofs.DeferredLaws.{all_ready, ready_and_back}
 use Rattle.wire_http.proofs.many.what_may_be_sent.Goals as goal
 
 pub returns-clause-first : goal.returns-clause-first

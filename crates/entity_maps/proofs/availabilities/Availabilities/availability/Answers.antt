@@ -3,7 +3,7 @@ use Rattle.std.specs.Prelude.{IsNone}
 use Rattle.std.proofs.lemmas.Cmp.{nat_list_cmp_total}
 use Rattle.entity_core.specs.Airspace.{text_cmp}
 use Rattle.entity_maps.specs.Availabilities.{InOrder, pair_of}
-use Rattle.entity_maps.proofs.Places.{get_answer, get_says}
+use Rattle.entity_maps.proofs.Positions.{get_answer, get_says}
 use Rattle.entity_maps.proofs.availabilities.Availabilities.availability.Goals as goal
 
 pub returns : goal.returns

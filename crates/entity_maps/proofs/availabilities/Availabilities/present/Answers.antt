@@ -7,7 +7,7 @@ use Rattle.entity_core.specs.Airspace.{VersionedAvailability, text_cmp}
 use Rattle.entity_core.specs.declared.availability.Availability.TheVariants.{Unknown}
 use Rattle.entity_maps.specs.Availabilities.{InOrder, pair_of}
 use Rattle.entity_maps.specs.Sorted.{keyed}
-use Rattle.entity_maps.proofs.Places.{get_answer}
+use Rattle.entity_maps.proofs.Positions.{get_answer}
 use Rattle.entity_maps.proofs.availabilities.Availabilities.present.Goals as goal
 
 pub returns : goal.returns

@@ -3,7 +3,7 @@ use Rattle.std.proofs.lemmas.Cmp.{nat_list_cmp_total}
 use Rattle.entity_core.specs.Airspace.{text_cmp}
 use Rattle.entity_maps.specs.Availabilities.{pair_of}
 use Rattle.entity_maps.specs.declared.availabilities.AvailabilityEntry.{AvailabilityEntry}
-use Rattle.entity_maps.proofs.Places.{get_says, put_order, put_map}
+use Rattle.entity_maps.proofs.Positions.{get_says, put_order, put_map}
 use Rattle.entity_maps.proofs.availabilities.Availabilities.put.Goals as goal
 
 pub invariant_of-self : goal.invariant_of-self

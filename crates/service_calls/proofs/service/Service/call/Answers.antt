@@ -6,7 +6,7 @@ use Rattle.policy_core.specs.Missing.{nothing_missing}
 use Rattle.service_step.specs.declared.reply.Reply.TheVariants.{Denied}
 use Rattle.policy_core.specs.declared.rule.Rule.{Rule}
 use Rattle.service_calls.proofs.Outcome.{early_answers}
-use Rattle.service_calls.proofs.Judged.{first_early, told_early, some_of_none}
+use Rattle.service_calls.proofs.Evaluated.{first_early, told_early, some_of_none}
 use Rattle.service_calls.proofs.Runs.{stays_same}
 use Rattle.service_calls.proofs.Stales.{stale_reply}
 use Rattle.service_step.proofs.Steps.{has_caller}

@@ -7,5 +7,5 @@ use Rattle.space_mirror.proofs.mirrored.MirroredSnapshotSource.snapshot.Goals as
 
 pub returns : goal.returns
 returns g c =
-    let Shows : MirroredModel g.row.S.Denot → Type 0 = λ k. IfOk c.shown.result (λ shown. (a : Airspace) → holds_in g.S.Space k a → a ≡ airspace_of shown.entities.now shown.subscriptions.now shown.availabilities.now shown.serial) in
-    subst (λ k. IsSoundIn g.S.Space k → Shows k) c.self.view_is (λ sound. subst (λ batch. Shows (mirrored_model c.self.inside.store (pending_if_mirrored c.self.inside.mirror batch) 0)) c.deref.ensures.value (c.shown.ensures sound.store))
+    let Shows : MirroredModel g.row.S.Denot → Type 0 = λ k. IfOk c.snapshot_of.result (λ snapshot_of. (a : Airspace) → holds_in g.S.Space k a → a ≡ airspace_of snapshot_of.entities.now snapshot_of.subscriptions.now snapshot_of.availabilities.now snapshot_of.serial) in
+    subst (λ k. IsSoundIn g.S.Space k → Shows k) c.self.view_is (λ sound. subst (λ batch. Shows (mirrored_model c.self.inside.store (pending_if_mirrored c.self.inside.mirror batch) 0)) c.deref.ensures.value (c.snapshot_of.ensures sound.store))

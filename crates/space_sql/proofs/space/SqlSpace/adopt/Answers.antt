@@ -20,34 +20,34 @@ pub returns-in-Whole-One-clause-taken : goal.returns-in-Whole-One-clause-taken
 returns-in-Whole-One-clause-taken g c =
     let old = state g.S.Store c.args.conn in
     let stands = stands_seen c.schema.ensures.value (rw c.in-Whole-One.field-0-is at c.in-Whole-One.ensures.exact) in
-    IfOk-weaker c.take_first.result _ _ (λ t it format sound. of_format old.now.schema (λ format. (a : Airspace) × SpellsAs format old.now a × IsContent (holds_of g.S.Store) t.0 a) One stands (it sound) format) c.take_first.ensures.taken
+    IfOk-weaker c.adopt_format_1.result _ _ (λ t it format sound. of_format old.now.schema (λ format. (a : Airspace) × SpellsAs format old.now a × IsContent (holds_of g.S.Store) t.0 a) One stands (it sound) format) c.adopt_format_1.ensures.taken
 
 pub returns-in-Whole-One-clause-refused : goal.returns-in-Whole-One-clause-refused
 returns-in-Whole-One-clause-refused g c =
     let old = state g.S.Store c.args.conn in
     let stands = stands_seen c.schema.ensures.value (rw c.in-Whole-One.field-0-is at c.in-Whole-One.ensures.exact) in
-    IfErr-weaker c.take_first.result _ _ (λ e it format clean. of_format old.now.schema (λ format. Refuses format old.now e.0) One stands (it clean) format) c.take_first.ensures.refused
+    IfErr-weaker c.adopt_format_1.result _ _ (λ e it format clean. of_format old.now.schema (λ format. Refuses format old.now e.0) One stands (it clean) format) c.adopt_format_1.ensures.refused
 
 pub returns-in-Whole-One-clause-left : goal.returns-in-Whole-One-clause-left
 returns-in-Whole-One-clause-left g c =
     let old = state g.S.Store c.args.conn in
     let stands = stands_seen c.schema.ensures.value (rw c.in-Whole-One.field-0-is at c.in-Whole-One.ensures.exact) in
-    left_as old (λ h. state g.S.Store h) (Whole One) (λ fault trees. (fault ≡ Store) × MayHaveUpgraded old trees) c.take_first.result stands (λ fault trees it. it) c.take_first.ensures.left
+    left_as old (λ h. state g.S.Store h) (Whole One) (λ fault trees. (fault ≡ Store) × MayHaveUpgraded old trees) c.adopt_format_1.result stands (λ fault trees it. it) c.adopt_format_1.ensures.left
 
 pub returns-in-Whole-Two-clause-taken : goal.returns-in-Whole-Two-clause-taken
 returns-in-Whole-Two-clause-taken g c =
     let old = state g.S.Store c.args.conn in
     let stands = stands_seen c.schema.ensures.value (rw c.in-Whole-Two.field-0-is at c.in-Whole-Two.ensures.exact) in
-    IfOk-weaker c.take_second.result _ _ (λ t it format sound. of_format old.now.schema (λ format. (a : Airspace) × SpellsAs format old.now a × IsContent (holds_of g.S.Store) t.0 a) Two stands (it sound) format) c.take_second.ensures.taken
+    IfOk-weaker c.adopt_format_2.result _ _ (λ t it format sound. of_format old.now.schema (λ format. (a : Airspace) × SpellsAs format old.now a × IsContent (holds_of g.S.Store) t.0 a) Two stands (it sound) format) c.adopt_format_2.ensures.taken
 
 pub returns-in-Whole-Two-clause-refused : goal.returns-in-Whole-Two-clause-refused
 returns-in-Whole-Two-clause-refused g c =
     let old = state g.S.Store c.args.conn in
     let stands = stands_seen c.schema.ensures.value (rw c.in-Whole-Two.field-0-is at c.in-Whole-Two.ensures.exact) in
-    IfErr-weaker c.take_second.result _ _ (λ e it format clean. of_format old.now.schema (λ format. Refuses format old.now e.0) Two stands (it clean) format) c.take_second.ensures.refused
+    IfErr-weaker c.adopt_format_2.result _ _ (λ e it format clean. of_format old.now.schema (λ format. Refuses format old.now e.0) Two stands (it clean) format) c.adopt_format_2.ensures.refused
 
 pub returns-in-Whole-Two-clause-left : goal.returns-in-Whole-Two-clause-left
 returns-in-Whole-Two-clause-left g c =
     let old = state g.S.Store c.args.conn in
     let stands = stands_seen c.schema.ensures.value (rw c.in-Whole-Two.field-0-is at c.in-Whole-Two.ensures.exact) in
-    left_as old (λ h. state g.S.Store h) (Whole Two) (λ _ _. ⊥) c.take_second.result stands (λ fault trees none. absurd none) c.take_second.ensures.left
+    left_as old (λ h. state g.S.Store h) (Whole Two) (λ _ _. ⊥) c.adopt_format_2.result stands (λ fault trees none. absurd none) c.adopt_format_2.ensures.left

@@ -1,5 +1,5 @@
 use Rattle.std.proofs.Common.{◌<◌, ◌++◌, length, refl, arith}
-use Rattle.wire_http.proofs.HeldLaws.{none_here}
+use Rattle.wire_http.proofs.BufferedLaws.{none_here}
 use Rattle.wire_http.proofs.StepLaws.{held_request, held_stops, held_wants, finishes, unsent_more}
 use Rattle.wire_http.proofs.connection.Connection.advance.Goals as goal
 
@@ -19,13 +19,13 @@ returns-then-len-self-clause-step g c =
 pub answer_first-requires-clause-held : goal.answer_first-requires-clause-held
 answer_first-requires-clause-held g c =
     let self = c.args.self.now in
-    held_request self.held.items self.ended c.next_held.new.fields c.next_held.result c.in-Gives-Request.field-0 c.in-Gives-Request.spans c.in-Gives-Request.size
-    c.in-Gives-Request.is c.in-Gives-Request.field-0-is (rw c.as_slice.ensures.value at c.next_held.ensures.held)
+    held_request self.held.items self.ended c.next_buffered.new.fields c.next_buffered.result c.in-Gives-Request.field-0 c.in-Gives-Request.spans c.in-Gives-Request.size
+    c.in-Gives-Request.is c.in-Gives-Request.field-0-is (rw c.as_slice.ensures.value at c.next_buffered.ensures.held)
 
 pub returns-in-Wants-clause-step : goal.returns-in-Wants-clause-step
 returns-in-Wants-clause-step g c =
     let self = c.args.self.now in
-    let h = held_wants self.held.items self.ended c.next_held.new.fields c.next_held.result c.in-Wants.count c.in-Wants.is (rw c.as_slice.ensures.value at c.next_held.ensures.held) in (
+    let h = held_wants self.held.items self.ended c.next_buffered.new.fields c.next_buffered.result c.in-Wants.count c.in-Wants.is (rw c.as_slice.ensures.value at c.next_buffered.ensures.held) in (
       refl,
       refl,
       record { held = refl; output = refl; ready = refl; slot = refl; left = refl; ended = refl; done = refl },
@@ -41,7 +41,7 @@ returns-in-Ok-clause-step g c =
       refl,
       refl,
       λ later may. finishes self.left (self.held.items ++ later) c.in-Gives-Stop.end (omega (arith, c.if-self-eq0.false))
-          (held_stops self.held.items self.ended c.next_held.new.fields c.next_held.result c.in-Gives-Stop.field-0 c.in-Gives-Stop.end c.in-Gives-Stop.is c.in-Gives-Stop.field-0-is (rw c.as_slice.ensures.value at c.next_held.ensures.held) later may),
+          (held_stops self.held.items self.ended c.next_buffered.new.fields c.next_buffered.result c.in-Gives-Stop.field-0 c.in-Gives-Stop.end c.in-Gives-Stop.is c.in-Gives-Stop.field-0-is (rw c.as_slice.ensures.value at c.next_buffered.ensures.held) later may),
       unsent_more self.sent self.answers.items c.end_behind.new.output.items _ self.sent_fits c.in-Ok.ensures.whole,
       refl,
       refl,
@@ -56,4 +56,4 @@ pub returns-in-Wants-clause-noted : goal.returns-in-Wants-clause-noted
 returns-in-Wants-clause-noted g c = (returns-in-Wants-clause-step g c, refl)
 
 pub returns-in-Ok-clause-noted : goal.returns-in-Ok-clause-noted
-returns-in-Ok-clause-noted g c = (returns-in-Ok-clause-step g c, c.note_end.ensures)
+returns-in-Ok-clause-noted g c = (returns-in-Ok-clause-step g c, c.record_end.ensures)

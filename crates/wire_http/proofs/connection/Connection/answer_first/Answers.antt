@@ -3,7 +3,7 @@ use Rattle.std.specs.Prelude.{◌==◌}
 use Rattle.httparse.specs.Spans.{span_bytes}
 use Rattle.token_conf.specs.TokenFile.{callers_of}
 use Rattle.wire_http.specs.declared.request.Next.TheVariants.{Request}
-use Rattle.wire_http.proofs.HeldBackLaws.{ready_then}
+use Rattle.wire_http.proofs.DeferredLaws.{ready_then}
 use Rattle.wire_http.proofs.StepLaws.{came_none, clock_failed, held_next, noted_is, replies_unsent, part_unsent, slot_is}
 use Rattle.wire_http.proofs.TurnLaws.{part_ask, part_answered, turn_answered_at}
 use Rattle.wire_http.proofs.connection.Connection.answer_first.Goals as goal
@@ -51,11 +51,11 @@ returns-clause-noted g c =
     let starts : c.len-start.result ≡ length self.answers.items = omega arith in
     let made = c.in-Ok-reply_behind.ensures.replies in
     let turn = turn_answered_at g.S.Space g.M.Moments.gives (callers_of c.args.tokens.now) (self.left - 1)
-    (Some []) (Some []) self.held.items self.held.items c.as_slice.result.now c.give_back.new.buffer.items c.args.fields.now next c.args.spans c.args.size
+    (Some []) (Some []) self.held.items self.held.items c.as_slice.result.now c.shrink.new.buffer.items c.args.fields.now next c.args.spans c.args.size
     c.in-Ok.pending.endpoint c.in-Ok.pending.moment c.in-Ok.pending.call c.left_after-left.result
     c.args.service.now c.reply_behind.new.service c.args.moments.now c.ask.new.moments _ _
     refl c.as_slice.ensures.value (came_none self.held.items) (held_next self.held.items self.ended c.args.fields.now next c.requires.held)
-    c.requires.fits.2 (c.give_back.ensures.same ∙ c.shift.ensures)
+    c.requires.fits.2 (c.shrink.ensures.same ∙ c.shift.ensures)
     c.in-Ok.ensures.made c.left_after-left.ensures c.in-Ok.ensures.moment
     (replies_unsent g.S.Space _ _ _ _ _ _ self.sent self.answers.items c.reply_behind.new.output.items self.sent_fits made.0) in (
       (
@@ -67,7 +67,7 @@ returns-clause-noted g c =
         ready_then self.sent c.len-start.result self.answers.items c.reply_behind.new.output.items _ self.sent_fits starts made.0.written,
         slot_is turn.0.0 c.in-Ok.pending.endpoint (c.left_after-left.result == 0) turn.1 turn.2,
       ),
-      ap Some c.noted_as.ensures
+      ap Some c.info_for.ensures
           ∙ noted_is turn.0.0 turn.0.1 made.0.reply c.in-Ok.pending.endpoint c.in-Ok.pending.kind (span_bytes c.as_slice.result.now c.args.spans.method) c.in-Ok.pending.call c.in-Ok-reply_behind.outcome
           turn.1 turn.3 turn.4 c.in-Ok.ensures.kind (ap (λ v. span_bytes v c.args.spans.method) c.as_slice.ensures.value ∙ turn.5.method) made.1,
     )

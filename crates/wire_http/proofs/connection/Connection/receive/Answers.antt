@@ -1,4 +1,4 @@
-use Rattle.wire_http.proofs.HeldLaws.{below_put, room_put}
+use Rattle.wire_http.proofs.BufferedLaws.{below_put, room_put}
 use Rattle.wire_http.proofs.connection.Connection.receive.Goals as goal
 
 pub invariant_of-self-clause-held_fits : goal.invariant_of-self-clause-held_fits

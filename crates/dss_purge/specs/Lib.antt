@@ -1,2 +1,0 @@
-pub mod PurgeCounts
-pub mod Sweeping

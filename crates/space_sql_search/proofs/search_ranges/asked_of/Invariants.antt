@@ -1,6 +1,0 @@
-use Rattle.std.proofs.Common.{take}
-use Rattle.space_sql_search.specs.SearchRanges.{AsksForAll}
-use Rattle.space_sql_search.proofs.search_ranges.asked_of.Given as goal
-
-abbrev pub invariant-loop-area : goal.invariant-loop-area
-invariant-loop-area l = AsksForAll l.asked (take l.area-index l.areas)
