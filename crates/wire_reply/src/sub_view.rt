@@ -7,7 +7,7 @@ use crate::members::{put_flag, put_number, put_text};
 use entity_core::entity_id::EntityId;
 use entity_core::nature::Kind;
 use policy_core::sub_view::{EntityIds, SubView, SubViews};
-use serde_json::{Map, Value};
+use serde_json::{Map, Value, put};
 use std::alloc::{AllocError, Global};
 
 fn id_json(alloc: Global, id: EntityId) -> Result<Value, AllocError>
