@@ -82,7 +82,7 @@ Answers (Does page.Stop) health text =
 Answers (Does page.Backup) health text =
     text ≡ text_of (status_of (Does page.Backup) health) (type_of None) None (codes "no such path\n")
 Answers (Does page.Airspace) health text =
-    text ≡ text_of (status_of (Does page.Airspace) health) (type_of None) None (codes "nothing is shown\n")
+    text ≡ text_of (status_of (Does page.Airspace) health) (type_of None) None (codes "no snapshot\n")
 Answers (Refuses p) health text =
     (body : List ℕ) × (text ≡ text_of (status_of (Refuses p) health) (type_of None) (Some p) body)
 Answers Unknown health text =

@@ -175,9 +175,15 @@ pub fn answer(
             status,
             None,
             None,
-            "nothing is shown\n",
+            "no snapshot\n",
         ),
-        AdminRequest::Refuses(page) => whole(alloc, status, None, Some(page), "no such method\n"),
+        AdminRequest::Refuses(page) => whole(
+            alloc,
+            status,
+            None,
+            Some(page),
+            "method not allowed\n",
+        ),
         AdminRequest::Unknown => whole(alloc, status, None, None, "no such path\n"),
     }
 }
@@ -198,5 +204,5 @@ pub fn backup_answer(alloc: Global, backup: BackupResult) -> Result<Vec<u8>, All
 
 /// Returns the response to a request that breaks a protocol rule.
 pub fn refusal(alloc: Global, rule: WireRule) -> Result<Vec<u8>, AllocError> {
-    whole(alloc, rule.status(), None, None, "no such request\n")
+    whole(alloc, rule.status(), None, None, "invalid request\n")
 }
