@@ -1,10 +1,10 @@
 #!/usr/bin/env python3
-"""A client of the service, by the standard library alone.
+"""A client of the service that needs only the standard library.
 
   examples/client.py PORT
 
-declares flights of two suppliers in one cell, over a service that listens on that port with the tokens of
-examples/tokens.toml. Whoever is told that OVNs are missing from its key asks for them and tries again."""
+It declares flights of two USSs in one cell. The service listens on that port with the tokens of examples/tokens.toml. If
+OVNs are missing from the key of a put, the client asks for them and tries again."""
 import contextlib
 import http.client
 import json
@@ -18,7 +18,7 @@ MOST_TRIES = 5
 
 
 class Refused(Exception):
-    """The service answered with a status that was not asked for."""
+    """The service returned another status than 200 or 201."""
 
     def __init__(self, status, answer):
         super().__init__(f"{status} {answer['message']}")
@@ -26,15 +26,14 @@ class Refused(Exception):
 
 
 class Client:
-    """One supplier. Connections are served one after the other, so one that is kept open keeps all others waiting:
-    each request has its own."""
+    """A client of one USS. For brevity each request has a connection of its own; a real client keeps connections open."""
 
     def __init__(self, port, token):
         self.port = port
         self.fields = {"Authorization": f"Bearer {token}", "Connection": "close"}
 
     def ask(self, method, path, value=None):
-        """The value that is answered; `Refused` where the status is not one of success."""
+        """Returns the value of the response. Raises `Refused` if the status is not one of success."""
         body = None if value is None else json.dumps(value).encode()
         with contextlib.closing(http.client.HTTPConnection("127.0.0.1", self.port, timeout=60)) as connection:
             connection.request(method, path, body, self.fields)
@@ -58,8 +57,8 @@ class Client:
         return self.ask("PUT", f"{INTENTS}/{path}", {**flight, "key": key})["operational_intent_reference"]
 
     def declare(self, path, flight, ovn_of):
-        """Puts a flight at `ID` (a new one) or at `ID/OVN` (another form of it). `ovn_of` asks the manager of a
-        reference for its OVN; only the reference's own supplier is told it by the service."""
+        """Puts a flight at `ID` (a creation) or at `ID/OVN` (an update). `ovn_of` asks the manager of a reference for its
+        OVN, which the service shows to no other USS."""
         key = []
         for _ in range(MOST_TRIES):
             try:
@@ -79,7 +78,7 @@ def main(port):
     volume = {"cells": ["89c25904"], "altitude_lower": 0, "altitude_upper": 1200, "time_start": now, "time_end": now + 3600}
 
     def ovn_of(reference):
-        # a real client asks the supplier at the reference's `uss_base_url`; here it is in the same program
+        # a real client asks the manager at the `uss_base_url`; here it is in the same program
         return suppliers[reference["manager"]].read(reference["id"])["ovn"]
 
     for number in range(4):

@@ -1,5 +1,5 @@
-"""Prints of a program its manual page or its completions for bash, from what its --help says and docs/OPERATE.md, or the manual page
-of the gateway, of what its --help says and its README.
+"""Prints the manual page of `dss`, its completions for bash, or the manual page of the gateway. They are made from the --help of
+the program, and the pages also from docs/OPERATE.md and gateway/README.md.
 
   manual.py page|completions|gateway PROGRAM VERSION"""
 import pathlib
@@ -8,7 +8,10 @@ import subprocess
 import sys
 
 TOP = pathlib.Path(__file__).resolve().parent.parent
-ABOUT = "discovery and synchronization service for drone traffic suppliers"
+ABOUT = "discovery and synchronization service for drone traffic"
+# the parts of a document that repeat the --help of the program, and other comments
+REPEATED, COMMENT = re.compile(r"(?s)<!-- (?:commands|options): .*?<!-- end -->\n"), re.compile(r"<!-- .*? -->\n")
+PICTURE, FENCED = re.compile(r"!\[[^\]]*\]\([^)]*\)\n"), re.compile(r"(?ms)^```\w*\n(.*?)^```\n")
 
 
 def help_of(program, *words):
@@ -22,26 +25,26 @@ def section(text, name):
 
 
 def commands(program):
-    """The program's commands, but for that which prints help."""
+    """The commands of the program except `help`."""
     names = [it.split()[0] for it in section(help_of(program), "Commands") if re.match(r"  \w", it)]
     return [it for it in names if it != "help"]
 
 
 def options(text):
-    """The options of a help text, each with whether it takes a file or a folder."""
-    return {it[1]: it[2] in ("FILE", "FOLDER") for line in section(text, "Options") if (it := re.search(r"(--[\w-]+)(?: <(\w+)>)?", line))}
+    """The options of a help text, each with whether it takes a file or a directory."""
+    return {it[1]: it[2] in ("FILE", "DIR") for line in section(text, "Options") if (it := re.search(r"(--[\w-]+)(?: <(\w+)>)?", line))}
 
 
 def plain(text):
-    """Text of a document, in which no sign is one of the page's."""
+    """Text of a document, with the signs escaped that have a meaning in a manual page."""
     text = text.replace("\\", "\\e").replace("-", "\\-")
     return "\\&" + text if text.startswith((".", "'")) else text
 
 
 def words_of(text):
-    """A line of Markdown: code is bold, and of a link stands the text."""
+    """A line of Markdown: code and strong text become bold, and a link becomes its text."""
     text = re.sub(r"\[([^\]]*)\]\([^)]*\)", r"\1", text)
-    parts = text.split("`")
+    parts = re.split(r"\*\*|`", re.sub(r"\*\*(.*?)\*\*", lambda it: f"**{it[1].replace('`', '')}**", text))
     return "".join(rf"\fB{plain(it)}\fR" if at % 2 else plain(it) for at, it in enumerate(parts))
 
 
@@ -50,9 +53,11 @@ def as_it_is(lines):
 
 
 def page_of(document):
-    """A document in Markdown as sections of a manual page, without its title and what stands above its first heading."""
+    """A document in Markdown as sections of a manual page, without its title and the text above its first heading."""
     page, block = [], []
-    for line in [*document.partition("\n## ")[1:][1].splitlines(), ""]:
+    document = PICTURE.sub("", COMMENT.sub("", REPEATED.sub("", document)))
+    document = FENCED.sub(lambda it: re.sub(r"(?m)^", "    ", it[1].rstrip("\n")) + "\n", document)
+    for line in [*document.partition("\n## ")[2].splitlines(), ""]:
         if block and line.startswith("    "):
             block.append(line[4:])
             continue
@@ -74,9 +79,11 @@ def page_of(document):
         elif line.startswith("|"):
             cells = [it.strip() for it in line.strip("|").split(" | ")]
             if not set(line) <= set("|- :"):
-                page += [".TP", words_of(cells[0].strip("| ")), words_of(" ".join(cells[1:]).strip("| ")) or "\\&"]
+                page += [".TP", words_of(cells[0].strip("| ")), words_of("; ".join(it for it in (cell.strip("| ") for cell in cells[1:]) if it)) or "\\&"]
         elif line.startswith("- "):
             page += [".IP \\(bu 2", words_of(line[2:])]
+        elif found := re.match(r"(\d+\.) (.*)", line):
+            page += [f".IP {found[1]} 4", words_of(found[2])]
         else:
             page.append(words_of(line.strip()) if line.strip() else ".PP")
     return page + (as_it_is(block) if block else [])

@@ -1,4 +1,4 @@
-"""Two suppliers that meet, as a text of SVG: who asks whom, and what comes back.
+"""Two USSs whose flights conflict, as a text of SVG: who asks whom, and what comes back.
 
 The answers of the service are looked up in examples/meeting.answers, of the first three requests of that example. Where their statuses
 are not those that are drawn, nothing is drawn."""
@@ -8,18 +8,18 @@ import re
 
 TOP = pathlib.Path(__file__).resolve().parent.parent
 # the lines from left to right: whose each is, and what it is below that
-WHO = [("Supplier A", "flies at nine"), ("dss", "who plans where, and in which version"), ("Supplier B", "wants to fly there, too")]
+WHO = [("USS A", "flies at nine"), ("dss", "knows who plans where and when"), ("USS B", "plans to fly there, too")]
 A, DSS, B = range(3)
 # each from whom, to whom, and what is said; what the service answers begins with its status
 SAID = [
-    (A, DSS, "my flight a1: these cells, heights, times"),
-    (DSS, A, "201: kept. Its OVN is 0c8b.."),
+    (A, DSS, "my flight a1: these cells, altitudes, times"),
+    (DSS, A, "201: stored. Its OVN is 0c8b.."),
     (B, DSS, "my flight b1: the same place and time"),
     (DSS, B, "409: you must know the flight a1 of A"),
-    (B, A, "what do you fly there? (past dss)"),
+    (B, A, "what do you fly there? (not through dss)"),
     (A, B, "the flight's details, and its OVN 0c8b.."),
     (B, DSS, "b1, planned around a1, with the key 0c8b.."),
-    (DSS, B, "201: kept. Its OVN is da59.."),
+    (DSS, B, "201: stored. Its OVN is da59.."),
 ]
 # the distance of lines, of rows, the margins, and the boxes above
 LANE, ROW, MARGIN, TOP_BOX, WIDE_BOX = 330, 40, 140, 52, 250

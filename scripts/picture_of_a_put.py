@@ -1,22 +1,25 @@
-"""The way of a PUT of an operational intent in `dss serve`, as a text of SVG, read from the sources.
+"""The path of a PUT of an operational intent in `dss serve --db`, as a text of SVG, read from the sources.
 
-What is drawn is a list of functions, each below one that calls it. Where a function stands, and what is said of it, is read from the
-sources; that the one calls the other, itself or by functions of its crate, is looked for there. Where it is not so, nothing is drawn."""
+It draws a list of functions, each below one that calls it. The crate of a function, and what is said of it, is read
+from the sources. That the one calls the other, itself or by functions of its crate, is looked for there: otherwise
+nothing is drawn."""
 import functools
 import html
 import pathlib
 import re
 import textwrap
 
+from picture_of_crates import LAYERS, layer_of
+
 TOP = pathlib.Path(__file__).resolve().parent.parent
-# each a step in, below a function that calls it: the file and the function
-WAY = """
+# each a step in, below a function that calls it: the file and the function, after the crate where two have both
+PATH = """
 serve::serve_clients
   event_loop::run_once
     client_connection::turn
       client_io::receive
       connection::advance
-        buffered::next_held
+        buffered::next_buffered
           rest::head_so_far
         call::ask
           routes::find
@@ -27,59 +30,64 @@ serve::serve_clients
           early::early
           decide::decide
             look_up::look_up
-              indexed::entity
-              indexed_subscriptions::subscription
+              quota_space::entity
+                reads::entity
+                  indexed::entity
             standing::standing
             needed::needed_with
-              indexed::meeting
+              reads::meeting
+                indexed::meeting
             needed::missing_from
               missing::missing
           effects::prepare
             ovn::ovn_of
             indexed_subscriptions::for_kind
             notice::notices_of
-          changes::enqueue
-            memory::replicate
+          space_quota::changes::apply
+            usage_table::delta
+            space_mirror::changes::enqueue
+              memory::replicate
         text::response_text
           answer::reply_text
     event_loop::commit_batch
       service::commit
-        changes::commit
-          batch::commit_batch
-            put::put_entity
-            notify::notify_all
+        quota_space::commit
+          space_mirror::changes::commit
+            space_sql::batch::apply_batch
+              space_sql_write::batch::commit_batch
+                put::put_entity
+                notify::notify_all
       client_connection::tell
         connection::release_deferred
         client_io::send
 """
-# where a part of the way begins, and what it is
+# where a part of the path begins, and its title
 PARTS = {
-    "serve::serve_clients": "all connections",
-    "event_loop::run_once": "a round of their calls",
-    "client_connection::turn": "a turn of one of them",
-    "connection::advance": "the next request, answered",
-    "buffered::next_held": "a whole request",
-    "call::ask": "the call that it makes",
-    "early::early": "the rules that look at the call alone",
-    "look_up::look_up": "what the call names, from the copy in memory",
-    "standing::standing": "the rules on what was found",
-    "needed::needed_with": "the key",
-    "effects::prepare": "the change and the answer, made",
-    "changes::enqueue": "the change is seen, and waits",
-    "text::response_text": "the answer, held back",
-    "event_loop::commit_batch": "the end of the round",
-    "batch::commit_batch": "one transaction, one sync",
-    "client_connection::tell": "and each is answered",
+    "serve::serve_clients": "All connections",
+    "event_loop::run_once": "One iteration of the event loop",
+    "client_connection::turn": "The turn of a client",
+    "connection::advance": "Its next request",
+    "call::ask": "The call of the request",
+    "early::early": "Stateless rules",
+    "look_up::look_up": "What the call names, from the mirror",
+    "standing::standing": "Stateful rules",
+    "needed::needed_with": "The key",
+    "effects::prepare": "Change and answer, prepared",
+    "space_quota::changes::apply": "The quota, then the mirror: the change is pending",
+    "text::response_text": "The response, deferred",
+    "event_loop::commit_batch": "The end of the batch",
+    "space_sql::batch::apply_batch": "The SQL space: one transaction, one sync",
+    "client_connection::tell": "The response, sent",
 }
 # the columns: the crates of each, by how their names begin
 LANES = {
-    "the wire": ("dss_", "admin_", "wire_", "token_conf"), "the service": ("service_",), "the rules": ("policy_", "entity_"),
-    "tables and copy": ("space_",),
+    "server": ("dss_",), "wire": ("wire_", "token_conf"), "service": ("service_",), "policy": ("policy_", "entity_"),
+    "quota": ("space_quota",), "mirror": ("space_mirror", "space_memory"), "SQL space": ("space_sql",),
 }
 FUNCTION = re.compile(r"^( *)(?:pub(?:\(\w+\))? )?fn (\w+)", re.M)
 COMMENT = re.compile(r"((?:^ *//.*\n)+)(?: *#.*\n)*\Z", re.M)
 # a row, a column, a step within a column, a box, and what stands beside
-HIGH, LANE, STEP, WIDE, BOX, MARGIN, SAID = 38, 170, 12, 152, 30, 12, 640
+HIGH, LANE, STEP, WIDE, BOX, MARGIN, SAID = 36, 136, 9, 126, 30, 12, 470
 
 
 @functools.cache
@@ -99,17 +107,19 @@ def functions():
 
 def place(step):
     """The one place of a function in the sources: its crate, its file, its name."""
-    file, name = step.split("::")
-    found = [it for it in functions() if it[1:] == (file, name)]
+    *crate, file, name = step.split("::")
+    found = [it for it in functions() if it[1:] == (file, name) and it[0] in (crate or [it[0]])]
     if len(found) != 1:
         raise ValueError(f"{len(found)} crates have a function {step}")
     return found[0]
 
 
 def said_of(step):
-    """The first sentence of what the source says of a function."""
-    comment = " ".join(it.strip().lstrip("/").strip() for it in functions()[place(step)][0][0].splitlines())
-    return re.split(r"(?<=[.]) ", comment)[0]
+    """The first sentence of what the source says of a function, or of the call of a space that it is."""
+    comments = [functions()[it][0][0] for it in (place(step), *named("space_core", place(step)[2]))]
+    comment = next((it for it in comments if it), "")
+    text = " ".join(it.strip().lstrip("/").strip() for it in comment.splitlines()).replace("`", "")
+    return re.split(r"(?<=[.]) ", text)[0]
 
 
 @functools.cache
@@ -120,15 +130,16 @@ def named(crate, name):
 
 @functools.cache
 def spaces():
-    """The calls of the traits of spaces, and the crates of the space over tables and of its copy in memory."""
-    calls = [name for crate, file, name in functions() if crate == "space_core" and file in ("space", "batch", "group_commit")]
+    """The calls of the traits of spaces, and the crates of the spaces that `serve --db` puts on one another."""
+    traits = {("space_core", it) for it in ("space", "batch", "group_commit")}
+    calls = [name for crate, file, name in functions() if (crate, file) in traits]
     sources = sorted(TOP.glob("crates/*/src/*.rt"))
-    is_space = re.compile(r"Space for (SqlSpace|Mirrored|MemorySpace)\b")
+    is_space = re.compile(r"Space for (QuotaSpace|Mirrored|MemorySpace|SqlSpace)\b")
     return calls, [it.parent.parent.name for it in sources if is_space.search(it.read_text())]
 
 
 def calls(above, below):
-    """Whether a function calls another one, itself or by others of its crate; a call of a space goes to the one over tables and its copy."""
+    """Whether a function calls another one, itself or by others of its crate; a call of a space goes to any of them."""
     of_space, over = spaces()
     seen, open_ = set(), [place(above)]
     while open_:
@@ -144,10 +155,10 @@ def calls(above, below):
     return False
 
 
-def way():
-    """The steps of the way, each with its depth and the place of the step above it."""
+def path():
+    """The steps of the path, each with the place of the step above it."""
     found, above = [], []
-    for line in WAY.strip().splitlines():
+    for line in PATH.strip().splitlines():
         depth, step = (len(line) - len(line.lstrip())) // 2, line.strip()
         above[depth:] = [len(found)]
         found.append((step, above[depth - 1] if depth else None))
@@ -161,9 +172,9 @@ def lane_of(crate):
 def laid():
     """Of each step where its box begins: below what calls it, and in its own column."""
     x, inner = [], []
-    for step, above in way():
+    for step, above in path():
         lane = lane_of(place(step)[0])
-        same = above is not None and lane_of(place(way()[above][0])[0]) == lane
+        same = above is not None and lane_of(place(path()[above][0])[0]) == lane
         inner.append(inner[above] + 1 if same else 0)
         x.append(MARGIN + lane * LANE + inner[-1] * STEP)
     return x
@@ -171,7 +182,7 @@ def laid():
 
 def picture():
     """The text of the picture."""
-    steps, x = way(), laid()
+    steps, x = path(), laid()
     for step, above in steps:
         if above is not None and not calls(steps[above][0], step):
             raise ValueError(f"{steps[above][0]} does not call {step}")
@@ -180,28 +191,30 @@ def picture():
         top += 22 if step in PARTS else 0
         y.append(top)
         top += HIGH
-    beside = MARGIN + len(LANES) * LANE + 16
+    beside = MARGIN + len(LANES) * LANE + 10
     wide = beside + SAID
     lines = [
-        f'<svg xmlns="http://www.w3.org/2000/svg" width="{wide}" height="{top + MARGIN}" font-family="sans-serif" font-size="12">',
+        f'<svg xmlns="http://www.w3.org/2000/svg" width="{wide}" height="{top + MARGIN}" '
+        'font-family="sans-serif" font-size="12">',
         f'<rect width="{wide}" height="{top + MARGIN}" fill="white"/>',
     ]
     for at, name in enumerate(LANES):
-        left = MARGIN + at * LANE
-        lines += [f'<rect x="{left - 4}" y="{MARGIN}" width="{LANE - 8}" height="{top - MARGIN}" fill="#f5f7f9"/>']
-        lines += [f'<text x="{left + LANE / 2 - 8:.0f}" y="{MARGIN + 16}" text-anchor="middle" font-weight="bold">{name}</text>']
+        left, style = MARGIN + at * LANE, 'text-anchor="middle" font-weight="bold"'
+        lines += [f'<rect x="{left - 4}" y="{MARGIN}" width="{LANE - 4}" height="{top - MARGIN}" fill="#f5f7f9"/>']
+        lines += [f'<text x="{left + LANE / 2 - 6:.0f}" y="{MARGIN + 16}" {style}>{name}</text>']
     for at, (_, above) in enumerate(steps):
         if above is not None:
             down = f"M{x[above] + 5} {y[above] + BOX}V{y[at] + BOX // 2}H{x[at]}"
             lines += [f'<path d="{down}" fill="none" stroke="#9aa7b4"/>']
     for at, (step, _) in enumerate(steps):
         crate, _, name = place(step)
+        _, fill, line = LAYERS[layer_of(crate)]
         if step in PARTS:
             lines += [f'<text x="{beside}" y="{y[at] - 6}" font-weight="bold">{PARTS[step]}</text>']
         size = WIDE - (x[at] - MARGIN) % LANE
-        lines += [f'<rect x="{x[at]}" y="{y[at]}" width="{size}" height="{BOX}" rx="4" fill="#e6eef6" stroke="#2b5c8a"/>']
+        lines += [f'<rect x="{x[at]}" y="{y[at]}" width="{size}" height="{BOX}" rx="4" fill="{fill}" stroke="{line}"/>']
         lines += [f'<text x="{x[at] + 6}" y="{y[at] + 13}">{name}</text>']
         lines += [f'<text x="{x[at] + 6}" y="{y[at] + 25}" font-size="9" fill="#56687a">{crate}</text>']
-        for row, text in enumerate(textwrap.wrap(said_of(step), 100, max_lines=2, placeholder=" ..")):
+        for row, text in enumerate(textwrap.wrap(said_of(step), 74, max_lines=2, placeholder=" ..")):
             lines += [f'<text x="{beside}" y="{y[at] + 13 + row * 14}">{html.escape(text, quote=False)}</text>']
     return "\n".join([*lines, "</svg>", ""])

@@ -32,7 +32,7 @@ def the_package(files, built):
     asked = re.findall(r" (--[\w-]+)", re.search(r"(?m)^ExecStart=/usr/bin/dss-gateway serve(.*)$", unit)[1])
     assert asked and all(it in said for it in asked), asked
     page = gzip.decompress((root / "usr/share/man/man1/dss-gateway.1.gz").read_bytes()).decode()
-    assert "dss\\-gateway tokens" in page and ".SH \"WHAT MAPS HOW\"" in page, page[:1000]
+    assert "dss\\-gateway tokens" in page and ".SH \"TRANSLATION\"" in page, page[:1000]
 
 
 # It takes the folder with the programs.

@@ -188,7 +188,7 @@ def refusals():
         found = []
         for name, target, status, body in table:
             found += difference(name, started.asked(asks("POST", target)), said(status, body))
-        found += difference("a GET", started.asked(asks("GET", "/backup?name=a")), said(405, b"no such method\n", allow="POST"))
+        found += difference("a GET", started.asked(asks("GET", "/backup?name=a")), said(405, b"method not allowed\n", allow="POST"))
         found += difference("what was made", started.all(), [])
         longest = 64 * "a"
         found += difference("a name", started.asked(backs_up("Az-09_"))[:12], b"HTTP/1.1 200")

@@ -1,15 +1,13 @@
-"""Each name of code in the documents is one of the repository's, each link leads somewhere, the pictures are of what is there, and
-the first line of each source, definition, script and test says what it has.
+"""Each name of code in the documents is one of the repository's, each link leads somewhere, the pictures and the index
+of contracts are of what is there, and the first line of each source, definition, script and test says what it has.
 
 What stands in backquotes is looked at word by word: a file must be there, the parts of `crate::item` must be made in
 that crate and those of `Type::call` in one file, an edit must stand among the edits of its crate, and any other name
 must be made in some code, outside comments. Words in upper case stand for others. Requests, answers and paths of HTTP
 are looked at by other tests.
 
-A name that is said to be in a file must be made there. In the tables of what is proved one must be made in the crate
-that it is said of: in PROOF crate by crate that of the row; in its index, of the contracts, the crate in brackets behind them or that
-of `crate::module` before them, and of the definitions the crate that stands with their file, or else one of those of the
-contracts."""
+A name that is said to be in a file must be made there. Each claim of PROOF names public functions, types or laws, after
+their crate. Each must have a contract in the index of contracts, which scripts/contracts makes from the sources."""
 import functools
 import json
 import os
@@ -20,6 +18,8 @@ import runpy
 from program import TOP
 
 DOCUMENTS = sorted(it for folder in ("", "docs/", "bench/", "deploy/", "gateway/", "qualify/") for it in TOP.glob(f"{folder}*.md"))
+# What is made of the sources, with names of the kit in it.
+MADE = {TOP / "docs" / "PROOF_INDEX.md"}
 # How a comment begins, by the end of a file's name.
 COMMENTS = {".rt": "//", ".c": "//", ".antt": "--"} | dict.fromkeys(("", ".py", ".bash", ".txt", ".yaml", ".toml", ".cfg", ".conf", ".service"), "#")
 FILE = re.compile(r".+\.(rt|antt|py|bash|c|txt|yaml|toml|md|http|edit|json|answers|any)")
@@ -146,103 +146,65 @@ def words_in(document):
 def unknown():
     """The names in the documents that nothing in the repository has."""
     found = []
-    for document in DOCUMENTS:
+    for document in (it for it in DOCUMENTS if it not in MADE):
         for number, name in words_in(document):
             if name and not is_name(name):
                 found += [f"{document.relative_to(TOP)}:{number}: nothing is named {name}"]
     return found
 
 
-def of_crate(crate, folder="src"):
-    """The names that the sources, or the definitions, of a crate make, also those for which it has an `impl`."""
-    paths = [path for path in files() if path.startswith(f"crates/{crate}/{folder}/")]
-    return frozenset().union(*map(names_of, paths), *map(impls_in, paths))
-
-
-def is_made_in(crate, name):
-    """Whether a crate makes a name, or both parts of `Type::call`."""
-    return all(it in of_crate(crate) for it in re.findall(r"\w+", name))
-
-
-def is_crate(word):
-    return is_path(f"crates/{word}/src")
-
-
-def said_of_crates(cell):
-    """The names in a cell of contracts, each with the crate that it is said of, or None."""
-    pairs, waiting, before, last = [], [], None, None
-    for sign, opened, word in re.findall(r"(;)|(\()?`([^`]+)`", cell):
-        crate = word.partition("::")[0]
-        if sign:
-            before = None
-        elif opened and is_crate(crate):
-            pairs, waiting, last = pairs + [(it, crate) for it in waiting], [], crate
-        elif "::" in word and is_crate(crate):
-            before = last = crate
-        elif not FILE.fullmatch(word):
-            pairs, waiting = (pairs + [(word, before)], waiting) if before else (pairs, [*waiting, word])
-    return pairs + [(it, last) for it in waiting]
-
-
-def is_defined(name, file, crates):
-    """Whether a definition of that name stands in such a file of one of the crates, or in any file of theirs."""
-    if file is None:
-        return any(name in of_crate(it, "specs") for it in crates)
-    return any(name in names_of(path) for it in crates for path in files() if path == f"crates/{it}/specs/{file}")
-
-
-def undefined(cell, crates):
-    """The names in a cell of definitions that are not where the cell says."""
-    parts = [re.findall(r"(\bof )?`([^`]+)`", it) for it in cell.split(";")]
-    found = []
-    for part in parts:
-        told = [word for of, word in part if is_crate(word) and of]
-        file = None
-        for of, word in part:
-            if FILE.fullmatch(word):
-                file = word
-                found += [] if any(f"crates/{it}/specs/{word}" in files() for it in told or crates) else [word]
-            elif not (of and is_crate(word)) and not is_defined(word, file, told or crates):
-                found += [word]
-    return found
-
-
 def elsewhere():
     """The names that a document says are in a file, and that the file does not make."""
     found, said = [], re.compile(r"((?:`[\w:]+`(?:,\s+|\s+and\s+)?)+)\s+in\s+`([\w/]+\.(?:antt|rt))`")
+    linked = re.compile(r"\[`(\w+)`\]\(\.\./([\w/]+\.antt)\)")
     for document in DOCUMENTS:
         for names, file in said.findall(document.read_text()):
             made = frozenset().union(*(names_of(path) for path in files() if f"/{path}".endswith(f"/{file}")))
             unmade = set(re.findall(r"\w+", " ".join(re.findall(r"`([^`]+)`", names)))) - made
             found += [f"{document.relative_to(TOP)}: {file} has no {it}" for it in sorted(unmade)]
+        for name, file in () if document in MADE else linked.findall(document.read_text()):
+            if file not in files() or name not in names_of(file):
+                found += [f"{document.relative_to(TOP)}: {file} has no {name}"]
     return found
 
 
-def rows_of(document, begin):
-    """The rows of a document's table below a line that begins so: the number of the line, and the cells."""
-    lines = (TOP / document).read_text().splitlines()
-    first = next(at for at, it in enumerate(lines) if it.startswith(begin))
-    for number, line in enumerate(lines[first + 2 :], first + 3):
-        if not line.startswith("|"):
-            return
-        yield f"{document}:{number}", [it.strip() for it in line.strip("|").split("|")]
+@functools.cache
+def contracts():
+    """What scripts/contracts reads of the sources."""
+    return runpy.run_path(str(TOP / "scripts" / "contracts"))
 
 
-def misplaced():
-    """The names in the tables of what is proved that are not made in the crate that they are said of."""
-    found, crates, rows = [], (), 0
-    for place, (crate, *cells) in rows_of("docs/PROOF.md", "| crate | beyond safety"):
-        rows += 1
-        names = [it for cell in cells for it in re.findall(r"`([^`]+)`", cell)]
-        found += [f"{place}: {crate} has no {it}" for it in names if not is_made_in(crate.strip("`"), it)]
-    for place, (_, definitions, contracts) in rows_of("docs/PROOF.md", "| promise | definition"):
-        rows += 1
-        pairs = said_of_crates(contracts)
-        crates = {it for _, it in pairs if it} | set(re.findall(r"`(\w+)::\w+`", contracts)) if "`" in contracts else crates
-        found += [f"{place}: of which crate is {it}?" for it, crate in pairs if crate is None]
-        found += [f"{place}: {crate} has no {it}" for it, crate in pairs if crate and not is_made_in(crate, it)]
-        found += [f"{place}: no {it} where it is said" for it in undefined(definitions, [it for it in crates if is_crate(it)])]
-    return found + elsewhere() + ([] if rows > 100 else [f"{rows} rows are no such tables"])
+@functools.cache
+def stated(crate):
+    """The public functions of a crate that have a contract, each also by its type."""
+    names = [it.name.partition(" as ")[0] for it in contracts()["items"](crate)]
+    return {*names, *(it.partition("::")[0] for it in names)}
+
+
+def claims():
+    """The rows of the tables of claims in PROOF: of each its line, and the contracts with their crates."""
+    text = (TOP / "docs" / "PROOF.md").read_text()
+    first, last = text.index("\n## Claims\n"), text.index("\n## Proved inside a crate\n")
+    for number, line in enumerate(text[first:last].splitlines(), text.count("\n", 0, first) + 1):
+        if line.startswith("|") and not line.startswith(("| claim | contract |", "|---")):
+            parts = re.findall(r"\[`(\w+)`\]\(PROOF_INDEX\.md#\w+\): ([^;|]*)", line.rpartition(" | ")[2])
+            yield number, [(crate, it) for crate, names in parts for it in re.findall(r"`([^`]+)`", names)]
+
+
+def unstated():
+    """The claims that name no contract, or one of no public function, and what a document says is in another file."""
+    rows = list(claims())
+    found = [f"docs/PROOF.md:{line}: no contract is named" for line, row in rows if not row]
+    pairs = [(line, *it) for line, row in rows for it in row]
+    found += [f"docs/PROOF.md:{line}: {crate} has no contract of {it}" for line, crate, it in pairs if it not in stated(crate)]
+    return found + elsewhere() + ([] if len(rows) > 70 else [f"{len(rows)} claims are not all"])
+
+
+def outdated():
+    """The pages that scripts/contracts makes from other sources."""
+    pages = contracts()["PAGES"].items()
+    old = [name for name, text in pages if text() != (TOP / "docs" / name).read_text()]
+    return [f"docs/{name} is another: run scripts/contracts" for name in old]
 
 
 def headless():
@@ -284,6 +246,6 @@ def pictures_are_drawn():
 
 
 CASES = {
-    "pictures": pictures_are_drawn, "names-in-docs": unknown, "names-in-tables": misplaced, "links-in-docs": dead_links,
-    "first-lines": headless,
+    "pictures": pictures_are_drawn, "names-in-docs": unknown, "names-in-tables": unstated, "links-in-docs": dead_links,
+    "first-lines": headless, "index-of-contracts": outdated,
 }

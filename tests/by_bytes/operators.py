@@ -94,7 +94,7 @@ def until_counted(started, name, number):
 def paths():
     """Each path by each method, and what is no request, also in pieces; a client that waits and one that is answered stay as they
     are."""
-    no_path, no_method, no_request = b"no such path\n", b"no such method\n", b"no such request\n"
+    no_path, no_method, no_request = b"no such path\n", b"method not allowed\n", b"invalid request\n"
     table = [
         ("health", HEALTH, said(200, SERVING)),
         ("health?", asks("GET", "/health?a=b"), said(200, SERVING)),

@@ -492,9 +492,9 @@ def older():
 
 
 def small_file():
-    """What docs/OPERATE.md says of a small file makes one: with the same rows and report, smaller, and with a copy in memory; one that
-    `VACUUM` made is taken without."""
-    text = (TOP / "docs" / "OPERATE.md").read_text().partition("### A small file again\n")[2]
+    """The commands of docs/OPERATE.md make a smaller file with the same rows and report, which gets a mirror; one that `VACUUM` made is
+    taken without."""
+    text = (TOP / "docs" / "OPERATE.md").read_text().partition("### Shrinking the database file\n")[2]
     block = re.search(r"(?m)^    \(umask(?:.*\n(?=    ))*.*$", text)[0].replace("./dss", BUILT)
     found = []
     with Swept() as room:

@@ -402,6 +402,17 @@ def kit_of_the_readme():
     return found
 
 
+def one_version():
+    """The version is the same in the changelog, the program and the document of the interface."""
+    places = {
+        "CHANGELOG.md": r"(?m)^## ([\d.]+)",
+        "crates/dss_args/src/version.rt": r'VERSION: &str = "([\d.]+)"',
+        "docs/openapi.yaml": r"(?m)^  version: ([\d.]+)$",
+    }
+    found = {path: re.findall(pattern, (TOP / path).read_text())[:1] for path, pattern in places.items()}
+    return [] if len(set(map(str, found.values()))) == 1 and all(found.values()) else [f"the versions are {found}"]
+
+
 CASES = {
     "first-answer-of-a-release": first_answer,
     "spoilt-release": spoilt,
@@ -414,4 +425,5 @@ CASES = {
     "gate-over-a-release": gates,
     "portable-program": portable,
     "kit-of-the-readme": kit_of_the_readme,
+    "one-version": one_version,
 }

@@ -17,7 +17,7 @@ from without_memory import FAULT
 
 JSON = "application/json"
 SEEDS, CALLS = (216, 47), 90
-NO_QUERY = said(400, b"no such query\n")
+NO_QUERY = said(400, b"invalid query\n")
 LOST = said(503, b"no mirror: dropped after a failed commit\n")
 NO_MEMORY = said(503, b"no mirror: out of memory\n")
 NO_SUBSCRIPTION = "00000000-0000-4000-8000-000000000000"
@@ -209,7 +209,7 @@ def queries():
             got = len(page["entities"]) + len(page["subscriptions"])
             found += difference(f"after {after}", got, len(rest))
         found += difference("an empty query", started.asked(asks("GET", "/airspace?")), started.asked(asks("GET", "/airspace")))
-        found += difference("POST", started.asked(asks("POST", "/airspace")), said(405, b"no such method\n", allow="GET"))
+        found += difference("POST", started.asked(asks("POST", "/airspace")), said(405, b"method not allowed\n", allow="GET"))
         return found
 
 

@@ -72,8 +72,8 @@ COMMAND_LINES = (
     (["cell"], 2, ""),
     (["cell", "1", "3"], 2, ""),
     # bytes that are no UTF-8
-    (["cell", "\udcff"], 2, "not UTF-8"),
-    (["\udcc3("], 2, "not UTF-8"),
+    (["cell", "\udcff"], 2, "not valid UTF-8"),
+    (["\udcc3("], 2, "not valid UTF-8"),
     (["cell", "--now", "1", "3"], 2, ""),
     (["run"], 2, ""),
     (["run", "--now", "1", "r"], 2, "--tokens <FILE>"),

@@ -15,5 +15,5 @@ words_of copies.Dropped = codes "no mirror: dropped after a failed commit\n"
 abbrev pub AnswersAirspace : {T : Type 0} → Result T NoMirror → (text : List ℕ) → Type 0
 AnswersAirspace (Ok shown) text =
     ((body : List ℕ) × (text ≡ text_of 200 (type_of (Some page.Airspace)) None body))
-    ⊎ (text ≡ text_of 400 (type_of None) None (codes "no such query\n"))
+    ⊎ (text ≡ text_of 400 (type_of None) None (codes "invalid query\n"))
 AnswersAirspace (Err why) text = text ≡ text_of 503 (type_of None) None (words_of why)

@@ -1,5 +1,5 @@
 -- The text of a response of the admin port.
-use Rattle.std.specs.Prelude.{◌≡◌, ◌==◌, ℕ, List, [], ◌++◌, if◌then◌else◌, Option, Some, None, codes, decimal, length}
+use Rattle.std.specs.Prelude.{◌≡◌, ℕ, List, [], ◌++◌, Option, Some, None, codes, length}
 use Rattle.admin_http.specs.declared.admin_route.AdminRoute.{AdminRoute}
 use Rattle.admin_http.specs.declared.admin_route.AdminRoute.TheVariants as page
 use Rattle.admin_http.specs.declared.admin_route.AdminRequest.{AdminRequest}
@@ -9,18 +9,7 @@ use Rattle.admin_http.specs.declared.admin_route.Health.TheVariants as state
 use Rattle.admin_http.specs.declared.backup.BackupResult.{BackupResult}
 use Rattle.admin_http.specs.AdminRequest.{method_of, status_of}
 use Rattle.admin_http.specs.BackupResult as backups
-
--- The reason phrase of a status.
-unfoldable pub reason_of : ℕ → List ℕ
-reason_of status =
-    if status == 200 then codes "OK"
-    else (if status == 404 then codes "Not Found"
-    else (if status == 405 then codes "Method Not Allowed"
-    else (if status == 409 then codes "Conflict"
-    else (if status == 413 then codes "Content Too Large"
-    else (if status == 431 then codes "Request Header Fields Too Large"
-    else (if status == 501 then codes "Not Implemented"
-    else (if status == 503 then codes "Service Unavailable" else codes "Bad Request")))))))
+use Rattle.wire_head.specs.Lines.{length_line, line, status_line}
 
 -- The media type of a body: the one that Prometheus defines for metrics, and JSON for the airspace.
 abbrev pub type_of : Option AdminRoute → List ℕ
@@ -30,16 +19,6 @@ type_of (Some page.Stop) = codes "text/plain; charset=utf-8"
 type_of (Some page.Backup) = codes "text/plain; charset=utf-8"
 type_of (Some page.Airspace) = codes "application/json"
 type_of None = codes "text/plain; charset=utf-8"
-
--- A line with its line end.
-abbrev pub line : List ℕ → List ℕ
-line text = text ++ codes "\r\n"
-
-unfoldable pub status_line : ℕ → List ℕ
-status_line status = line (codes "HTTP/1.1 " ++ decimal status ++ codes " " ++ reason_of status)
-
-unfoldable pub length_line : ℕ → List ℕ
-length_line size = line (codes "Content-Length: " ++ decimal size)
 
 unfoldable pub type_line : List ℕ → List ℕ
 type_line media = line (codes "Content-Type: " ++ media)
@@ -82,7 +61,7 @@ Answers (Does page.Stop) health text =
 Answers (Does page.Backup) health text =
     text ≡ text_of (status_of (Does page.Backup) health) (type_of None) None (codes "no such path\n")
 Answers (Does page.Airspace) health text =
-    text ≡ text_of (status_of (Does page.Airspace) health) (type_of None) None (codes "nothing is shown\n")
+    text ≡ text_of (status_of (Does page.Airspace) health) (type_of None) None (codes "no snapshot\n")
 Answers (Refuses p) health text =
     (body : List ℕ) × (text ≡ text_of (status_of (Refuses p) health) (type_of None) (Some p) body)
 Answers Unknown health text =

@@ -33,7 +33,7 @@ pub fn airspace_answer(
         Err(why) => return whole(alloc, 503, None, None, no_mirror_text(why)),
     };
     let Some(query) = PageQuery::read(query) else {
-        return whole(alloc, 400, None, None, "no such query\n");
+        return whole(alloc, 400, None, None, "invalid query\n");
     };
     let text = page_text(alloc, shown, query)?;
     whole(alloc, 200, Some(AdminRoute::Airspace), None, text.as_str())

@@ -1,7 +1,7 @@
 //! The responses of the admin port.
 ghost use Rattle.std.specs.Prelude.{◌≡◌, IfOk};
 ghost use Rattle.std.specs.String.{string_bytes};
-ghost use Rattle.admin_http.specs.Answer.{Answers, AnswersBackup, allow_line, front_of, length_line, reason_of, status_line, text_of, type_line, type_of, words_of};
+ghost use Rattle.admin_http.specs.Answer.{Answers, AnswersBackup, allow_line, front_of, text_of, type_line, type_of, words_of};
 ghost use Rattle.admin_http.specs.ServiceMetrics.{health_of};
 
 use crate::admin_route::{AdminRequest, AdminRoute, Health, request_status};
@@ -10,25 +10,8 @@ use crate::build::BuildInfo;
 use crate::metrics::metrics;
 use crate::service_metrics::ServiceMetrics;
 use std::alloc::{AllocError, Global};
+use wire_head::lines::{length_line, status_line};
 use wire_head::rule::WireRule;
-
-// Returns the reason phrase of a status.
-#[tactic(auto, unfolding(crate::specs::Answer::reason_of))]
-fn reason_of(status: u16) -> &'static str
-    ensures { result.now ≡ reason_of status }
-{
-    match status {
-        200 => "OK",
-        404 => "Not Found",
-        405 => "Method Not Allowed",
-        409 => "Conflict",
-        413 => "Content Too Large",
-        431 => "Request Header Fields Too Large",
-        501 => "Not Implemented",
-        503 => "Service Unavailable",
-        _ => "Bad Request",
-    }
-}
 
 // Returns the media type of a body.
 fn type_of(page: Option<AdminRoute>) -> &'static str
@@ -54,17 +37,6 @@ fn allow_line(alloc: Global, refused: Option<AdminRoute>) -> Result<String, Allo
     Ok(line)
 }
 
-// Returns the status line.
-#[tactic(auto, unfolding(crate::specs::Answer::status_line))]
-fn status_line(alloc: Global, status: u16) -> Result<String, AllocError>
-    ensures { IfOk result (λ text. string_bytes text ≡ status_line status) }
-{
-    let mut text = format!(in alloc; "HTTP/1.1 {status} ")?;
-    text.push_str(reason_of(status))?;
-    text.push_str("\r\n")?;
-    Ok(text)
-}
-
 // Returns the header with the media type of the body.
 #[tactic(auto, unfolding(crate::specs::Answer::type_line))]
 fn type_line(alloc: Global, media: &str) -> Result<String, AllocError>
@@ -74,14 +46,6 @@ fn type_line(alloc: Global, media: &str) -> Result<String, AllocError>
     text.push_str(media)?;
     text.push_str("\r\n")?;
     Ok(text)
-}
-
-// Returns the header with the length of the body.
-#[tactic(auto, unfolding(crate::specs::Answer::length_line))]
-fn length_line(alloc: Global, size: usize) -> Result<String, AllocError>
-    ensures { IfOk result (λ text. string_bytes text ≡ length_line size) }
-{
-    format!(in alloc; "Content-Length: {size}\r\n")
 }
 
 // Returns the head of the response.
@@ -175,9 +139,15 @@ pub fn answer(
             status,
             None,
             None,
-            "nothing is shown\n",
+            "no snapshot\n",
         ),
-        AdminRequest::Refuses(page) => whole(alloc, status, None, Some(page), "no such method\n"),
+        AdminRequest::Refuses(page) => whole(
+            alloc,
+            status,
+            None,
+            Some(page),
+            "method not allowed\n",
+        ),
         AdminRequest::Unknown => whole(alloc, status, None, None, "no such path\n"),
     }
 }
@@ -198,5 +168,5 @@ pub fn backup_answer(alloc: Global, backup: BackupResult) -> Result<Vec<u8>, All
 
 /// Returns the response to a request that breaks a protocol rule.
 pub fn refusal(alloc: Global, rule: WireRule) -> Result<Vec<u8>, AllocError> {
-    whole(alloc, rule.status(), None, None, "no such request\n")
+    whole(alloc, rule.status(), None, None, "invalid request\n")
 }

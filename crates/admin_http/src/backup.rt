@@ -82,7 +82,7 @@ pub(crate) fn backup_text(alloc: Global, backup: BackupResult) -> Result<String,
         BackupResult::WriteFailed => "failed: the backup directory cannot be written\n",
         BackupResult::ReadFailed => "failed: the database files cannot be read\n",
         BackupResult::TooManyChanges => "failed: the database changes too fast\n",
-        BackupResult::Memory => "not made: memory\n",
+        BackupResult::Memory => "failed: out of memory\n",
     };
     String::from_str(alloc, text)
 }

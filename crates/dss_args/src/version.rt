@@ -4,7 +4,7 @@
 pub const VERSION: &str = "0.2.0";
 
 /// The kit with which the program is proved and compiled.
-pub const KIT: &str = "rattle-kit-13b logic dac8208d650f15bf";
+pub const KIT: &str = "rattle-kit-13f logic dac8208d650f15bf";
 
 /// The version and the kit, as `--version` prints them after the program's name.
-pub(crate) const VERSION_TEXT: &str = "0.2.0 (rattle-kit-13b logic dac8208d650f15bf)";
+pub(crate) const VERSION_TEXT: &str = "0.2.0 (rattle-kit-13f logic dac8208d650f15bf)";

@@ -109,8 +109,8 @@ module _ {S M : Type 0} (g : spaces.Ghosts S) (k : settles.Ghosts S) (m : moment
   -- States that the service executed exactly these calls of requests, in one order for all clients.
   -- Each call was checked against one token table. The first table is that of the start. Each later
   -- one was read whole from the token file as it then was, and has the same salt.
-  -- The calls form batches. Each batch ended with a commit, which may have failed. A client whose
-  -- reply was deferred received it unchanged only if the changes were committed.
+  -- The calls form batches. Each batch ended with a commit, which may have failed. The reply due to
+  -- a client follows from that. What clients received is not stated.
   -- Purge chunks ran between batches. They removed only what had ended at least the retention
   -- before a time of the clock. Without a retention nothing was purged.
   -- Each call was made at a time of the clock, which returned no more than these results.

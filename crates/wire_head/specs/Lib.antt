@@ -3,6 +3,7 @@ pub mod Close
 pub mod Fields
 pub mod FinalHead
 pub mod Length
+pub mod Lines
 pub mod Rest
 pub mod Rule
 pub mod Target

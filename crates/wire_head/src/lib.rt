@@ -6,6 +6,7 @@ pub mod close;
 mod fields;
 pub mod laws;
 pub mod length;
+pub mod lines;
 pub mod rest;
 pub mod rule;
 pub mod target;

@@ -5,7 +5,8 @@ use Rattle.std.specs.List.{concat}
 use Rattle.wire_head.specs.declared.rule.WireRule.{WireRule}
 use Rattle.wire_http.specs.declared.end.End.{End}
 use Rattle.wire_http.specs.declared.end.End.TheVariants as ends
-use Rattle.wire_http.specs.Text.{end_texts, front_of, message, rule_text, status_line}
+use Rattle.wire_head.specs.Lines.{status_line}
+use Rattle.wire_http.specs.Text.{end_texts, front_of, message, rule_text}
 
 -- Nothing was written.
 pub Appends-none : (a : Option (List ℕ)) → Appends a a []

@@ -1,5 +1,5 @@
 -- The text of a response (RFC 9112, section 2.1; this project's profile).
-use Rattle.std.specs.Prelude.{◌==◌, ℕ, Bool, true, List, [], ◌∷◌, ◌++◌, length, codes, if◌then◌else◌, Option, Some, None}
+use Rattle.std.specs.Prelude.{ℕ, Bool, true, List, [], ◌∷◌, ◌++◌, length, codes, if◌then◌else◌, Option, Some, None}
 use Rattle.std.specs.Fmt.{decimal}
 use Rattle.policy_core.specs.declared.rule.Rule.{Rule}
 use Rattle.policy_core.specs.declared.rule.Rule.TheVariants.{Method, Token}
@@ -12,27 +12,7 @@ use Rattle.wire_http.specs.declared.end.End.{End}
 use Rattle.wire_http.specs.declared.end.End.TheVariants as ends
 use Rattle.wire_head.specs.declared.rule.WireRule.{WireRule}
 use Rattle.wire_head.specs.Rule as rule
-
--- A line with CR and LF.
-abbrev pub line : List ℕ → List ℕ
-line text = text ++ codes "\r\n"
-
--- The reason phrase of a status.
-unfoldable pub reason_of : ℕ → List ℕ
-reason_of status =
-    if status == 200 then codes "OK"
-    else (if status == 201 then codes "Created"
-    else (if status == 400 then codes "Bad Request"
-    else (if status == 401 then codes "Unauthorized"
-    else (if status == 403 then codes "Forbidden"
-    else (if status == 404 then codes "Not Found"
-    else (if status == 405 then codes "Method Not Allowed"
-    else (if status == 409 then codes "Conflict"
-    else (if status == 413 then codes "Content Too Large"
-    else (if status == 431 then codes "Request Header Fields Too Large"
-    else (if status == 500 then codes "Internal Server Error"
-    else (if status == 501 then codes "Not Implemented"
-    else (if status == 503 then codes "Service Unavailable" else []))))))))))))
+use Rattle.wire_head.specs.Lines.{length_line, line, status_line}
 
 -- The methods that the endpoint allows.
 abbrev pub methods_text : Option Endpoint → List ℕ
@@ -48,12 +28,6 @@ rule_field endpoint _ = []
 abbrev pub reply_field : Option Endpoint → Reply → List ℕ
 reply_field endpoint (Denied rule missing) = rule_field endpoint rule
 reply_field endpoint reply = []
-
-unfoldable pub status_line : ℕ → List ℕ
-status_line status = line (codes "HTTP/1.1 " ++ decimal status ++ codes " " ++ reason_of status)
-
-unfoldable pub length_line : ℕ → List ℕ
-length_line size = line (codes "Content-Length: " ++ decimal size)
 
 -- The field of a response after which the connection closes.
 unfoldable pub close_field : Bool → List ℕ

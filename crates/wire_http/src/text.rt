@@ -1,39 +1,16 @@
 //! The text of a response (RFC 9112, section 2.1; this project's profile).
 ghost use Rattle.std.specs.Prelude.{◌≡◌, IfOk};
 ghost use Rattle.std.specs.String.{string_bytes};
-ghost use Rattle.wire_http.specs.Text.{response_text, reason_of, rule_field};
-ghost use Rattle.wire_http.specs.Text.{reply_field, status_line, length_line};
+ghost use Rattle.wire_http.specs.Text.{response_text, rule_field, reply_field};
 ghost use Rattle.wire_http.specs.Text.{close_field, front_of, rule_body, rule_text};
 
 use policy_core::rule::Rule;
 use service_step::reply::Reply;
 use std::alloc::{AllocError, Global};
+use wire_head::lines::{length_line, status_line};
 use wire_head::rule::WireRule;
 use wire_reply::answer::{reply_text, status};
 use wire_route::endpoint::Endpoint;
-
-// Returns the reason phrase of a status.
-#[tactic(auto, unfolding(crate::specs::Text::reason_of))]
-fn reason_of(status: u16) -> &'static str
-    ensures { result.now ≡ reason_of status }
-{
-    match status {
-        200 => "OK",
-        201 => "Created",
-        400 => "Bad Request",
-        401 => "Unauthorized",
-        403 => "Forbidden",
-        404 => "Not Found",
-        405 => "Method Not Allowed",
-        409 => "Conflict",
-        413 => "Content Too Large",
-        431 => "Request Header Fields Too Large",
-        500 => "Internal Server Error",
-        501 => "Not Implemented",
-        503 => "Service Unavailable",
-        _ => "",
-    }
-}
 
 // Returns the line of the field Allow with the methods of the endpoint.
 fn allow_field(alloc: Global, endpoint: Option<Endpoint>) -> Result<String, AllocError>
@@ -72,25 +49,6 @@ fn reply_field(
         Reply::Denied(rule, _) => rule_field(alloc, endpoint, *rule),
         _ => Ok(String::new(alloc)),
     }
-}
-
-// Returns the status line.
-#[tactic(auto, unfolding(crate::specs::Text::status_line))]
-fn status_line(alloc: Global, status: u16) -> Result<String, AllocError>
-    ensures { IfOk result (λ text. string_bytes text ≡ status_line status) }
-{
-    let mut text = format!(in alloc; "HTTP/1.1 {status} ")?;
-    text.push_str(reason_of(status))?;
-    text.push_str("\r\n")?;
-    Ok(text)
-}
-
-// Returns the line with the length of the body.
-#[tactic(auto, unfolding(crate::specs::Text::length_line))]
-fn length_line(alloc: Global, length: usize) -> Result<String, AllocError>
-    ensures { IfOk result (λ text. string_bytes text ≡ length_line length) }
-{
-    format!(in alloc; "Content-Length: {length}\r\n")
 }
 
 // Returns the line of the field that says that the connection closes.

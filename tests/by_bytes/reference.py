@@ -1,0 +1,50 @@
+"""What docs/OPERATE.md has of the sources: the parts that scripts/reference makes, the lines that are printed, the bodies of
+the admin port, and the alerts."""
+import re
+import runpy
+
+from program import TOP
+
+PAGE = TOP / "docs" / "OPERATE.md"
+SOURCES = [it for crate in ("dss", "dss_command") for it in sorted(TOP.glob(f"crates/{crate}/src/*.rt"))]
+ADMIN = sorted(TOP.glob("crates/admin_http/src/*.rt"))
+
+
+def made_parts():
+    """The parts are as scripts/reference makes them."""
+    text = PAGE.read_text()
+    is_same = runpy.run_path(str(TOP / "scripts" / "reference"))["written"](text) == text
+    return [] if is_same else ["docs/OPERATE.md is not as the sources are: run scripts/reference"]
+
+
+def printed_lines():
+    """The page has each line of `purge`, each that begins with `dss:` in a source, and no other. Braces in a source stand for any text."""
+    page = PAGE.read_text()
+    texts = {
+        re.sub(r"\\\n\s*", "", it)
+        for source in SOURCES for it in re.findall(r'"((?:dss: |purged )(?:[^"\\]|\\\s|\\.)*)"', source.read_text())
+    }
+    patterns = {it: r"[^`\n]+?".join(map(re.escape, re.split(r"\{[^}]*\}", it))) for it in texts}
+    named = [it for it in re.findall(r"`(dss: [^`]+)`", page) if not it.endswith("..")]
+    found = [f"docs/OPERATE.md lacks {it}" for it, pattern in sorted(patterns.items()) if not re.search(pattern, page)]
+    found += [f"no source has {it}" for it in named if not any(re.fullmatch(pattern, it) for pattern in patterns.values())]
+    return found + ([] if len(texts) > 20 else [f"{len(texts)} lines were found in the sources"])
+
+
+def admin_bodies():
+    """The bodies of the admin port that the page names by their first words are in its sources."""
+    texts = "".join(it.read_text() for it in ADMIN)
+    named = re.findall(r"`(\w[\w ]*: )\.\.`", PAGE.read_text())
+    return [f"no source has {it}" for it in named if f'"{it}' not in texts] + ([] if len(named) > 4 else [f"{len(named)} bodies are named"])
+
+
+def alerts():
+    """The page has each alert, and no other."""
+    told = set(re.findall(r"`(Dss[A-Z]\w+)`", PAGE.read_text()))
+    rules = set(re.findall(r"- alert: (\w+)", (TOP / "deploy" / "prometheus-rules.yaml").read_text()))
+    return [f"{it} is in one of docs/OPERATE.md and the rules alone" for it in sorted(told ^ rules)]
+
+
+CASES = {
+    "reference-made-of-sources": made_parts, "reference-lines": printed_lines, "reference-bodies": admin_bodies, "reference-alerts": alerts,
+}

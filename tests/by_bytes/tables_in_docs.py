@@ -1,0 +1,17 @@
+"""The tables that scripts/doc_tables.py writes into documents are those of docs/openapi.yaml and of the SQL today."""
+import runpy
+
+from program import TOP
+
+
+def tables_are_current():
+    """Each document has its tables as the script makes them now."""
+    made = runpy.run_path(str(TOP / "scripts" / "doc_tables.py"))
+    try:
+        old = [it for it in made["TABLES"] if made["rewritten"](it) != (TOP / it).read_text()]
+    except LookupError as error:
+        return [repr(error)]
+    return [f"{it} has another table: run scripts/doc_tables.py" for it in old]
+
+
+CASES = {"tables-in-docs": tables_are_current}
