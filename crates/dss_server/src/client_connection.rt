@@ -295,9 +295,15 @@ impl<T: Socket> ClientConnection<T> {
         self.asked
     }
 
-    /// Sets the time when a turn of it begins.
-    pub(crate) fn set_requested_at(&mut self, asked: Option<Duration>) {
-        self.asked = asked;
+    /// Begins its turn at this time, if it waits in the class. Returns false if it does not: another
+    /// client may have had its key before.
+    pub(crate) fn begin_turn(&mut self, class: usize, clock: Option<Duration>) -> bool {
+        if !self.member.waits || self.member.class != class {
+            return false;
+        }
+        self.member.waits = false;
+        self.asked = clock;
+        true
     }
 
     // Reads and discards one chunk of what the client still sends.

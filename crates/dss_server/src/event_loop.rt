@@ -3,16 +3,14 @@ ghost use Rattle.std.specs.Prelude.{◌≡◌, ◌⊎◌, IsSome, IsTrue, Result
 ghost use Rattle.token_conf.specs.TokenFile.{callers_of};
 ghost use Rattle.service_calls.specs.Batches.{IsCommitted};
 ghost use Rattle.space_core.specs.declared.space.SpaceFault.{SpaceFault};
-ghost use Rattle.dss_server.specs.Serve.{GoesOn, MayPurge, ServesBy};
+ghost use Rattle.dss_server.specs.Serve.{GoesOn, MayPurge, ServesBy, ServesSoFar};
 
 use crate::admin_connection::AdminContext;
 use crate::admin_connections::AdminConnections;
 use crate::client_connection::{ClientConnection, TurnOutcome};
 use crate::deferred_clients::DeferredClients;
-use crate::fair_queue::{FairQueue, nanos_between};
-use crate::limits::{
-    FULL, LARGE_BUFFERS, LOOKS, LOOKS_SOON, Limits, MAX_CONNECTIONS, ROUND_TIME, STOPPING,
-};
+use crate::fair_queue::{ClassMember, FairQueue, is_round_over, nanos_between};
+use crate::limits::{FULL, LARGE_BUFFERS, LOOKS, LOOKS_SOON, Limits, MAX_CONNECTIONS, STOPPING};
 use crate::purger::Purger;
 use crate::request_context::RequestContext;
 use crate::response_record::{failure_of, record_response};
@@ -285,10 +283,16 @@ impl<N: Sockets + Drop> EventLoop<N> {
             && peer.can_return_large_buffer()
         {
             peer.return_large_buffer();
-            self.fair.return_large_buffer(peer.member);
-            self.large_buffers = self.large_buffers.saturating_add(1);
-            self.grant_large_buffers(now);
+            let member = peer.member;
+            self.add_large_buffer(member, now);
         }
+    }
+
+    // Adds the slot that a client returned, and gives it to a client that waits for one.
+    fn add_large_buffer(&mut self, member: ClassMember, now: Duration) {
+        self.fair.return_large_buffer(member);
+        self.large_buffers = self.large_buffers.saturating_add(1);
+        self.grant_large_buffers(now);
     }
 
     // Closes a client.
@@ -301,9 +305,7 @@ impl<N: Sockets + Drop> EventLoop<N> {
         }
         self.fair.set_unsent(&mut peer.member, 0);
         if peer.has_large_buffer() {
-            self.fair.return_large_buffer(peer.member);
-            self.large_buffers = self.large_buffers.saturating_add(1);
-            self.grant_large_buffers(now);
+            self.add_large_buffer(peer.member, now);
         }
     }
 
@@ -328,10 +330,8 @@ impl<N: Sockets + Drop> EventLoop<N> {
         let Some(peer) = self.peers.get(key) else {
             return TurnOutcome::Gone;
         };
-        if self
-            .deferred
-            .push(key, peer.deferred_bytes(), peer.member.cost)
-        {
+        let cost = peer.member.cost;
+        if self.deferred.push(key, peer.deferred_bytes(), cost) {
             TurnOutcome::Deferred
         } else {
             TurnOutcome::Failed(StreamFault::Memory)
@@ -372,17 +372,12 @@ impl<N: Sockets + Drop> EventLoop<N> {
         self.free_large_buffer(key, now);
     }
 
-    // Returns true if a client has its last response.
-    fn is_ending(&self, key: usize) -> bool {
-        match self.peers.get(key) {
-            Some(peer) => peer.is_ending(),
-            None => false,
-        }
-    }
-
     // Counts a client that got its last response in this turn.
     fn count_ending(&mut self, key: usize, was_ending: bool) {
-        if !was_ending && self.is_ending(key) {
+        if let Some(peer) = self.peers.get(key)
+            && peer.is_ending()
+            && !was_ending
+        {
             self.ending = self.ending.saturating_add(1);
         }
     }
@@ -399,6 +394,7 @@ impl<N: Sockets + Drop> EventLoop<N> {
             return;
         };
         record_response(&mut self.metrics, peer, self.clock, journal);
+        self.count_unsent(key);
         self.act_on(key, turned, now, journal);
     }
 
@@ -465,9 +461,6 @@ impl<N: Sockets + Drop> EventLoop<N> {
 
     // Moves bytes of each queued client.
     fn move_all<J: ServerLog>(&mut self, tokens: &TokenTable, now: Duration, journal: &mut J) {
-        if self.next.is_empty() {
-            return;
-        }
         let spare = mem::replace(&mut self.spare, Vec::new(self.alloc));
         let mut keys = mem::replace(&mut self.next, spare);
         for key in &keys {
@@ -494,14 +487,11 @@ impl<N: Sockets + Drop> EventLoop<N> {
         let Some(peer) = self.peers.get_mut(key) else {
             return;
         };
-        // Another client may have the key of one that was closed.
-        if !peer.member.waits || peer.member.class != class {
-            return;
-        }
-        peer.member.waits = false;
         let was_ending = peer.is_ending();
         let begun = self.clock;
-        peer.set_requested_at(begun);
+        if !peer.begin_turn(class, begun) {
+            return;
+        }
         let turned = peer.turn(context, service, moments, now);
         self.clock = self.sockets.monotonic_time().ok();
         let took = nanos_between(begun, self.clock);
@@ -511,7 +501,6 @@ impl<N: Sockets + Drop> EventLoop<N> {
             let outcome = outcome_of_change(answer, self.store.is_failing());
             self.record_commit(outcome, now, journal);
         }
-        self.count_unsent(key);
         self.conclude(key, turned, now, journal);
         self.count_ending(key, was_ending);
     }
@@ -529,7 +518,6 @@ impl<N: Sockets + Drop> EventLoop<N> {
         };
         let was_ending = peer.is_ending();
         let turned = peer.tell(self.alloc, committed, now);
-        self.count_unsent(key);
         self.conclude(key, turned, now, journal);
         self.count_ending(key, was_ending);
     }
@@ -585,17 +573,10 @@ impl<N: Sockets + Drop> EventLoop<N> {
                 return;
             };
             if let Some(peer) = self.peers.get(key) {
-                // Each class is charged its share of the commit.
-                let share = took.saturating_mul(peer.member.cost) / cost.max(1);
-                self.fair.charge(peer.member.class, share);
+                self.fair.charge_share(peer.member, took, cost);
             }
             self.tell(key, committed, now, journal);
         }
-    }
-
-    // Returns true if no more requests are answered in a round that began at that time.
-    fn is_round_over(&self, begun: Option<Duration>) -> bool {
-        nanos_between(begun, self.clock) > ROUND_TIME * 1_000_000
     }
 
     // Commits the batch if enough clients wait for it.
@@ -612,6 +593,32 @@ impl<N: Sockets + Drop> EventLoop<N> {
             return;
         }
         self.commit_batch(service, now, journal);
+    }
+
+    // Answers requests in the order of the fair queue, until the round is over.
+    fn answer_waiting<S: GroupCommit + Drop, M: Moments, J: ServerLog>(
+        &mut self,
+        context: RequestContext<'_>,
+        service: &mut Service<S>,
+        moments: &mut M,
+        now: Duration,
+        journal: &mut J,
+    )
+        ensures { ServesSoFar S.Space S.GroupCommit.own M.Moments
+            (callers_of context.entry.tokens.now)
+            service.old service.new moments.old moments.new }
+    {
+        let begun = self.clock;
+        for _ in 0..MAX_CONNECTIONS {
+            let Some((class, key)) = self.fair.pick() else {
+                return;
+            };
+            self.turn(key, class, context, service, moments, now, journal);
+            self.commit_if_full(service, now, journal);
+            if is_round_over(begun, self.clock) {
+                return;
+            }
+        }
     }
 
     /// Moves bytes of each queued client, answers requests in the order of the fair queue, and
@@ -635,17 +642,7 @@ impl<N: Sockets + Drop> EventLoop<N> {
         if !self.fair.has_next() {
             return;
         }
-        let begun = self.clock;
-        for _ in 0..MAX_CONNECTIONS {
-            let Some((class, key)) = self.fair.pick() else {
-                break;
-            };
-            self.turn(key, class, context, service, moments, now, journal);
-            self.commit_if_full(service, now, journal);
-            if self.is_round_over(begun) {
-                break;
-            }
-        }
+        self.answer_waiting(context, service, moments, now, journal);
         self.commit_batch(service, now, journal);
     }
 

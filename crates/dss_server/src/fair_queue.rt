@@ -8,7 +8,8 @@ ghost use Rattle.std.specs.List.{Contains};
 ghost use Rattle.dss_server.specs.FairQueue.{IsPicked, WaitsIn, is_held_up, waiting_in};
 
 use crate::limits::{
-    LARGE_BUFFERS_OF_USS, LARGE_BUFFERS_WITHOUT_TOKEN, RESPONSE_MEMORY, RESPONSE_MEMORY_OF_USS,
+    LARGE_BUFFERS_OF_USS, LARGE_BUFFERS_WITHOUT_TOKEN, MAX_CONNECTIONS, RESPONSE_MEMORY,
+    RESPONSE_MEMORY_OF_USS, ROUND_TIME,
 };
 use entity_core::uss_id::UssId;
 use policy_core::scope::Caller;
@@ -27,6 +28,12 @@ pub(crate) fn nanos_between(begun: Option<Duration>, ended: Option<Duration>) ->
         }
         _ => 0,
     }
+}
+
+/// Returns true if no more requests are answered in a round, given the times of its begin and of
+/// now.
+pub(crate) fn is_round_over(begun: Option<Duration>, now: Option<Duration>) -> bool {
+    nanos_between(begun, now) > ROUND_TIME * 1_000_000
 }
 
 /// What the queue records of a client.
@@ -73,16 +80,16 @@ struct UssClass {
 }
 
 impl UssClass {
-    // Creates a class in which no client waits. Allocates nothing.
-    fn new(alloc: Global, uss: Option<UssId>) -> UssClass {
-        UssClass {
+    // Creates a class in which no client waits, with room for the maximum number of clients.
+    fn new(alloc: Global, uss: Option<UssId>) -> Result<UssClass, AllocError> {
+        Ok(UssClass {
             uss,
-            open: VecDeque::new(alloc),
-            ended: VecDeque::new(alloc),
+            open: VecDeque::with_capacity(alloc, MAX_CONNECTIONS)?,
+            ended: VecDeque::with_capacity(alloc, MAX_CONNECTIONS)?,
             virtual_time: 0,
             unsent: 0,
             large_buffers: 0,
-        }
+        })
     }
 
     // Returns true if the requests of the caller are in this class.
@@ -144,7 +151,7 @@ impl FairQueue {
     /// Creates a queue in which no client waits.
     pub(crate) fn new(alloc: Global) -> Result<FairQueue, AllocError> {
         let mut classes = Vec::new(alloc);
-        classes.push(UssClass::new(alloc, None))?;
+        classes.push(UssClass::new(alloc, None)?)?;
         Ok(FairQueue {
             alloc,
             classes,
@@ -169,14 +176,18 @@ impl FairQueue {
         let Some(caller) = caller else {
             return WITHOUT_TOKEN;
         };
-        let Ok(uss) = caller.uss.clone() else {
-            return WITHOUT_TOKEN;
-        };
-        let index = self.classes.len();
-        match self.classes.push(UssClass::new(self.alloc, Some(uss))) {
-            Ok(()) => index,
+        match self.add_class(caller) {
+            Ok(index) => index,
             Err(_) => WITHOUT_TOKEN,
         }
+    }
+
+    // Adds the class of a caller, and returns its index.
+    fn add_class(&mut self, caller: &Caller) -> Result<usize, AllocError> {
+        let class = UssClass::new(self.alloc, Some(caller.uss.clone()?))?;
+        let index = self.classes.len();
+        self.classes.push(class)?;
+        Ok(index)
     }
 
     /// Appends a client to a class. Returns false if memory runs out.
@@ -233,6 +244,15 @@ impl FairQueue {
         if let Some(class) = self.classes.get_mut(index) {
             class.virtual_time = class.virtual_time.max(virtual_time).saturating_add(nanos);
         }
+    }
+
+    /// Charges the class of a client its share of a commit that took so many nanoseconds, if the
+    /// calls of the batch took `total` together.
+    pub(crate) fn charge_share(&mut self, member: ClassMember, nanos: u64, total: u64) {
+        self.charge(
+            member.class,
+            nanos.saturating_mul(member.cost) / total.max(1),
+        );
     }
 
     // Counts the unsent bytes of a client of a class: `now` instead of `before`.
