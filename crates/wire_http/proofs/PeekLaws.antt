@@ -1,6 +1,6 @@
 -- Lemmas: what the buffered bytes give next, and whose request it is.
-use Rattle.std.proofs.Common.{◌≡◌, ℕ, zero, suc, ◌<◌, ◌++◌, List, [], length, take, drop, map, Bool, Option, refl, sym, subst, ◌∙◌, ap}
-use Rattle.std.specs.Prelude.{min, option_copied}
+use Rattle.std.proofs.Common.{◌≡◌, ℕ, zero, suc, ◌++◌, List, [], length, take, drop, map, Bool, Option, refl, sym, subst, ◌∙◌, ap, arith}
+use Rattle.std.specs.Prelude.{min}
 use Rattle.std.proofs.lemmas.List.{append-nil}
 use Rattle.httparse.specs.declared.spans.HeaderSpan.{HeaderSpan}
 use Rattle.httparse.specs.declared.spans.RequestSpans.{RequestSpans}
@@ -13,12 +13,11 @@ use Rattle.wire_head.specs.Rest.{IsKind, IsSoFar, whole}
 use Rattle.wire_head.proofs.KindFinds.{kind_head}
 use Rattle.wire_http.specs.declared.connection.Peeked.{Peeked}
 use Rattle.wire_http.specs.declared.connection.Peeked.TheVariants as peeks
-use Rattle.wire_http.specs.declared.end.End.{End}
 use Rattle.wire_http.specs.declared.end.End.TheVariants as ends
 use Rattle.wire_http.specs.declared.request.Next.TheVariants.{Request}
 use Rattle.wire_http.specs.declared.buffered.BufferState.TheVariants.{Gives}
 use Rattle.wire_http.specs.Asked.{caller_of, fields_of}
-use Rattle.wire_http.specs.BufferState.{HasNoRequest, IsHeld, MayCome}
+use Rattle.wire_http.specs.BufferState.{IsHeld}
 use Rattle.wire_http.specs.Next.{body_at}
 use Rattle.wire_http.specs.Peek.{IsPartPeek, IsPeek}
 use Rattle.wire_http.specs.Wire.{Finishes, IsRequest}
@@ -58,7 +57,7 @@ peeked_request callers bytes over fields spans size caller held is =
 -- If no more requests may come, the connection closes.
 pub closes_at : (n : ℕ) (rest : List ℕ) → n ≡ 0 → Finishes n rest ends.Close
 closes_at zero rest e = refl
-closes_at (suc n) rest e = absurd (let is = e in cc)
+closes_at (suc n) rest e = absurd (omega (arith, e))
 
 -- What is known of a part of a request is known of the next one.
 pub peeked_part : (callers : Callers) (left : ℕ) (over : Bool) (bytes : List ℕ) (peeked : Peeked) → IsPartPeek callers bytes peeked → IsPeek callers left over bytes peeked

@@ -18,21 +18,21 @@ returns-then-len-self-clause-peeked c =
 pub returns-in-Gives-Request-clause-peeked : goal.returns-in-Gives-Request-clause-peeked
 returns-in-Gives-Request-clause-peeked c =
     let self = c.args.self.now in
-    peeked_request (callers_of c.args.tokens.now) self.held.items self.ended c.next_buffered.new.fields c.in-Gives-Request.spans c.in-Gives-Request.size _
-    (held_request self.held.items self.ended c.next_buffered.new.fields c.next_buffered.result c.in-Gives-Request.field-0 c.in-Gives-Request.spans c.in-Gives-Request.size
+    peeked_request (callers_of c.args.tokens.now) self.held.items self.ended c.next_buffered.new.fields c.in-Gives-Request.spans c.in-Gives-Request.field-0-1 _
+    (held_request self.held.items self.ended c.next_buffered.new.fields c.next_buffered.result c.in-Gives-Request.field-0 c.in-Gives-Request.spans c.in-Gives-Request.field-0-1
     c.in-Gives-Request.is c.in-Gives-Request.field-0-is (rw c.as_slice-held.ensures.value at c.next_buffered.ensures.held))
-    c.find_caller.ensures
+    (rw c.as_slice-held.ensures.value at c.find_caller.ensures)
 
 pub returns-in-Gives-Stop-clause-peeked : goal.returns-in-Gives-Stop-clause-peeked
 returns-in-Gives-Stop-clause-peeked c =
     let self = c.args.self.now in (
-      c.in-Gives-Stop.end,
-      λ later may. finishes self.left _ c.in-Gives-Stop.end (omega (arith, c.if-self-eq0.false))
-          (held_stops self.held.items self.ended c.next_buffered.new.fields c.next_buffered.result c.in-Gives-Stop.field-0 c.in-Gives-Stop.end c.in-Gives-Stop.is c.in-Gives-Stop.field-0-is (rw c.as_slice-held.ensures.value at c.next_buffered.ensures.held) later may),
+      c.in-Gives-Stop.field-0-0,
+      λ later may. finishes self.left _ c.in-Gives-Stop.field-0-0 (omega (arith, c.if-self-eq0.false))
+          (held_stops self.held.items self.ended c.next_buffered.new.fields c.next_buffered.result c.in-Gives-Stop.field-0 c.in-Gives-Stop.field-0-0 c.in-Gives-Stop.is c.in-Gives-Stop.field-0-is (rw c.as_slice-held.ensures.value at c.next_buffered.ensures.held) later may),
     )
 
 pub returns-in-Wants-clause-peeked : goal.returns-in-Wants-clause-peeked
 returns-in-Wants-clause-peeked c =
     let self = c.args.self.now in
     let h = held_wants self.held.items self.ended c.next_buffered.new.fields c.next_buffered.result c.in-Wants.wanted c.in-Wants.is (rw c.as_slice-held.ensures.value at c.next_buffered.ensures.held) in
-    peeked_part (callers_of c.args.tokens.now) self.left self.ended self.held.items _ (c.peek_head-peeked.ensures (none_here self.held.items c.in-Wants.wanted h.3 h.1))
+    peeked_part (callers_of c.args.tokens.now) self.left self.ended self.held.items _ ((rw c.as_slice-held.ensures.value at c.peek_head-peeked.ensures) (none_here self.held.items c.in-Wants.wanted h.3 h.1))
