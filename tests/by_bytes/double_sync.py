@@ -1,4 +1,4 @@
-"""`serve --double-sync`: a change of one client is synced twice that is synced once without, and all is answered and kept as ever."""
+"""`serve --double-sync` syncs each change of one client twice instead of once. Responses and stored rows are the same."""
 import pathlib
 import tempfile
 
@@ -17,13 +17,14 @@ class Wary(Service):
 
 
 def put(number):
-    """Another availability of a supplier, after so many changes of it."""
+    """Returns the next availability of a USS, after that many changes of it."""
     old = f'"{wire.ovn(number)}"' if number else '""'
     return b'{"old_version":%s,"availability":"%s"}' % (old.encode(), b"Down" if number % 2 else b"Normal")
 
 
 def made(kind, changes, library, counted):
-    """What so many changes, each asked after the answer to the one before, are answered, and with how many syncs."""
+    """Makes that many changes, each after the response to the one before, and returns the responses and the number of
+    syncs."""
     with kind(count=1, more={"LD_PRELOAD": str(library), "SYNCS": str(counted)}) as service:
         came = []
         with service.connect() as connection:
@@ -37,7 +38,7 @@ def made(kind, changes, library, counted):
 
 
 def syncs():
-    """Each change more is one sync more, or two, and the answers are the same."""
+    """Each additional change takes one sync more, or two, and the responses are the same."""
     found = []
     with tempfile.TemporaryDirectory() as room:
         library, counted = pathlib.Path(room, "count_syncs.so"), pathlib.Path(room, "syncs")
@@ -54,7 +55,7 @@ def syncs():
 
 
 def one_file():
-    """What is kept with the option is found without, and the other way round."""
+    """Changes made with the option are found without it, and the other way round."""
     with Service() as service:
         for number, options in enumerate([(), ("--double-sync",), (), ("--double-sync",)]):
             service.kill()
