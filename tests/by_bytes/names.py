@@ -1,15 +1,17 @@
-"""Each name of code in the documents is one of the repository's, each link leads somewhere, the pictures are of what is there, and
-the first line of each source, definition, script and test says what it has.
+"""Checks names, links, pictures and first lines in the repository.
 
-What stands in backquotes is looked at word by word: a file must be there, the parts of `crate::item` must be made in
-that crate and those of `Type::call` in one file, an edit must stand among the edits of its crate, and any other name
-must be made in some code, outside comments. Words in upper case stand for others. Requests, answers and paths of HTTP
-are looked at by other tests.
+Each name of code in the documents is one of the repository's, each link has a target, the pictures show what exists,
+and the first line of each source, definition, script and test says what it contains.
 
-A name that is said to be in a file must be made there. In the tables of what is proved one must be made in the crate
-that it is said of: in PROOF crate by crate that of the row; in its index, of the contracts, the crate in brackets behind them or that
-of `crate::module` before them, and of the definitions the crate that stands with their file, or else one of those of the
-contracts."""
+Text in backquotes is checked word by word: a file must exist, the parts of `crate::item` must be defined in that
+crate and those of `Type::call` in one file, a mutant must be among the mutants of its crate, and any other name must
+occur in some code, outside comments. Words in upper case stand for others. Requests, responses and paths of HTTP are
+checked by other tests.
+
+If a document places a name in a file, that file must define it. In the tables of what is proved, a crate must define
+the names that belong to it: in PROOF crate by crate, the crate of the row; in its index, for contracts, the crate in
+brackets behind them or the crate of `crate::module` before them, and for definitions the crate beside their file, or
+else one of those of the contracts."""
 import functools
 import json
 import os
@@ -20,10 +22,10 @@ import runpy
 from program import TOP
 
 DOCUMENTS = sorted(it for folder in ("", "docs/", "bench/", "deploy/", "gateway/", "qualify/") for it in TOP.glob(f"{folder}*.md"))
-# How a comment begins, by the end of a file's name.
+# The start of a comment, by the end of a file's name.
 COMMENTS = {".rt": "//", ".c": "//", ".antt": "--"} | dict.fromkeys(("", ".py", ".bash", ".txt", ".yaml", ".toml", ".cfg", ".conf", ".service"), "#")
 FILE = re.compile(r".+\.(rt|antt|py|bash|c|txt|yaml|toml|md|http|edit|json|answers|any)")
-# How a name is made in Rattle and in its definitions: an item, a field, a variant, a clause.
+# Definitions of names in Rattle and in its specifications: an item, a field, a variant, a clause.
 DECLARED = {
     ".rt": re.compile(
         r"\b(?:fn|struct|enum|trait|type|const|static|mod|ghost) (\w+)|^\s+(?:pub(?:\(\w+\))? )?(\w+)\s*(?:[,({:]|$)"
@@ -32,9 +34,9 @@ DECLARED = {
     ),
     ".antt": re.compile(r"^\s*(?:(?:abbrev|unfoldable|pub|record|data) )*([\w-]+)()\s*[:({]", re.MULTILINE),
 }
-# What is no name: text of JSON or HTTP, a shell's signs, a rule with its name.
+# Texts that are no names: JSON or HTTP, a shell's signs, a rule with its name.
 NO_NAME = re.compile(r"""[{"'=<>|$~!+\\]|^/|:[/ ]|^[PH]\d+( |$)|^\W+$""")
-# Where no name is made: data of cases, and this list.
+# Files that define no name: data of cases, and this list.
 OUTSIDE = ("tests/data/cases/", "tests/by_bytes/names.py")
 # Names of other programs, libraries and formats.
 OTHERS = set(
@@ -49,7 +51,7 @@ OTHERS = set(
 
 @functools.cache
 def files():
-    """The files of the repository, by their paths in it."""
+    """Returns the files of the repository, by their paths in it."""
     found = {}
     for folder, folders, names in os.walk(TOP):
         folders[:] = set(folders) - {".git", ".dss", "out", "__pycache__"}
@@ -59,7 +61,7 @@ def files():
 
 @functools.cache
 def names_of(path):
-    """The names that the code of a file makes. Of a script or a test each word counts, and so does each of a text."""
+    """Returns the names that the code of a file defines. In a script or a test, and in a string, each word counts."""
     file = files()[path]
     if path.startswith(OUTSIDE) or file.suffix not in COMMENTS:
         return frozenset()
@@ -72,18 +74,18 @@ def names_of(path):
 
 @functools.cache
 def names_in_folder(folder):
-    """The names that are made in the files of a folder."""
+    """Returns the names that the files of a directory define."""
     return frozenset().union(*(names_of(path) for path in files() if path.startswith(folder)))
 
 
 def is_path(word):
-    """Whether a word is the end of a file's path, or a folder."""
+    """Returns whether a word is the end of a file's path, or a directory."""
     return any(f"/{path}/".endswith(f"/{word}/") or f"/{path}".find(f"/{word}/") >= 0 for path in files())
 
 
 @functools.cache
 def cases():
-    """The names of the cases by bytes that are data: worked examples, and folders."""
+    """Returns the names of the byte-exact cases that are data: worked examples, and directories."""
     examples = json.loads((TOP / "tests" / "data" / "worked_examples.json").read_text())
     return {it["name"] for it in examples} | {it.name for it in (TOP / "tests" / "data" / "cases").iterdir()}
 
@@ -95,17 +97,17 @@ def is_edit(word):
 
 
 def is_for_others(word):
-    """Whether a word, or a part of it, is in upper case and so stands for others."""
+    """Returns whether a word, or a part of it, is in upper case and so stands for others."""
     return any(it.isalpha() and it.isupper() and len(it) > 1 for it in re.split("::|[-/]", word))
 
 
 def is_word(word, folder=""):
-    """Whether a word is a name that is made in a folder, one of others, or a letter that stands for them."""
+    """Returns whether a word is a name that a directory defines, one of others, or a letter that stands for them."""
     return word in OTHERS or word in names_in_folder(folder) or (len(word) == 1 and word.isupper())
 
 
 def is_member(name, member):
-    """Whether a file of code makes both names, or the second in an `impl` of the first."""
+    """Returns whether a file of code defines both names, or the second one in an `impl` of the first."""
     return any(
         {name, member} <= names_of(path) or member in names_of(path) and name in impls_in(path)
         for path in files() if path.endswith((".rt", ".antt"))
@@ -114,13 +116,13 @@ def is_member(name, member):
 
 @functools.cache
 def impls_in(path):
-    """The words of the lines of a file that begin an `impl`."""
+    """Returns the words of the lines of a file that begin an `impl`."""
     lines = re.findall(r"(?m)^impl\b.*$", (TOP / path).read_text(errors="replace"))
     return frozenset(re.findall(r"\w+", " ".join(lines)))
 
 
 def is_name(word):
-    """Whether a word names something of the repository or of others."""
+    """Returns whether a word names something of the repository or of others."""
     if word in OTHERS or word in cases() or is_for_others(word):
         return True
     if "::" in word:
@@ -135,7 +137,7 @@ def is_name(word):
 
 
 def words_in(document):
-    """The words in backquotes outside blocks of code, each with its line."""
+    """Returns the words in backquotes outside blocks of code, each with its line."""
     text = re.sub(r"(?ms)^```.*?^```$|^    .*?$", lambda block: "\n" * block[0].count("\n"), document.read_text())
     for quoted in re.finditer(r"`([^`]+)`", text):
         if not NO_NAME.search(quoted[1]):
@@ -144,7 +146,7 @@ def words_in(document):
 
 
 def unknown():
-    """The names in the documents that nothing in the repository has."""
+    """Each name in the documents exists in the repository."""
     found = []
     for document in DOCUMENTS:
         for number, name in words_in(document):
@@ -154,13 +156,13 @@ def unknown():
 
 
 def of_crate(crate, folder="src"):
-    """The names that the sources, or the definitions, of a crate make, also those for which it has an `impl`."""
+    """Returns the names that the sources, or the definitions, of a crate define, and those for which it has an `impl`."""
     paths = [path for path in files() if path.startswith(f"crates/{crate}/{folder}/")]
     return frozenset().union(*map(names_of, paths), *map(impls_in, paths))
 
 
 def is_made_in(crate, name):
-    """Whether a crate makes a name, or both parts of `Type::call`."""
+    """Returns whether a crate defines a name, or both parts of `Type::call`."""
     return all(it in of_crate(crate) for it in re.findall(r"\w+", name))
 
 
@@ -169,7 +171,7 @@ def is_crate(word):
 
 
 def said_of_crates(cell):
-    """The names in a cell of contracts, each with the crate that it is said of, or None."""
+    """Returns the names in a cell of contracts, each with its crate in the document, or None."""
     pairs, waiting, before, last = [], [], None, None
     for sign, opened, word in re.findall(r"(;)|(\()?`([^`]+)`", cell):
         crate = word.partition("::")[0]
@@ -185,14 +187,14 @@ def said_of_crates(cell):
 
 
 def is_defined(name, file, crates):
-    """Whether a definition of that name stands in such a file of one of the crates, or in any file of theirs."""
+    """Returns whether such a file of one of the crates, or any of their files, has a definition of that name."""
     if file is None:
         return any(name in of_crate(it, "specs") for it in crates)
     return any(name in names_of(path) for it in crates for path in files() if path == f"crates/{it}/specs/{file}")
 
 
 def undefined(cell, crates):
-    """The names in a cell of definitions that are not where the cell says."""
+    """Returns the names in a cell of definitions that are not where the cell says."""
     parts = [re.findall(r"(\bof )?`([^`]+)`", it) for it in cell.split(";")]
     found = []
     for part in parts:
@@ -208,7 +210,7 @@ def undefined(cell, crates):
 
 
 def elsewhere():
-    """The names that a document says are in a file, and that the file does not make."""
+    """Returns the names that a document places in a file that does not define them."""
     found, said = [], re.compile(r"((?:`[\w:]+`(?:,\s+|\s+and\s+)?)+)\s+in\s+`([\w/]+\.(?:antt|rt))`")
     for document in DOCUMENTS:
         for names, file in said.findall(document.read_text()):
@@ -219,7 +221,7 @@ def elsewhere():
 
 
 def rows_of(document, begin):
-    """The rows of a document's table below a line that begins so: the number of the line, and the cells."""
+    """Returns the rows of a document's table below a line with this start: the line number, and the cells."""
     lines = (TOP / document).read_text().splitlines()
     first = next(at for at, it in enumerate(lines) if it.startswith(begin))
     for number, line in enumerate(lines[first + 2 :], first + 3):
@@ -229,7 +231,7 @@ def rows_of(document, begin):
 
 
 def misplaced():
-    """The names in the tables of what is proved that are not made in the crate that they are said of."""
+    """Each name in the tables of what is proved is defined in the crate that the table says."""
     found, crates, rows = [], (), 0
     for place, (crate, *cells) in rows_of("docs/PROOF.md", "| crate | beyond safety"):
         rows += 1
@@ -246,7 +248,8 @@ def misplaced():
 
 
 def headless():
-    """The sources, definitions, scripts and tests whose first line, after that of what runs them, does not say what they have."""
+    """Each source, definition, script and test says in its first line, after the one with the interpreter, what it
+    contains."""
     begins = {".rt": "//! ", ".antt": "-- ", ".py": '"""', ".c": "/* ", ".bash": "# ", "": ('"""', "# ")}
     folders = "crates/*/src/*.rt", "crates/*/specs/*.antt", "scripts/*", "tests/*", "tests/*/*.py", "tests/devices/*"
     files = [it for folder in folders for it in sorted(TOP.glob(folder)) if it.is_file() and it.suffix in begins]
@@ -255,14 +258,14 @@ def headless():
 
 
 def anchors(document):
-    """The anchors of a document's headings."""
+    """Returns the anchors of a document's headings."""
     text = re.sub(r"(?ms)^```.*?^```", "", document.read_text())
     headings = (re.sub(r"\[([^\]]*)\]\([^)]*\)", r"\1", it) for it in re.findall(r"(?m)^#+ (.*)$", text))
     return {re.sub(r"[^\w\- ]", "", it.lower()).replace(" ", "-") for it in headings}
 
 
 def dead_links():
-    """The links of documents to files that are not there, or to headings that they do not have."""
+    """Each link of a document has a target: an existing file, and a heading of it."""
     found = []
     for document in DOCUMENTS:
         text = re.sub(r"(?ms)^```.*?^```|^    .*?$", "", document.read_text())
@@ -274,11 +277,11 @@ def dead_links():
 
 
 def pictures_are_drawn():
-    """The pictures are of the crates, the functions and the calls that are there."""
+    """The pictures show existing crates, functions and calls."""
     drawn = runpy.run_path(str(TOP / "scripts" / "pictures"))
     old = [name for name, picture in drawn["PICTURES"].items() if picture() != (TOP / "docs" / name).read_text()]
     found = [f"docs/{name} is another: run scripts/pictures" for name in old]
-    # what asks no space calls no change of one
+    # Functions that get no space call no function that changes one.
     is_blind = drawn["picture_of_a_put"].calls("early::early", "change::commit_change")
     return found + (["a call is seen where there is none"] if is_blind else [])
 
