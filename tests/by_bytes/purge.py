@@ -1,4 +1,6 @@
-"""`dss sweep`: what has ended by a moment goes, in pieces, each whole or not at all, and all else stays to the letter."""
+"""`dss purge` removes what has ended by a given time.
+
+It works in chunks, each complete or not done at all. All other rows stay exactly the same."""
 import collections
 import fcntl
 import itertools
@@ -28,26 +30,26 @@ from sockets import difference
 from without_memory import each_refused
 from words import SWEEP_IN_FUTURE
 
-# the moment of the calls, and one that is past for a sweep
+# The time of the calls, and one that is past for a purge.
 NOW, LATER = 1_000, 10_000
-# fewer intents, constraints and subscriptions than go in one transaction, but for the last
+# At least so many intents, constraints and subscriptions are removed in one transaction, except the last.
 LEAST = 64
 FUTURE = f"{SWEEP_IN_FUTURE}\n"
 CLOCK, MEMORY = b"dss: clock\n", b"dss: memory\n"
 SEEDS, CHUNK, CHUNKS = range(40, 44), 25, 8
-# a scene of many: intents and subscriptions that end at once, and those that stay
+# A scene of many: intents and subscriptions that end at once, and those that stay.
 ENDED, STAYING = 600, 60
-# places among the calls on files at which a machine stops, and how often the program is killed
+# Positions among the calls on files at which a machine stops, and how often the program is killed.
 STOPS, KILLS = lengths.of(8, 16), lengths.of(4, 8)
-# of growths of memory, one in so many is refused; of the ways in which calls on files fail, of which every second one is with all
-# after it, one in so many
+# One of so many memory allocations is refused. Calls on files fail alone or with all after it, in turn: one of so many
+# of these ways is tried.
 STEP, CALLS_STEP = 61, 9
 CELL = ("89c25904", 288901920, 288901920)
 ID = "00000000-0000-4000-8000-{:012x}".format
 
 
 def printed(intents, constraints, subscriptions):
-    """What a sweep prints of how much went."""
+    """Returns the output of a purge that removed that many."""
     return f"purged {intents} intents, {constraints} constraints, {subscriptions} subscriptions\n".encode()
 
 
@@ -56,7 +58,7 @@ def done(*counts):
 
 
 class Swept(Room):
-    """A room whose database is swept."""
+    """A room whose database is purged."""
 
     def words_of_sweep(self, until, now=LATER, database=None):
         moment = [] if now is None else ["--now", f"{now}"]
@@ -70,7 +72,7 @@ class Swept(Room):
 
 
 def swept_rows(rows, until):
-    """The rows after a sweep, by those before it."""
+    """Returns the rows after a purge, given those before it."""
     ends = collections.defaultdict(list)
     for entity, _, _, _, _, end in rows["volume"]:
         ends[entity].append(end)
@@ -83,15 +85,15 @@ def swept_rows(rows, until):
 
 
 def gone(before, after):
-    """How many intents, constraints and subscriptions are in the rows before and not in those after."""
+    """Returns how many intents, constraints and subscriptions are in the rows before and not in those after."""
     kinds = [collections.Counter(kind for _, kind, *_ in rows["entity"]) for rows in (before, after)]
     entities = [kinds[0][it] - kinds[1][it] for it in (0, 1)]
     return *entities, len(before["subscription"]) - len(after["subscription"])
 
 
 def wrong_part(before, database, until):
-    """What is wrong with a database that is swept in part: each row is one of those before, and what a sweep would leave of it is what
-    it would leave of those."""
+    """Returns what is wrong with a partly purged database: each row is one of those before, and a purge of it would
+    leave what a purge of the rows before would leave."""
     rows = tables.rows_in(database)
     found = tables.wrong_in(database)
     found += [f"{it}: more than before" for it in rows if not set(rows[it]) <= set(before[it])]
@@ -99,7 +101,8 @@ def wrong_part(before, database, until):
 
 
 def wrong_pieces(parts, before, after):
-    """Whether sweeps that were broken off left many different parts: so many as there are pieces, and not as there are rows."""
+    """Returns whether aborted purges left the expected number of different parts: that of the chunks, and not that of
+    the rows."""
     most = sum(gone(before, after)) // LEAST + 3
     return [] if 2 < len(parts) <= most else [f"{len(parts)} parts of at most {most}: {dict(sorted(parts.items()))}"]
 
@@ -111,12 +114,12 @@ UNTIL = 3_000
 A1, A2, A3, A4, A5, C1, C2, D1, D2, D3, D4, D5 = (
     f"00000000-0000-4000-8000-0000000000{it}" for it in ("a1", "a2", "a3", "a4", "a5", "c1", "c2", "d1", "d2", "d3", "d4", "d5")
 )
-# what has not ended by then, or is named by such
+# These have not ended by then, or are referenced by such.
 STAY = {(0, A2), (0, A4), (1, C2)}, {D1, D4, D5}
 
 
 def put_intent(id_, token, height, times, names=None):
-    """An intent at a height of its own, with a volume for each time."""
+    """Returns an intent at an altitude of its own, with a volume for each time."""
     extents = [volume(["89c25904"], (height, height + 5), it) for it in times]
     put = {"extents": extents, "state": "Accepted", "uss_base_url": "https://a.example", "key": []}
     return "PUT", f"{wire.INTENTS}/{id_}", token, put | ({"subscription_id": names} if names else {})
@@ -134,8 +137,8 @@ def put_subscription(id_, token, times):
 
 
 def by_hand_calls():
-    """What is kept: of each kind what ended before, just at and just after the moment, with volumes of both kinds, and subscriptions
-    that are named by what stays, by what goes, by both and by nothing."""
+    """Returns calls that store, of each kind, what ended before, just at and just after the time, with volumes of both
+    kinds. Subscriptions are referenced by what stays, by what is purged, by both and by nothing."""
     return [
         put_subscription(D1, "tok-b", (900, 2_000)),
         put_subscription(D2, "tok-b", (900, UNTIL)),
@@ -154,7 +157,8 @@ def by_hand_calls():
 
 
 def looks():
-    """What looks at all of it, and changes nothing; then a change, which takes the next serial, and one that names what went."""
+    """Returns reads of everything, which change nothing; then a change, which takes the next serial, and one that
+    references what was purged."""
     seen = [("GET", f"{wire.INTENTS}/{it}", "tok-a", None) for it in (A1, A2, A3, A4, A5)]
     seen += [("GET", f"{wire.CONSTRAINTS}/{it}", "tok-c", None) for it in (C1, C2)]
     seen += [("GET", f"{wire.SUBSCRIPTIONS}/{it}", token, None) for it in (D1, D2, D3, D4, D5) for token in ("tok-a", "tok-b")]
@@ -180,7 +184,7 @@ def policy():
 
 
 def differs(room, airspace, calls, now=NOW):
-    """How calls over a database are answered otherwise than the plain policy says."""
+    """Returns how responses to calls over a database differ from the plain policy's."""
     wanted = [
         airspace.ask(method, target, f"Bearer {token}", None if body is None else wire.compact(body).encode()).text()
         for method, target, token, body in calls
@@ -191,8 +195,8 @@ def differs(room, airspace, calls, now=NOW):
 
 
 def by_hand():
-    """What goes and what stays, and what is told of it before and after; a second sweep, and one until an earlier moment, find
-    nothing; the next change has the next serial."""
+    """A purge removes and leaves the expected rows, and reads give the expected responses before and after it. A second
+    purge, and one until an earlier time, find nothing. The next change has the next serial."""
     with Swept() as room:
         airspace = policy()
         found = differs(room, airspace, by_hand_calls())
@@ -209,7 +213,7 @@ def by_hand():
             found += difference(f"again until {until}", room.sweep(until), done(0, 0, 0))
         found += difference("rows then", tables.rows_in(room.database), rows) + tables.wrong_in(room.database)
         found += differs(room, airspace, looks())
-        # what names it went, so the next sweep takes it
+        # What referenced it was purged, so the next purge removes it.
         found += difference("one that was freed", room.sweep(UNTIL), done(*airspace.sweep(UNTIL)))
         found += difference("all", room.sweep(9_000, 9_000), done(*airspace.sweep(9_000)))
         left = {it: len(rows) for it, rows in tables.rows_in(room.database).items() if rows}
@@ -218,7 +222,7 @@ def by_hand():
 
 
 def reported():
-    """The report has neither line nor cell of what went, and the same serial."""
+    """The report has neither line nor cell of what was purged, and the same serial."""
     with Swept() as room:
         differs(room, policy(), by_hand_calls())
         found = []
@@ -238,7 +242,8 @@ def reported():
 
 
 def not_told():
-    """Where the system tells no time nothing is opened; where what it prints cannot be written, that is told, and it is swept."""
+    """If the system gives no time, nothing is opened. If the output cannot be written, that is reported, and the purge
+    is done."""
     with Swept() as room, connections.Room() as devices:
         none = pathlib.Path(room.folder.name, "none.db")
         found = difference("no time", room.sweep(1, None, none, {"LD_PRELOAD": devices.library, "CLOCK_FAILS": "1"}), (1, b"", CLOCK))
@@ -251,7 +256,7 @@ def not_told():
 
 
 def of_nothing():
-    """A database without anything, and one that is not there, as `report` takes it."""
+    """An empty database, and one that does not exist: `purge` makes it, as `report` does."""
     with Swept() as room:
         found = difference("no file", room.sweep(UNTIL), done(0, 0, 0))
         found += difference("its rows", {it: rows for it, rows in tables.rows_in(room.database).items() if rows}, {"meta": [(1, 2, 0)]})
@@ -259,8 +264,8 @@ def of_nothing():
 
 
 def refused():
-    """A moment in the future is refused before anything is opened, by the clock or by `--now`; a file that is none or is held is
-    told as other commands tell it. Nothing is changed."""
+    """A time in the future is rejected before anything is opened, by the clock or by `--now`. A file that is no
+    database or is held is reported as by other commands. Nothing is changed."""
     found, clock = [], int(time.time())
     with Swept() as room:
         differs(room, policy(), by_hand_calls())
@@ -279,7 +284,7 @@ def refused():
         with room.database.open("r+b") as file:
             fcntl.lockf(file, fcntl.LOCK_EX, LOCK_LENGTH, LOCK_AT)
             found += difference("a database in use", room.sweep(UNTIL), (1, b"", STORE))
-        # by the clock this is long past, and with --now it is just past
+        # By the clock this is long past, and with --now it is just past.
         found += difference("by the clock", room.sweep(1_500, None), done(1, 0, 0))
         found += difference("now", room.sweep(UNTIL, UNTIL), done(2, 1, 2))
         room.query("DROP TABLE naming")
@@ -290,7 +295,7 @@ def refused():
 
 
 def kept_by(airspace):
-    """What the plain policy keeps, as rows have it."""
+    """Returns what the plain policy stores, as rows."""
     entities = {(int(kind != plain_policy.INTENT), id_, it.version, it.serial) for (kind, id_), it in airspace.entities.items()}
     return entities, {(id_, it.serial, it.index) for id_, it in airspace.subscriptions.items()}, airspace.serial
 
@@ -302,7 +307,7 @@ def kept_in(room):
 
 
 def drawn():
-    """Drawn calls with a sweep after each few are answered as the plain policy has it that was swept, too."""
+    """Drawn calls with a purge after every few of them get the responses of the plain policy, purged at the same times."""
     found, went = [], collections.Counter()
     for seed in [*SEEDS, *seeds.new("purge", 1)]:
         draw, airspace = drawn_calls.Draw(seed), plain_policy.Airspace(drawn_calls.NOW, drawn_calls.ALL_TOKENS)
@@ -330,8 +335,9 @@ def drawn():
 
 
 def many(ended=ENDED, staying=STAYING):
-    """Rows of many intents and constraints of one cell, every second one with a subscription, of which it names its own where it is an
-    intent. Those that end do so before `UNTIL`; of the subscriptions of those that stay half have ended, and are named."""
+    """Returns rows of many intents and constraints of one cell, every second one with a subscription, which it
+    references if it is an intent. Those that end do so before `UNTIL`. Of the subscriptions of those that stay half
+    have ended, and are referenced."""
     rows, serial = collections.defaultdict(list), 0
     for number in range(ended + staying):
         end = UNTIL - number % 7 if number < ended else LATER
@@ -352,7 +358,7 @@ def many(ended=ENDED, staying=STAYING):
 
 
 def made_of(file, rows):
-    """A database with these rows, as the program closes it; its rows then."""
+    """Makes a database with these rows, as the program closes it; returns its rows."""
     tables.make(file, 2, {it: all_ for it, all_ in rows.items() if it != "meta"})
     with tables.opened(file) as database:
         database.execute(f"UPDATE meta SET serial = {rows['meta'][0][2]}")
@@ -361,7 +367,7 @@ def made_of(file, rows):
 
 
 def in_pieces():
-    """Many go in one sweep, and all that stays is as it was."""
+    """One purge removes many, and all that stays is as it was."""
     with Swept() as room:
         before = made_of(room.database, many())
         after = swept_rows(before, UNTIL)
@@ -369,7 +375,7 @@ def in_pieces():
         found = difference("a sweep", room.sweep(UNTIL), done(*counts))
         found += difference("its rows", tables.rows_in(room.database) == after, True) + tables.wrong_in(room.database)
         size = room.database.stat().st_size
-        # what it freed is used again
+        # Freed pages are used again.
         for at in range(3):
             status, output, _ = room.serve([ask(*put_intent(ID(5_000 + at * 50 + it), "tok-a", 100, [(20_000 + it, 20_000 + it)])) for it in range(50)])
             found += difference("creations", (status, output.count(b"HTTP/1.1 201 ")), (0, 50 * (at == 0)))
@@ -377,7 +383,7 @@ def in_pieces():
 
 
 def finished(name, room, database, before):
-    """What is wrong with a sweep that was broken off, and with the one that makes the rest."""
+    """Returns what is wrong with an aborted purge, and with the one that completes it."""
     found = [f"{name}: {it}" for it in wrong_part(before, database, UNTIL)]
     rest = gone(tables.rows_in(database), swept_rows(before, UNTIL))
     found += difference(f"{name}: the rest", room.sweep(UNTIL, database=database), done(*rest))
@@ -385,7 +391,8 @@ def finished(name, room, database, before):
 
 
 def machine_stops():
-    """A machine that stops among the pieces, by what a disk may have kept: whole pieces are found, and the next sweep makes the rest."""
+    """A machine stops between the chunks. Whatever a disk may have persisted, whole chunks are found, and the next
+    purge completes the work."""
     found, parts = [], collections.Counter()
     with Swept() as room:
         machine = crashes.Machine(room, [])
@@ -407,7 +414,7 @@ def machine_stops():
 
 
 def killed():
-    """The program is killed in the middle: the same."""
+    """The same if the program is killed in the middle."""
     found, parts = [], collections.Counter()
     with Swept() as room:
         before = made_of(room.database, many(3 * ENDED))
@@ -429,8 +436,8 @@ def killed():
 
 
 def files_fail():
-    """Calls on files fail, one in so many, alone and with all after it: it is told, the pieces that were made stand, and the next sweep
-    makes the rest."""
+    """Calls on files fail, one in so many, alone and with all after it: that is reported, completed chunks stay, and
+    the next purge completes the work."""
     found, ends = [], collections.Counter()
 
     class Place(Failing, Swept):
@@ -456,7 +463,7 @@ def files_fail():
 
 
 def without_memory(step=STEP):
-    """Growths of memory are refused in turn: the same."""
+    """The same if memory allocations are refused in turn."""
     found, ends = [], collections.Counter()
     with Swept() as room:
         before = made_of(room.database, many(ENDED // 2))
@@ -479,7 +486,7 @@ def without_memory(step=STEP):
 
 
 def older():
-    """A database of format 1 is moved as it is opened, and swept."""
+    """A database of format 1 is upgraded when it is opened, and purged."""
     with Filled(1) as old, Swept() as room:
         room.database.write_bytes(old.database.read_bytes())
         before = tables.rows_in(room.database)
@@ -492,8 +499,8 @@ def older():
 
 
 def small_file():
-    """The commands of docs/OPERATE.md make a smaller file with the same rows and report, which gets a mirror; one that `VACUUM` made is
-    taken without."""
+    """The commands of docs/OPERATE.md make a smaller file with the same rows and report, which gets a mirror. One that
+    `VACUUM` made is accepted without a mirror."""
     text = (TOP / "docs" / "OPERATE.md").read_text().partition("### Shrinking the database file\n")[2]
     block = re.search(r"(?m)^    \(umask(?:.*\n(?=    ))*.*$", text)[0].replace("./dss", BUILT)
     found = []
@@ -511,7 +518,7 @@ def small_file():
         with tables.opened(room.database) as database:
             database.execute("VACUUM")
         found += difference("VACUUM", run([BUILT, "report", "--db", str(room.database)]), reports[0])
-        # of this one no copy in memory is made, without which it is not told what has ended
+        # This one gets no mirror, without which it does not know what has ended.
         found += difference("a sweep of it", room.sweep(UNTIL), (1, b"", NOT_CLOSED))
         for file, copy in (small, "1"), (room.database, "0"):
             with Operated() as started:

@@ -1,5 +1,5 @@
-"""What docs/OPERATE.md has of the sources: the parts that scripts/reference makes, the lines that are printed, the bodies of
-the admin port, and the alerts."""
+"""Compares docs/OPERATE.md with the sources: the parts that scripts/reference makes, printed lines, bodies of the admin
+port, and alerts."""
 import re
 import runpy
 

@@ -1,5 +1,6 @@
-"""`serve --retention`: what ended so long ago goes between rounds of calls, once a minute, and who looks ahead is told the same as by a
-service that keeps it all."""
+"""`serve --retention` purges between batches of calls, once a minute.
+
+A forward-looking call gets the same response as from a service that retains all."""
 import collections
 import errno
 import time
@@ -18,21 +19,22 @@ from sockets import difference
 from purge import ID, STAYING, UNTIL, gone, made_of, many, put_intent, swept_rows, wrong_part
 from without_memory import STOPPED
 
-# seconds that what has ended is kept: what the scenes have ended long before, or half an hour after that
+# Seconds of retention: the scenes have ended long before, or half an hour after that.
 DAY, HALF_AN_HOUR, MINUTE = 86_400, 1_800, 60
-# the least that go while calls are asked, and calls of each start
+# The fewest rows that are purged during calls, and the calls of each start.
 WENT, CALLS, SEEDS = 1_500, 120, range(70, 74)
-# a cell of the drawn calls
+# A cell of the drawn calls.
 NEAR = ("00000004", 0, 0)
-# growths of memory after those of a start that are refused, some of them
+# Memory allocations after those of a start, of which some are refused.
 GROWTHS = 240
-# growths of a file, and writes, after those of a start: from each of them on the disk is full, or takes no write at all
+# Growths of a file, and writes, after those of a start: from each of them on the disk is full, or takes no write at
+# all.
 FULL, REFUSED = range(1, 32, 5), (20, 40, 61, 73)
 SWEPT, FAULTS = "dss_purged_total", "dss_purge_failures_total"
 
 
 class Keeping(Operated):
-    """`dss serve` with an operator's port over a database of these rows, which keeps what has ended so long."""
+    """`dss serve` with an admin port over a database of these rows, with that retention."""
 
     def __init__(self, rows, keep=DAY, tokens=drawn_calls.ALL_TOKENS, options=(), **more):
         super().__init__(tokens, **more)
@@ -41,31 +43,32 @@ class Keeping(Operated):
         self.before = made_of(self.database, rows)
 
     def wait(self, count):
-        """What is counted, once so many went."""
+        """Waits until that many rows were purged, and returns the metrics."""
         return until_counted(self, SWEPT, f"{count}")
 
     def rows(self):
-        """What is kept, once it has ended."""
+        """Returns the stored rows, once the service has exited."""
         self.asked(STOP)
         self.ended()
         return tables.rows_in(self.database)
 
 
 def far(rows):
-    """Rows of which what stays ends far ahead of the clock."""
+    """Returns rows whose remaining part ends far ahead of the clock."""
     volumes = [(*it[:-1], AHEAD if it[-1] > UNTIL else it[-1]) for it in rows["volume"]]
     subscriptions = [(*it[:-1], AHEAD if it[-1] > UNTIL else it[-1]) for it in rows["subscription"]]
     return rows | {"volume": volumes, "subscription": subscriptions}
 
 
 def due(service):
-    """What is to go of its rows, and the rows without."""
+    """Returns the rows of a service that are to be purged, and the rows without them."""
     after = swept_rows(service.before, UNTIL)
     return sum(gone(service.before, after)), after
 
 
 def goes():
-    """All that ended so long ago goes from the start on, and is counted; all else is as it was. Without the option nothing goes."""
+    """From the start on, all rows that ended before the retention are purged and counted. All others are as they were.
+    Without the option nothing is purged."""
     found = []
     with Keeping(far(many())) as started:
         count, after = due(started)
@@ -78,7 +81,7 @@ def goes():
         found += difference("serial", counted["dss_serial"], f"{after['meta'][0][2]}")
         found += difference("health", started.asked(HEALTH), said(200, SERVING))
         found += difference("its rows", started.rows() == after, True) + tables.wrong_in(started.database)
-        # the next start finds nothing more
+        # The next start finds nothing more.
         started.start()
         time.sleep(2)
         found += difference("again", started.counted()[SWEPT], "0") + difference("rows again", started.rows() == after, True)
@@ -90,7 +93,8 @@ def goes():
 
 
 def by_the_clock():
-    """What ended as long ago as it is kept goes, and what ended a little later stays; more seconds than the clock has keep all."""
+    """What ended exactly at the retention is purged, and what ended a little later stays. A retention beyond the clock
+    purges nothing."""
     now, rows = int(time.time()), many(0, 40)
     ends = [now - DAY - 60, now - DAY + HALF_AN_HOUR]
     rows["volume"] = [(*it[:-1], ends[at // 4 % 2]) for at, it in enumerate(rows["volume"])]
@@ -110,7 +114,8 @@ def by_the_clock():
 
 
 def once_a_minute():
-    """What ends while it is served goes at the next look, a minute after the one before, also while nobody asks anything."""
+    """What ends while the service runs is purged by the next run, a minute after the one before, also if no client
+    requests anything."""
     with Keeping(far(many(64, 4)), 1) as started:
         began = time.monotonic()
         first, _ = due(started)
@@ -134,7 +139,7 @@ def once_a_minute():
 
 
 def looks_ahead(airspace, until, call):
-    """Whether a call looks ahead of a moment, as docs/LAWS.md has it."""
+    """Returns whether a call is forward-looking from a time on, as docs/LAWS.md defines it."""
     asked = call.asked
     if asked is None or call.kind is None:
         return True
@@ -157,7 +162,7 @@ def looks_ahead(airspace, until, call):
 
 
 def airspace_of(rows):
-    """What rows of a scene stand for, as the plain policy has it."""
+    """Returns the plain policy's airspace for the rows of a scene."""
     airspace = plain_policy.Airspace(int(time.time()), drawn_calls.ALL_TOKENS)
     names = {entity: subscription for entity, subscription in rows["naming"]}
     cells, ids = tuple(plain_policy.cell_of(it) for it in NEAR[:1]), {}
@@ -175,8 +180,8 @@ def airspace_of(rows):
 
 
 def calls_ahead(seed, rows, until):
-    """Drawn calls that look ahead, with what the plain policy answers: that which keeps all. They are drawn over one that has
-    nothing of what was there before, and never had."""
+    """Returns drawn forward-looking calls, with the responses of a plain policy that retains all. They are drawn over
+    an airspace that never had the earlier rows."""
     whole, without = airspace_of(rows), plain_policy.Airspace(int(time.time()), drawn_calls.ALL_TOKENS)
     without.serial = whole.serial
     drawn = drawn_calls.Drawn(drawn_calls.Draw(seed), without, AHEAD)
@@ -196,8 +201,8 @@ def calls_ahead(seed, rows, until):
 
 
 def pairs():
-    """Drawn calls that look ahead are answered by a service that lets go meanwhile as by one that keeps all, byte for byte; the one
-    has in the end what a sweep leaves of the other."""
+    """Drawn forward-looking calls get the same bytes from a service that purges meanwhile as from one that retains all.
+    In the end the first has what a purge leaves of the second."""
     found, kinds = [], collections.Counter()
     scene = {it: [(*row[:-3], *NEAR) if it.endswith("cell") else row for row in all_] for it, all_ in many(WENT, 0).items()}
     for seed in SEEDS:
@@ -222,7 +227,7 @@ def pairs():
 
 
 def room_again():
-    """What goes no longer takes the room of its supplier."""
+    """A purge frees the quota of its USS."""
     rows = far(many(100, 0))
     kept = len(rows["entity"]) + len(rows["subscription"])
     method, target, token, body = put_intent(ID(9_000), "tok-a", 500, [(AHEAD, AHEAD + 10)])
@@ -238,7 +243,8 @@ def room_again():
 
 
 def told_nowhere():
-    """The log has the lines of requests alone, and nothing is told on standard error; with --verbose the lines are as without."""
+    """The log has only the lines of requests, and nothing is on standard error. With --verbose the lines are the same
+    as without."""
     found = []
     for options, preface in ((), b""), (("--verbose",), FullAndVerbose.preface):
         service = Keeping(far(many()), options=options)
@@ -254,7 +260,7 @@ def told_nowhere():
 
 
 def killed():
-    """Killed in the middle, it leaves the database swept in part; the next start makes the rest."""
+    """If the service is killed in the middle, the database is partly purged. The next start purges the rest."""
     found, parts = [], collections.Counter()
     for at in range(8):
         with Keeping(far(many(WENT, STAYING))) as started:
@@ -273,7 +279,7 @@ def killed():
 
 
 class Refusing(Keeping):
-    """Such a service whose files take no more from some call of these kinds on, after those of a start."""
+    """The same service, whose files take no more from some call of these kinds on, after those of a start."""
 
     def __init__(self):
         super().__init__(far(many(WENT, STAYING)), None)
@@ -281,7 +287,8 @@ class Refusing(Keeping):
         self.environment |= self.page.environment(library("fail_files", self.folder))
 
     def refuse(self, at, kinds):
-        """Starts it anew over what it had; what is counted once that call was made as it let go, or no client is answered any more."""
+        """Starts it again over its original rows. Returns the metrics once that call was made during a purge, or no
+        client gets a response."""
         self.kill()
         self.database.write_bytes(self.saved)
         self.database.with_name("dss.db-wal").unlink(missing_ok=True)
@@ -296,7 +303,8 @@ class Refusing(Keeping):
         return until_counted(self, FAULTS, "1")
 
     def left(self, went):
-        """What is wrong with what it left, once it was killed and can write again: so much went, and the next start makes the rest."""
+        """Returns what is wrong with its rows, once it was killed and can write again: that many were purged, and the
+        next start purges the rest."""
         count, after = due(self)
         self.page.set()
         self.kill()
@@ -308,8 +316,8 @@ class Refusing(Keeping):
 
 
 def full_disk():
-    """A disk that is full from some growth of a file on, as it refuses no write into what a file has: what went stays gone, a fault is
-    counted, the service goes on wherever that comes, and the next start makes the rest."""
+    """The disk is full from some growth of a file on, and still takes writes within a file: purged rows stay purged, a
+    fault is counted, the service continues wherever that happens, and the next start purges the rest."""
     found, parts = [], collections.Counter()
     reading = wire.request("GET", f"{wire.INTENTS}/{ID(WENT)}", "Bearer tok-a")
     with Refusing() as started:
@@ -327,8 +335,8 @@ def full_disk():
 
 
 def refused_writes():
-    """Files that take no write at all any more: where the database can tell that nothing was changed it goes on, and else stops; what went
-    stays gone, and the next start makes the rest."""
+    """Files take no write at all: if the database can tell that nothing was changed the service continues, and
+    otherwise it stops. Purged rows stay purged, and the next start purges the rest."""
     found, ends = [], collections.Counter()
     reading = wire.request("GET", f"{wire.INTENTS}/{ID(WENT)}", "Bearer tok-a")
     with Refusing() as started:
@@ -345,15 +353,15 @@ def refused_writes():
 
 
 def without_memory():
-    """Growths of memory are refused, each alone, while it goes: what went is gone, what did not stays, and clients are answered; the next
-    start makes the rest."""
+    """Memory allocations are refused, each alone, during a purge: purged rows stay purged, others stay, and clients get
+    responses. The next start purges the rest."""
     found, ends = [], collections.Counter()
     with Keeping(far(many(WENT // 4, STAYING)), None) as started:
         page, saved = Page(started.folder), started.database.read_bytes()
         started.environment |= page.environment(library("refuse_memory", started.folder))
         started.kill()
         page.set()
-        # a start that takes the same words, and lets nothing go
+        # A start that takes the same arguments, and purges nothing.
         started.options = ("--retention", f"{10**11}")
         started.start()
         opening, reading = page.get("calls"), wire.request("GET", f"{wire.AVAILABILITY}/uss-a", "Bearer tok-a")
@@ -365,7 +373,7 @@ def without_memory():
             started.database.with_name("dss.db-wal").unlink(missing_ok=True)
             page.set(at=at, row=1)
             started.start()
-            # a piece takes milliseconds, and after a fault none is made for a minute
+            # A chunk takes milliseconds, and after a fault there is none for a minute.
             time.sleep(2)
             page.set()
             counted = started.counted()
@@ -383,7 +391,8 @@ def without_memory():
 
 
 def without_copy():
-    """Over tables that SQLite wrote anew there is no copy in memory, and nothing goes: it is counted, and calls are answered."""
+    """Over tables that SQLite rewrote there is no mirror, and nothing is purged: that is counted, and calls get
+    responses."""
     with Keeping(far(many(64, 4))) as started:
         started.wait(due(started)[0])
         started.rows()

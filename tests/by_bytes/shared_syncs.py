@@ -1,5 +1,6 @@
-"""Changes of many clients at once share a sync, no answer to one goes out before it, and each is what the plain policy answers in some
-order of the calls."""
+"""Changes of many clients at once share a sync. No response to a change goes out before it.
+
+Each response is the plain policy's in some order of the calls."""
 import tempfile
 
 import drawn_calls
@@ -10,12 +11,12 @@ from devices import library
 from many_clients import Round
 
 SEED = 71
-# rounds of changes; of so many changes at least one shares its sync with the others, also where the log is copied into the file
+# Batches of changes. Of so many changes at least one shares its sync with the others, also during checkpoints.
 ROUNDS, SHARED_BY = 12, 4
-# changes of a client that is alone, each of which has a sync; a copy of the log has some more
+# Changes of a single client, each of which has a sync; a checkpoint has some more.
 ALONE, MORE = 40, 6
 MANY = 200
-# seconds in which what may go out would have come
+# Seconds in which a response that may go out would have arrived.
 SOON = 0.4
 DRAWN_ROUNDS, DRAWN_CLIENTS = 25, 24
 
@@ -27,13 +28,13 @@ class Rounds(AtOnce):
         super().__init__(library("fail_files", folder), clients, tokens)
 
     def judged(self, airspace, calls, **numbers):
-        """What a round came to."""
+        """Returns the outcome of a batch."""
         self.send_at_once(calls, **numbers)
         return Judged(airspace, calls, self.told(), self.found(calls))
 
 
 def shared():
-    """Sixteen clients at once need fewer syncs than changes, and one alone as many as it makes changes."""
+    """Sixteen clients at once need fewer syncs than changes, and a single one as many as it makes changes."""
     found, syncs = [], 0
     with tempfile.TemporaryDirectory() as folder:
         with Rounds(folder) as service:
@@ -56,7 +57,8 @@ def shared():
 
 
 def early(service, airspace, turn, **numbers):
-    """What goes out too early of a round whose sync waits, or what is wrong with it; and the airspace after it."""
+    """Returns which responses of a batch go out too early while its sync waits, or what is wrong with it; and the
+    airspace after it."""
     calls = service.mixed(airspace, turn)
     service.send_at_once(calls, **numbers)
     soon = service.told(SOON / len(calls))
@@ -65,14 +67,14 @@ def early(service, airspace, turn, **numbers):
     judged = Judged(airspace, calls, told, service.found(calls))
     before = [airspace.ask(*it).text() if not is_change(it) else None for it in calls]
     found = [f"{call}: {answer!r} before the sync" for call, answer, may in zip(calls, soon, before) if answer not in (None, may)]
-    # the first one saw no change
+    # The first one saw no change.
     found += [] if soon[0] else ["a reading before the first change waited"]
     return found + judged.wrong, judged.after
 
 
 def held_back():
-    """While the sync waits, no change is answered and no reading that saw one, and a reading before them is. A sync that is told as
-    done and is not shows that this would be seen."""
+    """While the sync waits, no change gets its response and no read that saw one, but a read before them does. A sync
+    that is reported as done and is not shows that the case would find early responses."""
     found = []
     with tempfile.TemporaryDirectory() as folder, Rounds(folder) as service:
         airspace = service.fill()
@@ -84,7 +86,7 @@ def held_back():
 
 
 def two_hundred():
-    """Of more clients at once than have their answers held back together, each has its answer."""
+    """More clients at once than can have their responses deferred together all get their response."""
     with tempfile.TemporaryDirectory() as folder, Rounds(folder, MANY) as service:
         airspace = service.fill(2)
         judged = service.judged(airspace, service.changes(airspace, 2))
@@ -95,12 +97,12 @@ def two_hundred():
 
 
 def is_explained(calls, told):
-    """Whether some order of calls on a new airspace explains what was told."""
+    """Returns whether some order of calls on a new airspace explains the responses."""
     return Round(plain_policy.Airspace(NOW, drawn_calls.ALL_TOKENS), calls, told).order is not None
 
 
 def planted():
-    """Two settings over one version: the second is denied, and that both are made is not explained."""
+    """Two availability changes over one version: the second is denied, and no order explains that both are made."""
     setting = "PUT", f"{wire.AVAILABILITY}/uss-a", "Bearer tok-v", b'{"availability":"Down","old_version":""}'
     made = [wire.compact({"status": {"availability": "Down", "uss": "uss-a"}, "version": wire.ovn(it)}) for it in (1, 2)]
     made, denied = [wire.answer(200, it) for it in made], wire.answer(409, '{"message":"P10 VERSION"}')
@@ -109,8 +111,8 @@ def planted():
 
 
 def drawn():
-    """Drawn calls of 24 clients at once, readings and denials among them: some order of each round's explains each answer by the plain
-    policy."""
+    """Drawn calls of 24 clients at once, with reads and denials: some order of each batch explains each response by the
+    plain policy."""
     airspace, draw = plain_policy.Airspace(NOW, drawn_calls.ALL_TOKENS), drawn_calls.Draw(SEED)
     with tempfile.TemporaryDirectory() as folder, Rounds(folder, DRAWN_CLIENTS, drawn_calls.ALL_TOKENS) as service:
         for number in range(DRAWN_ROUNDS):

@@ -1,4 +1,4 @@
-"""Rows of rules.py on subscriptions and on the intents that name one."""
+"""Rows of rules.py about subscriptions and the intents that reference one."""
 import wire
 from connections import ask, volume
 from wire import INTENTS, SUBSCRIPTIONS
@@ -15,14 +15,14 @@ def id_of(end):
 
 
 def subscription(end, token, intents=True, constraints=False, over=None, extents=volume()):
-    """A put of a subscription, over the version of a serial where one is given."""
+    """Returns a put of a subscription, over the version of a serial if one is given."""
     flags = {"notify_for_operational_intents": intents, "notify_for_constraints": constraints}
     path = f"{SUBSCRIPTIONS}/{id_of(end)}" + (f"/{wire.ovn(over)}" if over else "")
     return ask("PUT", path, token, wire.compact({"extents": extents, "uss_base_url": URL, **flags}))
 
 
 def naming(end, token, named, state="Accepted", key=(), over=None, extents=volume()):
-    """A put of an intent that names a subscription."""
+    """Returns a put of an intent that references a subscription."""
     members = {"extents": [extents], "key": [wire.ovn(it) for it in key], "state": state, "uss_base_url": URL}
     path = f"{INTENTS}/{id_of(end)}" + (f"/{wire.ovn(over)}" if over else "")
     return ask("PUT", path, token, wire.compact({**members, "subscription_id": id_of(named)}))
@@ -82,7 +82,7 @@ D1 = subscription("d1", "tok-b")
 
 
 def rows(intent, constraint, seen, put, missing, denied):
-    """The rows, of the requests and answers that rules.py has for entities."""
+    """Returns the rows, given the functions of rules.py for requests and responses about entities."""
     a1, c1 = intent("a1", "tok-a"), constraint("c1", "tok-c")
     seen_a1, seen_c1 = seen("a1", "uss-a"), seen("c1", "uss-c", state=None)
 

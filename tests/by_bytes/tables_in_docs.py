@@ -1,4 +1,4 @@
-"""The tables that scripts/doc_tables.py writes into documents are those of docs/openapi.yaml and of the SQL today."""
+"""The tables that scripts/doc_tables.py writes into documents match docs/openapi.yaml and the SQL."""
 import runpy
 
 from program import TOP

@@ -1,6 +1,6 @@
-"""The commands that the units of the package have beside the program, and what logrotate does: tried on a service that runs.
+"""The commands of the package's units, and its logrotate configuration, work on a running service.
 
-That systemd runs them so is not tried; of a command it takes `%%` for `%`, `$$` for `$` and `\\\\` for `\\`."""
+That systemd runs them this way is not tested. systemd reads `%%` as `%`, `$$` as `$` and `\\` as `\`."""
 import datetime
 import re
 import shutil
@@ -16,7 +16,7 @@ DEPLOY = TOP / "deploy"
 
 
 def command(unit, name, service):
-    """The words of a command of a unit, for the operator's port of a service."""
+    """Returns the arguments of a unit's command, for the admin port of a service."""
     text = re.search(rf"(?m)^{name}=-?/bin/bash -c '(.*)'$", (DEPLOY / unit).read_text())[1]
     for there, here in ("%%", "%"), ("$$", "$"), ("\\\\", "\\"), ("/127.0.0.1/8078", f"/127.0.0.1/{service.admin}"):
         text = text.replace(there, here)
@@ -24,7 +24,7 @@ def command(unit, name, service):
 
 
 class Kept(Operated):
-    """The service with a log of requests and a folder for copies, as the unit has them."""
+    """The service with an access log and a backup directory, as in the unit."""
 
     def command(self):
         (self.folder / "backups").mkdir(exist_ok=True)
@@ -35,10 +35,10 @@ class Kept(Operated):
 
 
 def stops():
-    """The unit's ExecStop has the service end, and waits until it has."""
+    """The unit's ExecStop stops the service, and waits until it has exited."""
     with Operated() as started:
         found = difference("an answer", started.exchange(CLOSING, ends=False), LAST)
-        # as systemd does, so that it is no process any more once it has ended
+        # Reaps the process once it has exited, as systemd does.
         threading.Thread(target=started.program.wait, daemon=True).start()
         got = run(command("dss.service", "ExecStop", started), more={"MAINPID": f"{started.program.pid}"})
         found += difference("ExecStop", got, (0, b"", b""))
@@ -46,7 +46,7 @@ def stops():
 
 
 def copies():
-    """The unit of copies makes one of the day, which opens, and says that there is one where it is asked again."""
+    """The backup unit makes a backup of the day, which opens. A second run says that it exists."""
     day = datetime.datetime.now(datetime.timezone.utc).strftime("%Y-%m-%d")
     with Kept() as started:
         started.exchange(CLOSING, ends=False)
@@ -64,7 +64,7 @@ def copies():
 
 
 def rotates():
-    """logrotate moves the log away, and the service goes on in a new file of its own."""
+    """logrotate moves the log away, and the service continues in a new file of its own."""
     program = shutil.which("logrotate", path="/usr/sbin:/usr/bin")
     if not program:
         print("logrotate is not here")
