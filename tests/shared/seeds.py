@@ -5,7 +5,7 @@ import os
 import random
 
 VARIABLE = "DSS_TEST_SEED"
-# new seeds are above all fixed ones
+# New seeds are above all fixed ones.
 LEAST, BEYOND = 1_000_000, 2**48
 
 
