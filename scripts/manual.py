@@ -9,7 +9,7 @@ import sys
 
 TOP = pathlib.Path(__file__).resolve().parent.parent
 ABOUT = "discovery and synchronization service for drone traffic"
-# the parts of a document that repeat the --help of the program, and other comments
+# The parts of a document that repeat the --help of the program, and other comments.
 REPEATED, COMMENT = re.compile(r"(?s)<!-- (?:commands|options): .*?<!-- end -->\n"), re.compile(r"<!-- .*? -->\n")
 PICTURE, FENCED = re.compile(r"!\[[^\]]*\]\([^)]*\)\n"), re.compile(r"(?ms)^```\w*\n(.*?)^```\n")
 

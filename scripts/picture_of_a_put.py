@@ -1,7 +1,8 @@
-"""The way of a PUT of an operational intent in `dss serve`, as a text of SVG, read from the sources.
+"""Draws the path of a PUT of an operational intent through `dss serve`, as SVG text, read from the sources.
 
-What is drawn is a list of functions, each below one that calls it. Where a function stands, and what is said of it, is read from the
-sources; that the one calls the other, itself or by functions of its crate, is looked for there. Where it is not so, nothing is drawn."""
+The picture shows a list of functions, each below one that calls it. The location of a function, and its description,
+are read from the sources. The script checks there that the one calls the other, itself or by functions of its crate.
+If it does not, nothing is drawn."""
 import functools
 import html
 import pathlib
@@ -9,7 +10,7 @@ import re
 import textwrap
 
 TOP = pathlib.Path(__file__).resolve().parent.parent
-# each a step in, below a function that calls it: the file and the function
+# Each line is indented below a function that calls it: the file and the function.
 WAY = """
 serve::serve_clients
   event_loop::run_once
@@ -52,7 +53,7 @@ serve::serve_clients
         connection::release_deferred
         client_io::send
 """
-# where a part of the way begins, and what it is
+# The first function of each part of the path, and the name of the part.
 PARTS = {
     "serve::serve_clients": "all connections",
     "event_loop::run_once": "a round of their calls",
@@ -71,20 +72,20 @@ PARTS = {
     "batch::commit_batch": "one transaction, one sync",
     "client_connection::tell": "and each is answered",
 }
-# the columns: the crates of each, by how their names begin
+# The columns: the crates of each, by the prefixes of their names.
 LANES = {
     "the wire": ("dss_", "admin_", "wire_", "token_conf"), "the service": ("service_",), "the rules": ("policy_", "entity_"),
     "tables and copy": ("space_",),
 }
 FUNCTION = re.compile(r"^( *)(?:pub(?:\(\w+\))? )?fn (\w+)", re.M)
 COMMENT = re.compile(r"((?:^ *//.*\n)+)(?: *#.*\n)*\Z", re.M)
-# a row, a column, a step within a column, a box, and what stands beside
+# A row, a column, a step within a column, a box, the margin, and the text beside.
 HIGH, LANE, STEP, WIDE, BOX, MARGIN, SAID = 38, 170, 12, 152, 30, 12, 640
 
 
 @functools.cache
 def functions():
-    """The functions of the sources: of the crate, the file and the name their texts, each with the comment above it."""
+    """Returns the functions of the sources: their texts by crate, file and name, each with the comment above it."""
     found = {}
     for path in sorted(TOP.glob("crates/*/src/*.rt")):
         text = path.read_text()
@@ -98,7 +99,7 @@ def functions():
 
 
 def place(step):
-    """The one place of a function in the sources: its crate, its file, its name."""
+    """Returns the only location of a function in the sources: its crate, its file, its name."""
     file, name = step.split("::")
     found = [it for it in functions() if it[1:] == (file, name)]
     if len(found) != 1:
@@ -107,20 +108,20 @@ def place(step):
 
 
 def said_of(step):
-    """The first sentence of what the source says of a function."""
+    """Returns the first sentence of a function's doc comment."""
     comment = " ".join(it.strip().lstrip("/").strip() for it in functions()[place(step)][0][0].splitlines())
     return re.split(r"(?<=[.]) ", comment)[0]
 
 
 @functools.cache
 def named(crate, name):
-    """The functions of a crate of a name."""
+    """Returns the functions of a crate with a name."""
     return [it for it in functions() if (it[0], it[2]) == (crate, name)]
 
 
 @functools.cache
 def spaces():
-    """The calls of the traits of spaces, and the crates of the space over tables and of its copy in memory."""
+    """Returns the calls of the traits of spaces, and the crates of the space over tables and of its mirror."""
     calls = [name for crate, file, name in functions() if crate == "space_core" and file in ("space", "batch", "group_commit")]
     sources = sorted(TOP.glob("crates/*/src/*.rt"))
     is_space = re.compile(r"Space for (SqlSpace|Mirrored|MemorySpace)\b")
@@ -128,7 +129,8 @@ def spaces():
 
 
 def calls(above, below):
-    """Whether a function calls another one, itself or by others of its crate; a call of a space goes to the one over tables and its copy."""
+    """Returns whether a function calls another one, itself or by others of its crate. A call of a space goes to the one
+    over tables and to its mirror."""
     of_space, over = spaces()
     seen, open_ = set(), [place(above)]
     while open_:
@@ -145,7 +147,7 @@ def calls(above, below):
 
 
 def way():
-    """The steps of the way, each with its depth and the place of the step above it."""
+    """Returns the steps of the path, each with its depth and the location of the step above it."""
     found, above = [], []
     for line in WAY.strip().splitlines():
         depth, step = (len(line) - len(line.lstrip())) // 2, line.strip()
@@ -159,7 +161,7 @@ def lane_of(crate):
 
 
 def laid():
-    """Of each step where its box begins: below what calls it, and in its own column."""
+    """Returns where the box of each step begins: below its caller, and in its own column."""
     x, inner = [], []
     for step, above in way():
         lane = lane_of(place(step)[0])
@@ -170,7 +172,7 @@ def laid():
 
 
 def picture():
-    """The text of the picture."""
+    """Returns the text of the picture."""
     steps, x = way(), laid()
     for step, above in steps:
         if above is not None and not calls(steps[above][0], step):

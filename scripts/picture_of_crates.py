@@ -1,28 +1,30 @@
-"""Which crate of the repository stands on which, as a text of SVG, read from crates.txt.
+"""Draws which crate of the repository depends on which, as SVG text, read from crates.txt.
 
-A crate stands right below the first that uses it, and one that the program does not use yet right above what it uses. A line is left out
-where another way leads to the same crate. What is there for tests and measuring alone is left out."""
+A crate is right below the lowest crate that uses it. A crate that the program does not use yet is right above what
+it uses. A line is left out if another path leads to the same crate. Crates only for tests and measurements are left
+out."""
 import functools
 import pathlib
 
 TOP = pathlib.Path(__file__).resolve().parent.parent
 CRATES = TOP / "crates.txt"
 FOR_TESTS = {"test_grid_vectors", "test_libraries", "test_sql_memory"}
-# a box, what lies between boxes and between rows, and how far every other row stands aside, so that fewer lines cross boxes
+# A box, the gaps between boxes and between rows, the margin, and the offset of every other row, so that fewer lines
+# cross boxes.
 WIDE, HIGH, BESIDE, BETWEEN, MARGIN, ASIDE = 118, 26, 14, 44, 12, 66
-# how often crates of a row are laid under what they stand on
+# How often crates of a row are moved under their dependencies.
 TURNS = 8
 
 
 def uses():
-    """Of each crate, those of the repository that it uses."""
+    """Returns the crates of the repository that each crate uses."""
     lines = [it.split(":") for it in CRATES.read_text().splitlines() if it and not it.startswith("#")]
     of = {name.split()[0]: used.split() for name, used in lines}
     return {name: [it for it in used if it in of] for name, used in of.items() if name not in FOR_TESTS}
 
 
 def rows(below):
-    """The crates by rows, lowest first: each right below the first that uses it, and near what it stands on."""
+    """Returns the crates by rows, lowest first: each right below the first that uses it, and near its dependencies."""
 
     @functools.cache
     def height(name):
@@ -54,7 +56,7 @@ def rows(below):
 
 
 def lines_of(below):
-    """The pairs of a crate and one that it uses, to which no other way leads."""
+    """Returns the pairs of a crate and one that it uses, to which no other path leads."""
 
     @functools.cache
     def all_below(name):
@@ -64,7 +66,7 @@ def lines_of(below):
 
 
 def picture():
-    """The text of the picture."""
+    """Returns the text of the picture."""
     below = uses()
     laid = rows(below)
     wide = MARGIN * 2 + max(map(len, laid)) * (WIDE + BESIDE) - BESIDE + ASIDE
