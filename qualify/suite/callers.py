@@ -1,4 +1,4 @@
-"""Who asks: suppliers with tokens of a file, or of a command that mints them."""
+"""Callers: USSs with tokens of a file, or of a command that makes them."""
 import dataclasses
 import subprocess
 import tomllib
@@ -8,7 +8,7 @@ PROCESSING, MANAGEMENT = "utm.constraint_processing", "utm.constraint_management
 ARBITRATION = "utm.availability_arbitration"
 KNOWN = {STRATEGIC, MONITORING, PROCESSING, MANAGEMENT, ARBITRATION}
 
-# What is needed: a name, which supplier (0 and 1 are two that meet, None any), and exactly which scopes.
+# The required callers: a name, the USS (0 and 1 are two that conflict, None any), and the exact scopes.
 ROLES = {
     "A": (0, {STRATEGIC}),
     "A monitoring": (0, {STRATEGIC, MONITORING}),
@@ -22,7 +22,7 @@ ROLES = {
 
 
 class Lacking(Exception):
-    """The tokens that are needed cannot be had."""
+    """The error that required tokens are missing."""
 
 
 @dataclasses.dataclass(frozen=True)
@@ -34,7 +34,7 @@ class Caller:
 
 
 def read_tokens(file):
-    """The callers, by their names, with the tokens of a file of the form of the service's own."""
+    """Returns the callers, by their names, with the tokens of a file in the service's format."""
     try:
         with open(file, "rb") as it:
             rows = tomllib.load(it).get("token", [])
@@ -64,7 +64,8 @@ def said_of(name):
 
 
 def mint_tokens(command, suppliers):
-    """The callers, by their names, with tokens that a command prints: its words are a supplier and scopes in one text."""
+    """Returns the callers, by their names, with tokens that a command prints. Its arguments are a USS and scopes in one
+    text."""
     callers = {}
     for name, (which, scopes) in ROLES.items():
         if scopes:

@@ -71,7 +71,7 @@ def main(words):
         for check in checks:
             print(f"{check.group} {check.name}: {check.sentence}. ({report.sources(check, given.standard)})")
         return 0
-    # told to end, it cleans up as it does after an interrupt
+    # On SIGTERM it cleans up as after an interrupt.
     signal.signal(signal.SIGTERM, signal.default_int_handler)
     try:
         bounds = given.rate, given.requests, given.seconds
@@ -93,7 +93,7 @@ def main(words):
 
 
 def told(given, run, results):
-    """Writes what was found, and says whether all held."""
+    """Writes the results, and returns whether all checks held."""
     folder = pathlib.Path(given.result)
     try:
         folder.mkdir(parents=True, exist_ok=True)

@@ -1,4 +1,4 @@
-"""What a run found, as a page that stands alone and as JUnit XML."""
+"""The results of a run, as a self-contained page and as JUnit XML."""
 import html
 import json
 import time
@@ -40,7 +40,7 @@ def mark(holds):
 
 
 def sources(check, is_standard):
-    """The rules or the operations that a check holds to."""
+    """Returns the rules or the operations that a check tests."""
     rules = f"docs/POLICY.md: {', '.join(check.rules)}" if any(check.rules) else ""
     operations = f"ASTM F3548-21: {', '.join(check.operations)}" if check.operations else ""
     return "; ".join(it for it in ((operations, rules) if is_standard else (rules, operations)) if it)
@@ -66,7 +66,7 @@ def block(result, is_standard):
 
 
 def page(run, results):
-    """The page as a text."""
+    """Returns the page as a text."""
     is_standard = run.dialect.is_standard
     broken = sum(it.why is not None for it in results)
     what = "the DSS interface of ASTM F3548-21, as far as this suite looks" if is_standard else "the profile of dss, docs/POLICY.md"
@@ -93,12 +93,12 @@ def page(run, results):
 
 
 def plain(text):
-    """The text without what XML does not take."""
+    """Returns the text without characters that XML forbids."""
     return "".join(it if it in "\t\n" or " " <= it <= "\ud7ff" or "\ue000" <= it <= "\ufffd" or it > "\uffff" else "?" for it in text)
 
 
 def junit(run, results):
-    """JUnit XML as bytes."""
+    """Returns JUnit XML as bytes."""
     broken = sum(it.why is not None for it in results)
     suite = tree.Element("testsuite", {
         "name": f"qualify {run.dialect.name}", "tests": str(len(results)), "failures": str(broken), "errors": "0", "skipped": "0",

@@ -1,4 +1,4 @@
-"""A run of the checks over a service: the place that it is at, what came of each check, and that it leaves nothing behind."""
+"""A run of the checks over a service: its place, the result of each check, and its cleanup."""
 import dataclasses
 import random
 import time
@@ -9,26 +9,26 @@ from suite.check import CHECKS
 from suite.trial import CONSTRAINTS, INTENTS, SUBSCRIPTIONS, Broken, Knowledge, Trial
 from suite.wire import Client, OutOfBounds, Pace
 
-# how many places are tried before the run gives up
+# How many places are tried before the run fails.
 MOST_HOMES = 20
 
 
 class NoPlace(Exception):
-    """There is no empty place, or the service does not say so."""
+    """The error that no empty place exists, or that the service does not answer the search."""
 
 
 @dataclasses.dataclass
 class Result:
     check: object
     exchanges: list
-    # what does not hold, in words, or None
+    # What does not hold, or None.
     why: str
     left: list
     seconds: float
 
 
 def chosen(dialect, names=()):
-    """The checks of a dialect, or those named, in their order."""
+    """Returns the checks of a dialect, or the named ones, in their order."""
     groups = [it.__name__.rpartition(".")[2] for it in checks.GROUPS]
     fitting = [it for it in CHECKS if it.only in (None, dialect.name) and (not names or it.name in names or it.group in names)]
     return sorted(fitting, key=lambda it: groups.index(it.group))
@@ -46,14 +46,14 @@ class Run:
         self.began = time.time()
 
     def site(self):
-        """A place that was not given yet in this check."""
+        """Returns a place that this check has not used yet."""
         self.used += 1
         return self.places[(self.used - 1) % len(self.places)]
 
     def settle(self):
-        """Finds a place where nothing is."""
+        """Finds an empty place."""
         homes, trial = self.dialect.homes(self.seed), Trial(self)
-        # the forms of answers are for the checks
+        # Forms of responses are tested by the checks.
         trial.is_watched = False
         for _ in range(MOST_HOMES):
             home = next(homes)
@@ -72,7 +72,7 @@ class Run:
         raise NoPlace(f"none of {MOST_HOMES} places by the seed {self.seed} is empty: take another seed")
 
     def results(self, chosen):
-        """What comes of each check, as it comes."""
+        """Yields the result of each check, when it is done."""
         for check in chosen:
             began, trial = time.monotonic(), Trial(self)
             is_interrupted, why = False, None
@@ -90,7 +90,7 @@ class Run:
         self.client.close()
 
     def hide_tokens(self, exchanges):
-        """Takes tokens out of what is shown."""
+        """Redacts tokens in the exchanges that are shown."""
         for text in sorted({it.token for it in self.callers.values()}, key=len, reverse=True):
             for it in exchanges:
                 it.text = it.text.replace(text, "(a token)")
@@ -99,13 +99,13 @@ class Run:
 
 
 def broken_in(check, trial):
-    """What does not hold, in words, or None."""
+    """Returns what does not hold, or None."""
     try:
         check.body(trial)
     except (Broken, OutOfBounds) as fault:
         return str(fault) or "it does not hold"
     except Exception as fault:
-        # a body of another form than the one that was looked at
+        # A body of another form than the check expects.
         where = traceback.extract_tb(fault.__traceback__)[-1]
         return f"an answer that can be read ({type(fault).__name__}: {fault}, {where.name})"
     return None

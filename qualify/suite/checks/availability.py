@@ -1,4 +1,4 @@
-"""Whether suppliers are there."""
+"""The availability of USSs."""
 from suite.check import AVAILABILITY as OPERATIONS, INTENT, check
 from suite.checks.keys import lacks
 from suite.trial import AVAILABILITY, INTENTS

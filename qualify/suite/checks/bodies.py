@@ -1,4 +1,4 @@
-"""Bodies and limits, as the profile has them."""
+"""Bodies and limits, as the profile defines them."""
 import json
 
 from suite.check import check

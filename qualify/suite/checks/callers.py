@@ -1,4 +1,4 @@
-"""Who may ask for what, and what a caller gets that may not."""
+"""Which callers may request what, and what a denied caller receives."""
 from suite.callers import ARBITRATION, MANAGEMENT, MONITORING, PROCESSING, STRATEGIC, Caller
 from suite.check import AVAILABILITY as SETTINGS, CONSTRAINT, INTENT, SUBSCRIPTION, check
 from suite.trial import AVAILABILITY, CONSTRAINTS, INTENTS, SUBSCRIPTIONS, Supplier
@@ -8,7 +8,8 @@ VERSION = "0123456789abcdef0123456789abcdef"
 
 
 def requests(it):
-    """A request of each operation, in its form, with the scopes of which it takes any one: nothing that it names is there."""
+    """Returns a well-formed request of each operation, with the scopes of which it needs any one. Nothing that it names
+    exists."""
     volume, area = it.volume(it.site()), {"area_of_interest": it.dialect.area([it.site()])}
     flights, constraints = {STRATEGIC, MONITORING}, {PROCESSING, MANAGEMENT}
     intent, constraint = it.intent_body(volume), {"extents": [volume], "uss_base_url": "https://uss-a.qualify.example"}
@@ -70,7 +71,7 @@ def each_operation_is_open_to_its_scopes(it):
         wanted = 200 if path.endswith("/query") or AVAILABILITY in path and method == "GET" else 409 if AVAILABILITY in path else 404
         for supplier in it.suppliers.values():
             if scopes & supplier.caller.scopes:
-                # an update in the standard may ask for a subscription first
+                # In the standard an update may request a subscription first.
                 is_update = method == "PUT" and wanted == 404
                 standard = (wanted, 403, 409) if is_update else (wanted,)
                 supplier.ask(method, path, body).must(wanted, standard=standard)

@@ -1,4 +1,5 @@
-"""Paths, methods and connections, as the profile has them: what a proxy in front of the service may answer by rules of its own."""
+"""Paths, methods and connections, as the profile defines them. A proxy in front of the service may answer them by its
+own rules."""
 from suite.check import check
 from suite.trial import AVAILABILITY, CONSTRAINTS, INTENTS, SUBSCRIPTIONS
 

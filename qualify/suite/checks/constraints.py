@@ -1,4 +1,4 @@
-"""Constraints: what is kept, and who has to know of them."""
+"""Constraints: what is stored, and which USSs must know them."""
 from suite.check import CONSTRAINT, INTENT, check
 from suite.checks.keys import lacks
 from suite.dialect import URL

@@ -1,4 +1,4 @@
-"""Operational intents: what is kept, who is shown what, and what is found where."""
+"""Operational intents: what is stored, what each USS sees, and what queries find."""
 from suite.check import INTENT, check
 from suite.dialect import ENDS, STARTS, URL, ZERO
 from suite.trial import INTENTS
@@ -7,7 +7,7 @@ HOUR = 3600
 
 
 def is_as_put(it, answer, supplier, id_, state="Accepted", url="a"):
-    """That a reference is of what was put."""
+    """Checks that a reference matches the put."""
     told = answer.reference
     answer.need(told["id"] == id_, f"id {id_}")
     answer.need(told.get("state") == state, f"state {state}")

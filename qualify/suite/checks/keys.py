@@ -1,11 +1,11 @@
-"""Keys: what a put has to show that it knows, and what meets what."""
+"""Keys: which OVNs a put must list, and which volumes meet."""
 from suite.check import INTENT, check
 from suite.dialect import ENDS, STARTS, cell, number_of, parent, token
 from suite.trial import CONSTRAINTS, INTENTS
 
 
 def lacks(it, put, *ids, constraints=()):
-    """That a put is refused for its key, with exactly these missing."""
+    """Checks that a put is denied for its key, with exactly these missing."""
     put.must(409, "P14 KEY")
     told = [entity["id"] for entity in put.missing()]
     put.need(sorted(told) == sorted(ids), f"missing: the intents {', '.join(sorted(ids)) or 'none'}")
@@ -181,7 +181,7 @@ def drawn_volumes_meet_as_they_are(it):
 
 
 def draw_box(draw, sites):
-    """Places, levels of 100 m and spans of 20 minutes, which lie apart where they differ."""
+    """Draws places, altitude bands of 100 m and spans of 20 minutes. Different values do not overlap."""
     places = draw.sample(sites, draw.randint(1, len(sites)))
     return places, draw.randint(0, 2), draw.randint(0, 2)
 

@@ -1,10 +1,10 @@
-"""Answers that were lost, requests that are sent again, and two suppliers at once."""
+"""Lost responses, repeated requests, and two USSs at once."""
 from suite.check import AVAILABILITY as SETTINGS, INTENT, SUBSCRIPTION, check
 from suite.trial import AVAILABILITY, INTENTS, SUBSCRIPTIONS
 
 
 def sent_twice(it, supplier, method, path, body=None):
-    """The answer to a request that was sent before, and whose answer was lost."""
+    """Returns the response to a repeated request, whose first response was lost."""
     if method == "PUT":
         it.may_be_kept(supplier, path)
     lost = it.client.lose(supplier.caller, method, path, body)
@@ -70,7 +70,7 @@ def a_lost_setting_is_done_once(it):
 
 
 def at_once(it, *asked):
-    """The answers to requests that are sent at once."""
+    """Returns the responses to requests that are sent at once."""
     for supplier, method, path, _ in asked:
         if method == "PUT":
             it.may_be_kept(supplier, path)

@@ -1,4 +1,4 @@
-"""Subscriptions: what is kept, who is told of which change, and by which index."""
+"""Subscriptions: what is stored, which changes notify them, and with which index."""
 from suite.check import CONSTRAINT, INTENT, SUBSCRIPTION, check
 from suite.dialect import ENDS, STARTS, URL
 from suite.trial import CONSTRAINTS, INTENTS, SUBSCRIPTIONS
@@ -10,7 +10,7 @@ def index_of(it, supplier, id_):
 
 
 def tells(it, answer, id_, index):
-    """That a change tells a subscription, with this index, and that it has it from then on."""
+    """Checks that a change notifies a subscription with this index, and that it has the index from then on."""
     answer.need(answer.indexes.get(id_) == index, f"the subscription with index {index}")
     read = it.a.get(SUBSCRIPTIONS, id_).must(200)
     read.need(read.reference["notification_index"] == index, f"index {index}")
