@@ -165,6 +165,6 @@ class Standard:
 
 
 def distance(one, other):
-    """Returns the metres between places that are near each other, rounded up."""
+    """Returns the metres between places near each other, or slightly more."""
     north, east = one[0] - other[0], (one[1] - other[1]) * math.cos(math.radians(one[0]))
     return 112_000 * math.hypot(north, east)

@@ -193,7 +193,7 @@ def package():
         one_space(it.top)
         packages[0].unlink()
         status, output, error = it.run(["scripts/package", str(made)])
-        found += difference("other sources", (status, "of other sources" in error, sorted(made.glob("*.deb"))), (1, True, []))
+        found += difference("other sources", (status, "from other sources" in error, sorted(made.glob("*.deb"))), (1, True, []))
         return found
 
 

@@ -23,8 +23,8 @@ FIRST_ANSWER = 3.0
 AT_ONCE = 8
 # The crates of most cases.
 SOME = "dss*"
-NO_KIT = ", and the command rt is not on PATH, which proves and builds: nothing is run"
-OTHER_SOURCES = "the release is of other sources"
+NO_KIT = ", and the command rt of the Rattle kit, which could build the program, is not on PATH"
+OTHER_SOURCES = "the release was made from other sources"
 DAMAGED = "the release is damaged"
 ASKED = "DSS_BUILD asks for a build"
 # Replacements of the kit, and of the byte-exact tests and those of allocations, the gateway, the suite and three hosts.
@@ -132,7 +132,7 @@ class Checkout:
         found = difference("no kit", self.ask(), (1, b"", f"dss: {why}{NO_KIT}\n"))
         status, output, error = self.ask(kit=True)
         first = error.splitlines()[:1]
-        wanted = 0, WANTED, [f"dss: {why}: the program is proved and built"]
+        wanted = 0, WANTED, [f"dss: {why}: proving and building the program"]
         return found + difference("with a kit", (status, output, first), wanted)
 
     def answered(self, what, said="", **how):
@@ -197,7 +197,7 @@ SPOILT = [
     (noted("program", ""), DAMAGED),
     (noted("sources", "0" * 64), OTHER_SOURCES),
     (noted("sources", ""), OTHER_SOURCES),
-    (noted("processor", "aarch64"), "the release is for the processor aarch64, and this one is x86_64"),
+    (noted("processor", "aarch64"), "the release is for aarch64, and this processor is x86_64"),
     (lambda top: (top / "release" / "made-of").write_text(""), OTHER_SOURCES),
     (lambda top: (top / "release" / "made-of").unlink(), "there is no release"),
     (lambda top: shutil.rmtree(top / "release"), "there is no release"),
@@ -223,7 +223,7 @@ def other_processor():
     """On another processor the release is not run."""
     with Checkout(SOME) as it:
         script(it.top.parent / "other" / "uname", "#!/bin/sh\necho aarch64\n")
-        why = "the release is for the processor x86_64, and this one is aarch64"
+        why = "the release is for x86_64, and this processor is aarch64"
         got = it.ask(more={"PATH": f"{it.top.parent}/other:{without_kit()}"})
         return difference("on another processor", got, (1, b"", f"dss: {why}{NO_KIT}\n"))
 
@@ -266,7 +266,7 @@ def other_sources():
         shutil.rmtree(it.top / "release")
         shutil.copytree(whole / "release", it.top / "release")
         shutil.copy2(whole / "crates.txt", it.top / "crates.txt")
-        said = "dss: the program that was built here is of other sources: the release is run\n"
+        said = "dss: the program in .dss was built from other sources: running the release\n"
         return found + it.answered("of sources as before", said) + it.answered("again")
 
 
@@ -276,7 +276,7 @@ def damaged_here():
         found = it.answered("first")
         built = it.top / ".dss" / "dss"
         built.write_bytes(turned(built.read_bytes()))
-        found += it.answered("damaged", "dss: the program that was built here is damaged: the release is run\n")
+        found += it.answered("damaged", "dss: the program in .dss is damaged: running the release\n")
         return found + it.answered("again")
 
 
@@ -286,7 +286,7 @@ def asked_build():
     with Checkout(SOME) as it:
         found = it.answered("the release")
         found += difference("no kit", it.ask(more=more), (1, b"", f"dss: {ASKED}{NO_KIT}\n"))
-        said = f"dss: {ASKED}: the program is proved and built\ndss: dss proved, 1 of "
+        said = f"dss: {ASKED}: proving and building the program\ndss: dss proved, 1 of "
         status, output, error = it.ask(kit=True, more=more)
         found += difference("a build", (status, output, error[: len(said)]), (0, WANTED, said))
         return found + it.answered("what was built", more=more) + it.answered("what was built, and not asked for")
@@ -314,7 +314,7 @@ def not_written():
             made = sorted(file.name for file in it.home.glob(".cache/dss/*/*"))
             found += difference("the cache", made, ["dss", "made-of"])
             status, output, error = it.ask(start=start, more={"HOME": "/proc"})
-            found += difference("no cache", (status, output, "can be written" in error), (1, b"", True))
+            found += difference("no cache", (status, output, "cannot write in" in error), (1, b"", True))
         return found + ([f"{it.top} was written"] if (it.top / ".dss").exists() else [])
 
 
@@ -343,8 +343,8 @@ def gate(what, checkout, words, passed, failed, said, skipped="", **how):
 
 def gates():
     """The gate passes if the release is what it has built, and otherwise says what to run."""
-    same = "the release is byte for byte the program that the gate has built"
-    run = "run scripts/release, and commit what it makes"
+    same = "the release equals the program that the gate has built, byte for byte"
+    run = "run scripts/release, and commit the files that it makes"
     bad = {"COUNTS": "1 passed, 1 failed"}
     with Checkout(SOME) as it:
         found = gate("by bytes", it, ["check"], 1, 0, "1 passed, 0 failed")
@@ -365,7 +365,7 @@ def gates():
         made = it.top / "release" / "made-of"
         text = made.read_text()
         made.write_text(text.replace("kit a kit of tests", "kit another kit"))
-        found += gate("another kit", it, ["check", "all"], 7, 0, "they are not compared", more={"TESTED": str(other)})
+        found += gate("another kit", it, ["check", "all"], 7, 0, "the programs are not compared", more={"TESTED": str(other)})
         found += gate("another kit, same bytes", it, ["check", "all"], 7, 0, same)
         made.write_text(text)
         one_space(it.top)
