@@ -40,7 +40,7 @@ def read_tokens(file):
             rows = tomllib.load(it).get("token", [])
         tokens = {(it["uss"], frozenset(it["scopes"]) & KNOWN): it["text"] for it in reversed(rows)}
     except (OSError, ValueError, TypeError, KeyError, AttributeError) as fault:
-        raise Lacking(f"{file} is no token file: {fault}") from fault
+        raise Lacking(f"{file}: no token file: {fault}") from fault
     suppliers = sorted({uss for uss, _ in tokens})
 
     def token_of(which, scopes, pair):
@@ -54,12 +54,12 @@ def read_tokens(file):
         if not lacking:
             return {name: Caller(name, uss, frozenset(ROLES[name][1]), text) for name, (uss, text) in found.items()}
         best = lacking if best is None or len(lacking) < len(best) else best
-    raise Lacking(f"{file} lacks tokens: {', '.join(said_of(it) for it in best or ROLES)}")
+    raise Lacking(f"{file}: lacks tokens: {', '.join(said_of(it) for it in best or ROLES)}")
 
 
 def said_of(name):
     which, scopes = ROLES[name]
-    of = "any supplier" if which is None else "one supplier" if which == 0 else "another supplier"
+    of = "any USS" if which is None else "one USS" if which == 0 else "another USS"
     return f"of {of} with exactly the scopes {' '.join(sorted(scopes)) or 'none'}"
 
 
@@ -78,7 +78,7 @@ def minted(command, uss, scopes):
     try:
         done = subprocess.run([*command, uss, " ".join(sorted(scopes))], capture_output=True, text=True, timeout=60)
     except (OSError, subprocess.TimeoutExpired) as fault:
-        raise Lacking(f"{command[0]} gives no token: {fault}") from fault
+        raise Lacking(f"{command[0]}: gives no token: {fault}") from fault
     if done.returncode or len(done.stdout.split()) != 1:
-        raise Lacking(f"{command[0]} gives no token of {uss} for {' '.join(sorted(scopes))}: {done.stderr.strip()[:300]}")
+        raise Lacking(f"{command[0]}: gives no token of {uss} for {' '.join(sorted(scopes))}: {done.stderr.strip()[:300]}")
     return done.stdout.strip()

@@ -64,12 +64,12 @@ class Run:
                 is_empty = all(answer.ids == [] for answer in answers)
             except (Broken, OutOfBounds, TypeError, KeyError) as fault:
                 last = trial.exchanges[-1] if trial.exchanges else None
-                came = f": {last.method} {last.path} was answered {last.status} {' '.join(last.text.split())[:300]}" if last else ""
-                raise NoPlace(f"{fault} was expected of a query of its place{came}") from fault
+                came = f": response to {last.method} {last.path}: {last.status} {' '.join(last.text.split())[:300]}" if last else ""
+                raise NoPlace(f"the search for an empty place failed: expected {fault}{came}") from fault
             if is_empty:
                 self.home, self.places = home, self.dialect.sites(home, self.seed)
                 return
-        raise NoPlace(f"none of {MOST_HOMES} places by the seed {self.seed} is empty: take another seed")
+        raise NoPlace(f"none of {MOST_HOMES} places by the seed {self.seed} is empty; use another --seed")
 
     def results(self, chosen):
         """Yields the result of each check, when it is done."""

@@ -47,7 +47,7 @@ class Exchange:
             self.value = json.loads(text) if text else None
 
     def fail(self, why):
-        self.text = f"no answer: {why}"
+        self.text = f"no response: {why}"
 
 
 class Pace:
@@ -63,9 +63,9 @@ class Pace:
         with self.lock:
             reserve = 0 if is_cleaning else self.reserve
             if self.left <= reserve:
-                raise OutOfBounds("no more requests are allowed")
+                raise OutOfBounds("the limit of --requests is reached")
             if time.monotonic() > self.until + (GRACE if is_cleaning else 0):
-                raise OutOfBounds("no more time is allowed")
+                raise OutOfBounds("the limit of --seconds is reached")
             self.left, self.sent = self.left - 1, self.sent + 1
             now = time.monotonic()
             at = self.next = max(now, self.next + self.step)
@@ -84,7 +84,7 @@ class Client:
     def __init__(self, url, pace, ca=None):
         parts = urllib.parse.urlsplit(url)
         if parts.scheme not in ("http", "https") or not parts.hostname:
-            raise ValueError(f"{url} is no URL of HTTP")
+            raise ValueError(f"--url {url}: no URL of HTTP or HTTPS")
         self.is_tls, self.host, self.port = parts.scheme == "https", parts.hostname, parts.port
         self.front = parts.path.rstrip("/")
         self.context = ssl.create_default_context(cafile=ca) if self.is_tls else None

@@ -64,7 +64,7 @@ def try_one(name, gateway):
 def main(gateway, *wanted):
     unknown = [it for it in wanted if it not in whole.CASES and it not in FAULTS]
     if unknown:
-        print(f"no case is named {' '.join(unknown)}\n0 passed, 1 failed")
+        print(f"no such case: {' '.join(unknown)}\n0 passed, 1 failed")
         return False
     # A background process ignores SIGINT, and so do its children.
     signal.signal(signal.SIGINT, signal.default_int_handler)

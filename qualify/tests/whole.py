@@ -136,7 +136,7 @@ def bounds_are_kept(gateway):
     """A run never exceeds its number of requests, its rate and its duration. It deletes what was put until then."""
     with Plain() as place:
         held, proxy = place.over(None, "--requests", "150")
-        assert held.status == 1 and len(proxy.times) <= 150 and "no more requests are allowed" in held.text, (held, len(proxy.times))
+        assert held.status == 1 and len(proxy.times) <= 150 and "the limit of --requests is reached" in held.text, (held, len(proxy.times))
         held, proxy = place.over(None, "intents", "repeats", rate="60")
         held.must_hold(10)
         seconds = [sum(first <= it < first + 1 for it in proxy.times) for first in proxy.times]
@@ -144,7 +144,7 @@ def bounds_are_kept(gateway):
         assert max(seconds) <= 70, max(seconds)
         began = time.monotonic()
         held, proxy = place.over(None, "--seconds", "1", rate="30")
-        assert held.status == 1 and "no more time is allowed" in held.text and time.monotonic() - began < 30, held
+        assert held.status == 1 and "the limit of --seconds is reached" in held.text and time.monotonic() - began < 30, held
         assert place.left() == []
 
 
@@ -172,7 +172,7 @@ def a_service_that_goes(gateway):
     with Plain() as place:
         held, _ = place.over(gone)
         assert held.status == 1 and len(held.broken) > 50 and len(held.cases) >= LEAST["profile"], held
-        assert "no answer" in held.page
+        assert "no response" in held.page
 
 
 def runs_that_cannot_begin(gateway):
@@ -184,16 +184,16 @@ def runs_that_cannot_begin(gateway):
         other.write_text((TOP / "examples" / "tokens.toml").read_text().replace('text = "', 'text = "other-'))
         good = place.tokens[1]
         for words, port, why in (
-                (["--tokens", few], None, "lacks tokens"), (["--tokens", place.folder / "none"], None, "is no token file"),
-                (["--tokens", other], None, "was answered 401"), (["--tokens", good], free_port(), "no answer"),
+                (["--tokens", few], None, "lacks tokens"), (["--tokens", place.folder / "none"], None, "no token file"),
+                (["--tokens", other], None, ": 401"), (["--tokens", good], free_port(), "no response"),
                 (["--standard", "--mint", "false"], None, "gives no token"),
                 (["--standard", "--mint", "/nonesuch"], None, "gives no token"),
-                (["--standard", "--mint", "echo", "--suppliers", "one"], None, "two suppliers")):
+                (["--standard", "--mint", "echo", "--suppliers", "one"], None, "at least two USSs")):
             place.tokens = words
             held = place.run(port=port)
             assert held.status == 2 and why in held.errors and held.errors.count("\n") == 1 and not held.page, (words, held)
         place.tokens = ["--tokens", good]
-        for words, why in ((["nonesuch"], "no check is named"), (["--rate", "0"], "above 0"), (["--requests", "x"], "invalid")):
+        for words, why in ((["nonesuch"], "no such check"), (["--rate", "0"], "above 0"), (["--requests", "x"], "invalid")):
             held = place.run(*words)
             assert held.status == 2 and why in held.errors, held
 
@@ -209,7 +209,7 @@ def pages_stand_alone(gateway):
                 assert f'id="{name}"' in held.page
             texts = [it.findtext("system-out") for it in held.cases]
             assert all(("docs/POLICY.md: " in it or "ASTM F3548-21: " in it) for it in texts)
-            assert held.page.count("<th>asked</th><th>came</th><th>expected</th>") == len(names)
+            assert held.page.count("<th>request</th><th>response</th><th>expected</th>") == len(names)
 
 
 def answers_are_shown_as_text(gateway):
@@ -223,7 +223,7 @@ def answers_are_shown_as_text(gateway):
         held, _ = place.over(wrote, "a_deleted_intent_is_gone")
         assert held.status == 1 and "<script" not in held.page and html.escape("<script>alert(1)") in held.page, held
         failure = held.cases[0].find("failure")
-        assert "P7 FOUND" in failure.get("message") and "came: 404" in failure.text and "asked: " in failure.text, failure.text
+        assert "P7 FOUND" in failure.get("message") and "response: 404" in failure.text and "request: " in failure.text, failure.text
 
 
 def a_token_that_is_not_ours(gateway):

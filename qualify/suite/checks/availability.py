@@ -11,7 +11,7 @@ def is_told(answer, uss, availability, version=None):
     return answer.value["version"]
 
 
-@check("A supplier of whom nothing was said is Unknown, under the empty version", "What is kept", [OPERATIONS["get"]])
+@check("A USS whose availability was never set is Unknown, with the empty version", "What is kept", [OPERATIONS["get"]])
 def nothing_said_is_unknown(it):
     uss = f"qualify-{it.id()[:8]}"
     for supplier in (it.a, it.b_monitoring, it.arbiter):
@@ -20,7 +20,7 @@ def nothing_said_is_unknown(it):
         answer.need(it.dialect.is_standard or version == "", "the empty version")
 
 
-@check("A setting over the present version is answered and read, and gives a new version; over another it is 409", "P10 VERSION",
+@check("Setting an availability over its current version succeeds and gives a new version; over another it is 409", "P10 VERSION",
        [OPERATIONS["set"], OPERATIONS["get"]])
 def an_availability_is_set(it):
     uss = it.b.uss
@@ -36,7 +36,7 @@ def an_availability_is_set(it):
         is_told(it.b.availability(uss).must(200), uss, availability, version)
 
 
-@check("Only an arbiter sets an availability: 403 else, and nothing is changed", "P4 SCOPE", [OPERATIONS["set"], OPERATIONS["get"]])
+@check("Only an arbiter sets an availability; for others it is 403 and changes nothing", "P4 SCOPE", [OPERATIONS["set"], OPERATIONS["get"]])
 def only_an_arbiter_sets(it):
     uss = it.b.uss
     told = it.arbiter.availability(uss).must(200)
@@ -47,7 +47,7 @@ def only_an_arbiter_sets(it):
     it.manager.availability(uss).must(403, "P4 SCOPE")
 
 
-@check("A setting to another word, or without one, is 400", "P5 FORM", [OPERATIONS["set"]])
+@check("Setting an availability to an unknown value, or without a value, is 400", "P5 FORM", [OPERATIONS["set"]])
 def a_wrong_setting_is_refused(it):
     uss = it.b.uss
     told = it.arbiter.availability(uss).must(200)
@@ -59,7 +59,7 @@ def a_wrong_setting_is_refused(it):
     read.need(read.value == told.value, "what it was")
 
 
-@check("References show the availability that their manager has now", "References", [INTENT["get"], INTENT["query"], OPERATIONS["set"]])
+@check("References show the current availability of their manager", "References", [INTENT["get"], INTENT["query"], OPERATIONS["set"]])
 def references_show_the_present_availability(it):
     id_, site, uss = it.id(), it.site(), it.b.uss
     version = it.arbiter.availability(uss).must(200).value["version"]
@@ -74,7 +74,7 @@ def references_show_the_present_availability(it):
         found.need(shown == [availability], f"uss_availability {availability}")
 
 
-@check("What a supplier that is Down has only planned holds up nobody, and what it has activated does", "P14 KEY", only="profile")
+@check("No key needs the planned intents of a USS that is Down, but keys need its activated ones", "P14 KEY", only="profile")
 def plans_of_who_is_down_are_spared(it):
     planned, active, site, uss = it.id(), it.id(), it.site(), it.b.uss
     version = it.arbiter.availability(uss).must(200).value["version"]
