@@ -54,7 +54,7 @@ class Answer:
         return self if holds else self.need(False, what)
 
     def part(self, name):
-        self.need(isinstance(self.value, dict) and name in self.value, f"the answer has {name}")
+        self.need(isinstance(self.value, dict) and name in self.value, f"the response has {name}")
         return self.value[name]
 
     @property
@@ -170,7 +170,7 @@ class Trial:
         self.exchanges.append(exchange)
         answer = Answer(self, exchange)
         if self.is_watched:
-            answer.always(exchange.status is not None, "an answer")
+            answer.always(exchange.status is not None, "a response")
             self.has_form(answer)
             self.hides_ovns(supplier, answer)
         self.learn(supplier, answer)
@@ -186,7 +186,7 @@ class Trial:
         else:
             form = forms.denial(exchange.status == 409 and kind == "operational_intent_references")
         why = form.fault(exchange.value, self.dialect)
-        answer.always(why is None, "the answer's form" + (f": {why}" if why else ""))
+        answer.always(why is None, "the response's form" + (f": {why}" if why else ""))
         if not self.dialect.is_standard:
             compact = json.dumps(exchange.value, separators=(",", ":"), sort_keys=True, ensure_ascii=False)
             answer.always(compact == exchange.text, "compact JSON, members in the order of their names")
@@ -195,7 +195,7 @@ class Trial:
         """Expects that no response has an OVN that another USS received."""
         text, uss = answer.exchange.text, supplier.uss
         shown = [it for it, (owner, _) in self.knowledge.given.items() if owner != uss and it in text]
-        answer.always(not shown, "no OVN or version of another supplier")
+        answer.always(not shown, "no OVN or version of another USS")
 
     def learn(self, supplier, answer):
         """Records the OVN or version that a put returned, and expects that none is returned twice."""
@@ -208,7 +208,7 @@ class Trial:
                 ovn = given.get("version" if name == "subscription" else "ovn")
                 if self.is_watched:
                     answer.always(isinstance(ovn, str) and len(ovn) >= 1, "the new OVN or version")
-                    answer.always(ovn not in self.knowledge.given, "an OVN or version that was never given before")
+                    answer.always(ovn not in self.knowledge.given, "an OVN or version that was never returned before")
                 if isinstance(ovn, str) and len(ovn) >= 16:
                     self.knowledge.given[ovn] = supplier.uss, exchange.path
 

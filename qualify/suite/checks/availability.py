@@ -7,7 +7,7 @@ from suite.trial import AVAILABILITY, INTENTS
 def is_told(answer, uss, availability, version=None):
     status = answer.part("status")
     answer.need(status["uss"] == uss and status["availability"] == availability, f"{uss} is {availability}")
-    answer.need(version is None or answer.value["version"] == version, "the version that was given")
+    answer.need(version is None or answer.value["version"] == version, "the version that was returned")
     return answer.value["version"]
 
 
@@ -43,7 +43,7 @@ def only_an_arbiter_sets(it):
     for supplier in (it.a, it.b, it.b_monitoring, it.b_processing, it.manager):
         supplier.set_availability(uss, "Down", told.value["version"]).must(403, "P4 SCOPE")
     read = it.arbiter.availability(uss).must(200)
-    read.need(read.value == told.value, "what it was")
+    read.need(read.value == told.value, "the previous value")
     it.manager.availability(uss).must(403, "P4 SCOPE")
 
 
@@ -56,7 +56,7 @@ def a_wrong_setting_is_refused(it):
     for body in (over | {"availability": "Up"}, over | {"availability": "down"}, over, "[]"):
         it.arbiter.ask("PUT", f"{AVAILABILITY}/{uss}", body).must(400, "P5 FORM")
     read = it.arbiter.availability(uss).must(200)
-    read.need(read.value == told.value, "what it was")
+    read.need(read.value == told.value, "the previous value")
 
 
 @check("References show the current availability of their manager", "References", [INTENT["get"], INTENT["query"], OPERATIONS["set"]])

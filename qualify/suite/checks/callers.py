@@ -104,4 +104,4 @@ def the_first_broken_rule_is_told(it):
             (it.a, "PUT", f"{path}/{ovn}", it.intent_body(it.volume(site), state="Activated"), 409, "P14 KEY")):
         supplier.ask(method, target, body).must(status, message)
     read = it.a.get(INTENTS, id_).must(200)
-    read.need(read.reference["ovn"] == ovn and read.reference["version"] == 2, "the intent as it was: nothing that was denied changed it")
+    read.need(read.reference["ovn"] == ovn and read.reference["version"] == 2, "the intent as it was: no denied request changed it")

@@ -53,14 +53,14 @@ def what_is_no_request(it):
 def a_connection_takes_a_hundred(it):
     uss = it.a.uss
     last = it.a.ask("GET", f"{AVAILABILITY}/{uss}", fields={"Connection": "close"}).must(200)
-    last.need(last.exchange.fields.get("connection") == "close", "Connection: close, as was asked")
+    last.need(last.exchange.fields.get("connection") == "close", "Connection: close, as requested")
     older = raw(it, it.a, f"GET {AVAILABILITY}/{uss} HTTP/1.0").must(200)
     older.need(older.exchange.fields.get("connection") == "close", "Connection: close after HTTP/1.0")
     for exchange in it.client.many(it.a.caller, "GET", f"{AVAILABILITY}/{uss}", 100):
         answer = it.taken(it.a, exchange).must(200)
         wanted = "close" if exchange.number == 100 else None
         said = "Connection: close" if wanted else "no field Connection"
-        answer.need(exchange.fields.get("connection") == wanted, f"{said} in answer {exchange.number} of the connection")
+        answer.need(exchange.fields.get("connection") == wanted, f"{said} in response {exchange.number} of the connection")
 
 
 @check("Bearer is accepted in any case, and two fields Authorization count as none", "P3 TOKEN", only="profile")

@@ -18,7 +18,7 @@ def a_constraint_is_created_and_read(it):
     read.need(read.reference == told, "the same reference")
     seen = it.b_processing.get(CONSTRAINTS, id_).must(200)
     hidden = {name: value for name, value in told.items() if name != "ovn"}
-    seen.need({name: value for name, value in seen.reference.items() if name != "ovn"} == hidden, "the same reference but for its OVN")
+    seen.need({name: value for name, value in seen.reference.items() if name != "ovn"} == hidden, "the same reference except for its OVN")
     seen.need(it.dialect.is_standard or "ovn" not in seen.reference, "no OVN")
     found = it.b_processing.query(CONSTRAINTS, site).must(200)
     found.need(found.ids == [id_], "the constraint, and nothing else")
@@ -38,7 +38,7 @@ def a_constraint_is_updated_and_deleted(it):
     it.manager.constraint(id_, it.volume(site), over=first["ovn"]).must(409, "P10 VERSION")
     it.manager.delete(CONSTRAINTS, id_, first["ovn"]).must(409, "P10 VERSION")
     read = it.manager.get(CONSTRAINTS, id_).must(200)
-    read.need(read.reference == second, "what the update made")
+    read.need(read.reference == second, "the result of the update")
     deleted = it.manager.delete(CONSTRAINTS, id_, second["ovn"]).must(200)
     deleted.need(deleted.reference == second, "the reference as it was")
     it.manager.get(CONSTRAINTS, id_).must(404, "P7 FOUND")

@@ -17,7 +17,7 @@ def is_as_put(it, answer, supplier, id_, state="Accepted", url="a"):
     known = it.knowledge.names.setdefault(supplier.uss, told["manager"] if it.dialect.is_standard else supplier.uss)
     answer.need(told["manager"] == known, f"manager {known}")
     others = [name for uss, name in it.knowledge.names.items() if uss != supplier.uss]
-    answer.need(told["manager"] not in others, "a manager of its own for each supplier")
+    answer.need(told["manager"] not in others, "a different manager for each USS")
     return told
 
 
@@ -28,10 +28,10 @@ def an_intent_is_created_and_read(it):
     created = it.a.intent(id_, volume).must(201)
     told = is_as_put(it, created, it.a, id_)
     created.need("ovn" in told, "its OVN, shown to its manager")
-    created.need(isinstance(created.part("subscribers"), list), "who is to be told")
+    created.need(isinstance(created.part("subscribers"), list), "the subscriptions to notify")
     if not it.dialect.is_standard:
         created.need(told["version"] == 1, "version 1")
-        created.need(told["subscription_id"] == ZERO, "the zero id, as no subscription is named")
+        created.need(told["subscription_id"] == ZERO, "the zero id, as it references no subscription")
     read = it.a.get(INTENTS, id_).must(200)
     read.need(is_as_put(it, read, it.a, id_) == told, "the same reference")
 
@@ -45,7 +45,7 @@ def an_ovn_is_shown_to_the_manager_alone(it):
     for answer in (it.b.get(INTENTS, id_), it.b_processing.get(INTENTS, id_)):
         seen = answer.must(200).reference
         answer.need(seen.get("ovn") != ovn and (it.dialect.is_standard or "ovn" not in seen), "no OVN")
-        answer.need({name: value for name, value in seen.items() if name != "ovn"} == told, "the same reference but for its OVN")
+        answer.need({name: value for name, value in seen.items() if name != "ovn"} == told, "the same reference except for its OVN")
     found = it.b.query(INTENTS, site).must(200)
     found.need(found.ids == [id_], "the intent, and nothing else")
     found.need(it.dialect.is_standard or "ovn" not in found.part("operational_intent_references")[0], "no OVN")
@@ -80,7 +80,7 @@ def a_query_answers_by_rising_ids(it):
     for id_ in ids:
         key.append(it.a.intent(id_, it.volume(site), key=key).must(201).reference["ovn"])
     found = it.b.query(INTENTS, site).must(200)
-    found.need(found.ids == sorted(ids), "all four, by rising ids")
+    found.need(found.ids == sorted(ids), "all four, in the order of their ids")
 
 
 @check("An update replaces an intent, raises its version and gives a new OVN", "Effects", [INTENT["update"], INTENT["get"]])
@@ -112,7 +112,7 @@ def an_old_ovn_changes_nothing(it):
     it.a.delete(INTENTS, id_, first["ovn"]).must(409, "P10 VERSION")
     it.a.delete(INTENTS, id_, "no-ovn-of-this-service").must(409, "P10 VERSION")
     read = it.a.get(INTENTS, id_).must(200)
-    read.need(read.reference == second, "what the last update made")
+    read.need(read.reference == second, "the result of the last update")
 
 
 @check("Updating or deleting another USS's intent is 403, and changes nothing",
@@ -199,7 +199,7 @@ def times_are_those_of_all_volumes(it):
     one, two = it.volume(it.site(), start=STARTS + 600), it.volume(it.site(), end=ENDS + 600)
     created = it.a.intent(it.id(), one, two).must(201)
     told = [it.dialect.second(created.reference[name]) for name in ("time_start", "time_end")]
-    created.need(told == [it.dialect.moment + STARTS, it.dialect.moment + ENDS + 600], "from the least start to the greatest end")
+    created.need(told == [it.dialect.moment + STARTS, it.dialect.moment + ENDS + 600], "from the earliest start to the latest end")
 
 
 @check("A body without a required member, or with a wrong value, is 400, and nothing is stored", "P5 FORM", [INTENT["create"]])

@@ -13,7 +13,7 @@ def lacks(it, put, *ids, constraints=()):
     put.need(sorted(told) == sorted(constraints), f"missing: the constraints {', '.join(sorted(constraints)) or 'none'}")
     if not it.dialect.is_standard:
         is_sorted = all(ids == sorted(ids) for ids in ([entity["id"] for entity in put.missing(kind)] for kind in (INTENTS, CONSTRAINTS)))
-        put.need(is_sorted, "by rising ids")
+        put.need(is_sorted, "in the order of their ids")
         put.need(set(put.value) == {"message", "missing_constraints", "missing_operational_intents"}, "both lists, also an empty one")
     return put
 
@@ -40,7 +40,7 @@ def a_key_opens(it):
         found = supplier.query(INTENTS, site).must(200)
         shown = {entity["id"]: entity.get("ovn") for entity in found.part("operational_intent_references")}
         found.need(set(shown) == {first, second}, "both intents")
-        found.need(shown[own] in it.knowledge.given and shown[other] not in it.knowledge.given, "the OVN of one's own alone")
+        found.need(shown[own] in it.knowledge.given and shown[other] not in it.knowledge.given, "an OVN only for the USS's own")
 
 
 @check("A denial lists all missing entities, and none that the key has", "P14 KEY", [INTENT["create"]])
@@ -63,8 +63,8 @@ def a_stale_key_is_refused(it):
     old = it.a.intent(first, it.volume(site)).must(201).reference["ovn"]
     new = it.a.intent(first, it.volume(site), over=old, state="Activated").must(200).reference
     denied = lacks(it, it.b.intent(second, it.volume(site), key=[old]), first)
-    denied.need(denied.missing()[0]["version"] == new["version"], f"version {new['version']}, the present one")
-    denied.need(denied.missing()[0]["state"] == "Activated", "its present state")
+    denied.need(denied.missing()[0]["version"] == new["version"], f"version {new['version']}, the current one")
+    denied.need(denied.missing()[0]["state"] == "Activated", "its current state")
     it.b.intent(second, it.volume(site), key=[new["ovn"]]).must(201)
 
 

@@ -31,7 +31,7 @@ def a_lost_update_is_done_once(it):
     body = it.intent_body(it.volume(site), state="Activated")
     sent_twice(it, it.a, "PUT", f"{INTENTS}/{id_}/{first['ovn']}", body).must(409, "P10 VERSION")
     read = it.a.get(INTENTS, id_).must(200)
-    read.need(read.reference["state"] == "Activated" and read.reference["ovn"] != first["ovn"], "what the update made")
+    read.need(read.reference["state"] == "Activated" and read.reference["ovn"] != first["ovn"], "the result of the update")
     read.need(it.dialect.is_standard or read.reference["version"] == 2, "version 2")
 
 
@@ -89,7 +89,7 @@ def one_of_two_is_kept(it):
         denied = answers[1 - won[0]].must(409, "P14 KEY")
         denied.need([entity["id"] for entity in denied.missing()] == [ids[won[0]]], "the other's intent is missing")
         found = it.a.query(INTENTS, site).must(200)
-        found.need(found.ids == [ids[won[0]]], "the one that is kept")
+        found.need(found.ids == [ids[won[0]]], "the stored one")
 
 
 @check("Of two updates over one OVN that are sent at once, one succeeds", "P10 VERSION", [INTENT["update"]])
@@ -103,7 +103,7 @@ def one_of_two_updates_is_done(it):
     answers[-1].need(len(won) == 1, "one 200 of the two")
     answers[1 - won[0]].must(409, "P10 VERSION")
     read = it.a.get(INTENTS, id_).must(200)
-    read.need(read.reference["state"] == ("Accepted", "Activated")[won[0]], "what the one that was done made")
+    read.need(read.reference["state"] == ("Accepted", "Activated")[won[0]], "the result of the successful update")
 
 
 @check("Changes that are sent at once notify a subscription with different indexes, without a gap",

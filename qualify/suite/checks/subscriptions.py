@@ -33,7 +33,7 @@ def a_subscription_is_created_and_read(it):
     created.need(told["id"] == id_ and told["notification_index"] == 0, "its id, and index 0")
     created.need(told["uss_base_url"] == URL.format("a") and bool(told["version"]), "its address, and a version")
     flags = told.get("notify_for_operational_intents"), told.get("notify_for_constraints") or False
-    created.need(flags == (True, False), "for intents alone")
+    created.need(flags == (True, False), "only for intents")
     times = [it.dialect.second(told.get(name)) for name in ("time_start", "time_end")]
     created.need(times == [it.dialect.moment + STARTS, it.dialect.moment + ENDS], "the times that were put")
     created.need([entity["id"] for entity in created.value.get("operational_intent_references", ())] == [there], "the intent that is there")
@@ -53,7 +53,7 @@ def a_subscription_is_its_suppliers_alone(it):
     it.b.delete(SUBSCRIPTIONS, one, told["version"]).must(403, "P9 MANAGER", standard=(403, 404))
     for supplier, own in ((it.a, one), (it.b, two)):
         found = supplier.query(SUBSCRIPTIONS, site).must(200)
-        found.need(found.ids == [own], "its own alone")
+        found.need(found.ids == [own], "only its own")
     found = it.a.query(SUBSCRIPTIONS, it.site()).must(200)
     found.need(found.ids == [], "none elsewhere")
     read = it.a.get(SUBSCRIPTIONS, one).must(200)
@@ -73,7 +73,7 @@ def a_subscription_is_updated(it):
     updated.need(second["uss_base_url"] == URL.format("f"), "the new address")
     it.a.subscription(id_, it.volume(site), over=first["version"]).must(409, "P10 VERSION")
     read = it.a.get(SUBSCRIPTIONS, id_).must(200)
-    read.need(read.reference == second, "what the update made")
+    read.need(read.reference == second, "the result of the update")
     tells_not(it, it.b.intent(it.id(), it.volume(site, low=200, high=250)).must(201), id_, 1)
     tells(it, it.b.intent(it.id(), it.volume(other)).must(201), id_, 2)
 
@@ -108,7 +108,7 @@ def an_index_rises_with_each_change(it):
     it.a.intent(it.id(), it.volume(site)).must(409, "P14 KEY")
     it.a.delete(INTENTS, flight, updated.reference["ovn"]).must(403, "P9 MANAGER")
     read = it.a.get(SUBSCRIPTIONS, id_).must(200)
-    read.need(read.reference["notification_index"] == 2, "index 2: nothing was changed")
+    read.need(read.reference["notification_index"] == 2, "index 2: nothing changed")
     tells(it, it.b.delete(INTENTS, flight, updated.reference["ovn"]).must(200), id_, 3)
 
 
@@ -143,7 +143,7 @@ def who_does_not_meet_is_not_told(it):
     it.b_processing.subscription(ids[3], it.volume(site), intents=False, constraints=True).must(200)
     answer = it.b.intent(it.id(), it.volume(site)).must(201)
     for id_ in ids:
-        answer.need(id_ not in answer.indexes, "nobody of them")
+        answer.need(id_ not in answer.indexes, "none of them")
     for id_ in ids[:3]:
         read = it.a.get(SUBSCRIPTIONS, id_).must(200)
         read.need(read.reference["notification_index"] == 0, "index 0")
@@ -157,7 +157,7 @@ def constraints_are_told(it):
     it.a.subscription(other, it.volume(site)).must(200)
     answer = it.manager.constraint(id_, it.volume(site)).must(201)
     for index in (1, 2, 3):
-        answer.need(answer.indexes == {wants: index}, f"the subscription for constraints alone, with index {index}")
+        answer.need(answer.indexes == {wants: index}, f"only the subscription for constraints, with index {index}")
         urls = [told["uss_base_url"] for told in answer.part("subscribers")]
         answer.need(urls == [URL.format("b")], "its address")
         read = it.b_processing.get(SUBSCRIPTIONS, wants).must(200)
@@ -177,13 +177,13 @@ def all_who_meet_are_told(it):
         (it.a if url == "a" else it.b).subscription(id_, it.volume(site), url=url).must(200)
     answer = it.a.intent(it.id(), it.volume(site)).must(201)
     told = [(one["subscription_id"], by["uss_base_url"]) for by in answer.part("subscribers") for one in by["subscriptions"]]
-    answer.need(sorted(told) == sorted((id_, URL.format(url)) for id_, url in zip(ids, urls)), "the four, each once and at its address")
+    answer.need(sorted(told) == sorted((id_, URL.format(url)) for id_, url in zip(ids, urls)), "the four, each once with its address")
     answer.need(set(answer.indexes.values()) == {1}, "index 1 of each")
     if not it.dialect.is_standard:
         by_url = [by["uss_base_url"] for by in answer.value["subscribers"]]
         answer.need(by_url == sorted(set(by_url)), "one entry for each address, in their order")
         lists = [[one["subscription_id"] for one in by["subscriptions"]] for by in answer.value["subscribers"]]
-        answer.need(all(ids == sorted(ids) for ids in lists), "the subscriptions of each by rising ids")
+        answer.need(all(ids == sorted(ids) for ids in lists), "the subscriptions of each in the order of their ids")
 
 
 @check("A subscription that an intent references lists it, and cannot be deleted while it does", "P17 DEPENDED",
@@ -192,11 +192,11 @@ def a_named_subscription_stays(it):
     named, flight, site = it.id(), it.id(), it.site()
     version = it.a.subscription(named, it.volume(site)).must(200).reference["version"]
     created = it.a.intent(flight, it.volume(site), subscription=named).must(201)
-    created.need(created.reference["subscription_id"] == named, "the subscription that it names")
+    created.need(created.reference["subscription_id"] == named, "the subscription that it references")
     read = it.a.get(SUBSCRIPTIONS, named).must(200)
     read.need(read.reference.get("dependent_operational_intents") == [flight], "the intent among those that depend on it")
     seen = it.b.get(INTENTS, flight).must(200)
-    seen.need(it.dialect.is_standard or seen.reference["subscription_id"] == named, "the subscription that it names")
+    seen.need(it.dialect.is_standard or seen.reference["subscription_id"] == named, "the subscription that it references")
     it.a.delete(SUBSCRIPTIONS, named, version).must(409, "P17 DEPENDED", standard=(400, 409))
     it.a.delete(INTENTS, flight, created.reference["ovn"]).must(200)
     read = it.a.get(SUBSCRIPTIONS, named).must(200)
@@ -251,7 +251,7 @@ def an_update_names_anew(it):
         for id_ in (one, two):
             read = it.a.get(SUBSCRIPTIONS, id_).must(200)
             wanted = [flight] if id_ == named else []
-            read.need(read.reference["dependent_operational_intents"] == wanted, "exactly the intents that name it now")
+            read.need(read.reference["dependent_operational_intents"] == wanted, "exactly the intents that reference it")
 
 
 @check("An intent that requests a new subscription references one over its volumes, which is notified of what meets it and deleted with it", "",
