@@ -107,5 +107,5 @@ def broken_in(check, trial):
     except Exception as fault:
         # A body of another form than the check expects.
         where = traceback.extract_tb(fault.__traceback__)[-1]
-        return f"an answer that can be read ({type(fault).__name__}: {fault}, {where.name})"
+        return f"a readable response ({type(fault).__name__}: {fault}, {where.name})"
     return None
