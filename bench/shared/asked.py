@@ -20,7 +20,7 @@ URL = "https://a.example"
 BEARER, OTHERS, ARBITER = "Bearer tok-a", "Bearer tok-b", "Bearer tok-v"
 
 
-class Kept:
+class Stored:
     """The rows of a database with that many intents, and their properties."""
 
     def __init__(self, size):
@@ -99,7 +99,7 @@ def creation(kept, number, count):
 
 def to_compare():
     """Returns a small database, and requests to which both services must respond alike."""
-    kept = Kept(600)
+    kept = Stored(600)
     # Three subscriptions to intents in one cell.
     told = ((1, "uss-a", URL), (2, "uss-b", "https://b.example"), (3, "uss-b", URL))
     place = WIDE[0] * NARROW - 1

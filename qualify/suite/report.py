@@ -10,7 +10,7 @@ GROUPS = {
     "intents": "Operational intents", "keys": "Keys", "constraints": "Constraints", "subscriptions": "Subscriptions",
     "availability": "Availability", "callers": "Who may what", "repeats": "Lost answers, and two at once",
     "bodies": "Bodies and limits", "connections": "Paths, methods and connections"}
-MOST_SHOWN = 800
+MAX_SHOWN = 800
 
 STYLE = """
 :root { color-scheme: light dark; --line: #8886; --held: #1a7f37; --broken: #c62828; --soft: #8882; }
@@ -27,7 +27,7 @@ details { border-top: 1px solid var(--line); padding: .35rem 0; } summary { curs
 
 
 def cut(text):
-    return text if len(text) <= MOST_SHOWN else f"{text[:MOST_SHOWN]} .. ({len(text)} characters)"
+    return text if len(text) <= MAX_SHOWN else f"{text[:MAX_SHOWN]} .. ({len(text)} characters)"
 
 
 def shown(body):

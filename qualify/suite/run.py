@@ -10,7 +10,7 @@ from suite.trial import CONSTRAINTS, INTENTS, SUBSCRIPTIONS, Broken, Knowledge, 
 from suite.wire import Client, OutOfBounds, Pace
 
 # How many places are tried before the run fails.
-MOST_HOMES = 20
+MAX_HOMES = 20
 
 
 class NoPlace(Exception):
@@ -37,8 +37,8 @@ def chosen(dialect, names=()):
 class Run:
     """One run, by a seed."""
 
-    def __init__(self, url, callers, dialect, seed, rate=50, most_requests=4000, most_seconds=600, ca=None):
-        self.pace = Pace(rate, most_requests, most_seconds)
+    def __init__(self, url, callers, dialect, seed, rate=50, max_requests=4000, max_seconds=600, ca=None):
+        self.pace = Pace(rate, max_requests, max_seconds)
         self.client = Client(url, self.pace, ca)
         self.url, self.callers, self.dialect, self.seed = url, callers, dialect, seed
         self.knowledge, self.draw = Knowledge(), random.Random(f"run {seed}")
@@ -55,7 +55,7 @@ class Run:
         homes, trial = self.dialect.homes(self.seed), Trial(self)
         # Forms of responses are tested by the checks.
         trial.is_watched = False
-        for _ in range(MOST_HOMES):
+        for _ in range(MAX_HOMES):
             home = next(homes)
             area = self.dialect.everywhere(home)
             asked = [(trial.a, INTENTS), (trial.b_processing, CONSTRAINTS), (trial.a, SUBSCRIPTIONS), (trial.b, SUBSCRIPTIONS)]
@@ -69,7 +69,7 @@ class Run:
             if is_empty:
                 self.home, self.places = home, self.dialect.sites(home, self.seed)
                 return
-        raise NoPlace(f"none of {MOST_HOMES} places by the seed {self.seed} is empty; use another --seed")
+        raise NoPlace(f"none of {MAX_HOMES} places by the seed {self.seed} is empty; use another --seed")
 
     def results(self, chosen):
         """Yields the result of each check, when it is done."""

@@ -13,7 +13,7 @@ import urllib.parse
 
 # The requests, the idle seconds and the seconds after which a connection is closed. The service closes one later, so
 # that no request is sent while it closes.
-MOST_ON_ONE, MOST_IDLE, MOST_OPEN = 90, 1.0, 30.0
+MAX_ON_ONE, MAX_IDLE, MAX_OPEN = 90, 1.0, 30.0
 PATIENCE = 30.0
 # Seconds for cleaning up, in addition to the permitted ones.
 GRACE = 60.0
@@ -53,8 +53,8 @@ class Exchange:
 class Pace:
     """When the next request may be sent, and whether one may be."""
 
-    def __init__(self, rate, most_requests, most_seconds):
-        self.step, self.left, self.until = 1 / rate, most_requests, time.monotonic() + most_seconds
+    def __init__(self, rate, max_requests, max_seconds):
+        self.step, self.left, self.until = 1 / rate, max_requests, time.monotonic() + max_seconds
         self.next, self.lock, self.sent = 0.0, threading.Lock(), 0
         # Requests that are reserved for cleaning up.
         self.reserve = 0
@@ -104,7 +104,7 @@ class Client:
     def connection(self):
         """Returns the open connection, or a new one."""
         now = time.monotonic()
-        is_old = self.count >= MOST_ON_ONE or now - self.used > MOST_IDLE or now - self.opened > MOST_OPEN
+        is_old = self.count >= MAX_ON_ONE or now - self.used > MAX_IDLE or now - self.opened > MAX_OPEN
         if self.kept and is_old:
             self.close()
         if not self.kept:

@@ -14,7 +14,7 @@ from suite import forms
 from suite.dialect import Standard
 
 AREA = "operational_intent_references/query"
-LEAST = {"profile": 75, "standard": 60}
+MIN = {"profile": 75, "standard": 60}
 
 
 def suite_checks(*words):
@@ -28,7 +28,7 @@ def all_holds(gateway):
     with Plain() as place:
         for seed in "1234":
             held = place.run(seed=seed)
-            held.must_hold(LEAST["profile"])
+            held.must_hold(MIN["profile"])
             assert sorted(it.get("name") for it in held.cases) == sorted(suite_checks())
         for uss in ("uss-a", "uss-b"):
             assert place.ask("tok-a", "GET", f"uss_availability/{uss}")["status"]["availability"] == "Unknown"
@@ -40,7 +40,7 @@ def all_holds_to_the_standard(gateway):
     with Before(gateway) as place:
         for seed in "12":
             held = place.run(seed=seed)
-            held.must_hold(LEAST["standard"])
+            held.must_hold(MIN["standard"])
             assert sorted(it.get("name") for it in held.cases) == sorted(suite_checks("--standard"))
         assert place.left() == []
 
@@ -55,9 +55,9 @@ def each_check_can_break(gateway):
 def all_holds_through_the_proxy(gateway):
     """A proxy without a fault breaks no check."""
     with Plain() as place:
-        place.over(None)[0].must_hold(LEAST["profile"])
+        place.over(None)[0].must_hold(MIN["profile"])
     with Before(gateway) as place:
-        place.over(None)[0].must_hold(LEAST["standard"])
+        place.over(None)[0].must_hold(MIN["standard"])
 
 
 def all_holds_over_tls(gateway):
@@ -71,7 +71,7 @@ def all_holds_over_tls(gateway):
         proxy = Proxy(place.port, context=context)
         # Of arguments that are given twice the last one counts.
         url = ["--url", f"https://127.0.0.1:{proxy.port}"]
-        place.run(*url, "--ca", certificate).must_hold(LEAST["profile"])
+        place.run(*url, "--ca", certificate).must_hold(MIN["profile"])
         seen = len(proxy.times)
         held = place.run(*url)
         assert held.status == 2 and "CERTIFICATE_VERIFY_FAILED" in held.errors and len(proxy.times) == seen, held
@@ -92,7 +92,7 @@ def the_gateway_adds_no_member(gateway):
             asked_of.add((kind, asked.method, answer.status < 300))
         return answer
     with Before(gateway) as place:
-        place.over(noted)[0].must_hold(LEAST["standard"])
+        place.over(noted)[0].must_hold(MIN["standard"])
     assert len(asked_of) >= 26 and set(faults) == {None}, (set(faults), len(asked_of))
 
 
@@ -116,7 +116,7 @@ def what_is_there_is_left_alone(gateway):
         path = "operational_intent_references/00000000-0000-4000-8000-0000000000a1"
         told = place.ask("tok-a", "PUT", path, body)["operational_intent_reference"]
         assert home_of(place) != taken
-        place.run().must_hold(LEAST["profile"])
+        place.run().must_hold(MIN["profile"])
         assert place.ask("tok-a", "GET", path)["operational_intent_reference"] == told
 
 
@@ -171,7 +171,7 @@ def a_service_that_goes(gateway):
         return pass_on(asked) if world.asked < 100 else None
     with Plain() as place:
         held, _ = place.over(gone)
-        assert held.status == 1 and len(held.broken) > 50 and len(held.cases) >= LEAST["profile"], held
+        assert held.status == 1 and len(held.broken) > 50 and len(held.cases) >= MIN["profile"], held
         assert "no response" in held.page
 
 

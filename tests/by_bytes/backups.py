@@ -14,7 +14,7 @@ import time
 
 import wire
 from devices import WRITES, Page, library
-from operators import METRICS, Operated, asks, said
+from admin_port import METRICS, AdminService, asks, said
 from program import BUILT, SECONDS, run
 from serving import until_closed
 from sockets import difference
@@ -41,7 +41,7 @@ def row(number):
     return bytes([number]) * BYTES
 
 
-class Backed(Operated):
+class Backed(AdminService):
     """`dss serve` with a backup directory on a file system in memory, where a sync takes no time."""
 
     def __init__(self, **more):
@@ -84,9 +84,9 @@ class Changer(threading.Thread):
 
     def run(self):
         try:
-            for start in range(0, 1 << 20, wire.MOST_REQUESTS):
+            for start in range(0, 1 << 20, wire.MAX_REQUESTS):
                 with self.service.connect() as connection:
-                    for turn in range(start, start + wire.MOST_REQUESTS):
+                    for turn in range(start, start + wire.MAX_REQUESTS):
                         if self.ends:
                             return
                         self.change(connection, turn)
@@ -133,7 +133,7 @@ def states_at(changers, serial):
     return of
 
 
-def judged(backup, changers, least, most):
+def checked(backup, changers, least, most):
     """Returns what is wrong with a backup that was requested after change `least` was answered, and was complete when
     change `most` was made."""
     whole, [(serial,)], others, states = content(backup)
@@ -169,7 +169,7 @@ def beside_changes():
             backup = started.backups / f"b{at}"
             size = sum(it.stat().st_size for it in backup.iterdir())
             found += difference(f"b{at}", answer, said(200, b"made: %d bytes\n" % size))
-            found += judged(backup, changers, least, most)
+            found += checked(backup, changers, least, most)
         return found
 
 
@@ -200,7 +200,7 @@ def refusals():
         (started.backups / "file").write_text("")
         found += difference("a file of that name", started.asked(backs_up("file")), said(409, EXISTS))
         found += difference("all", started.all(), sorted(["Az-09_", longest, "file"]))
-    with Operated() as plain:
+    with AdminService() as plain:
         found += difference("without a folder", plain.asked(backs_up("a")), said(404, b"no such path\n"))
     return found
 

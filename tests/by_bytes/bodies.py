@@ -182,7 +182,7 @@ def puts_of_subscriptions():
     id is no id."""
     scene = Scene("puts of subscriptions", [], [])
 
-    def judged(body, is_read):
+    def checked(body, is_read):
         scene.ask(NOT_FOUND if is_read else MALFORMED, "PUT", f"{SUBSCRIPTIONS}/{ID}/{OVN}", "tok-bc", body)
 
     intents, constraints = ',"notify_for_operational_intents":', ',"notify_for_constraints":'
@@ -204,7 +204,7 @@ def puts_of_subscriptions():
         (f"{intents}false{intents}true", True),
         (f"{intents}true,\"more\":[1e3]", True),
     ):
-        judged(of_subscription(flags=flags), is_read)
+        checked(of_subscription(flags=flags), is_read)
     low, high, last = -100_000, 1_000_000, 253_402_300_799
     for extents, is_read in (
         (f"[{V1}]", False),
@@ -224,11 +224,11 @@ def puts_of_subscriptions():
         (volume(times=(8, 7)), False),
         (V1.replace(',"time_end":2000', ""), False),
     ):
-        judged(of_subscription(extents), is_read)
+        checked(of_subscription(extents), is_read)
     for url, is_read in (("", False), ("a b", False), ("u" * 255, True), ("u" * 256, False)):
-        judged(of_subscription(url=url), is_read)
-    judged(of_subscription().replace(',"uss_base_url":"u"', ""), False)
-    judged("", False)
+        checked(of_subscription(url=url), is_read)
+    checked(of_subscription().replace(',"uss_base_url":"u"', ""), False)
+    checked("", False)
     for method, path, body, wanted in (
         ("PUT", NO_SUBSCRIPTION, of_subscription(), MALFORMED),
         ("PUT", f"{NO_SUBSCRIPTION}/{OVN}", of_subscription(), MALFORMED),

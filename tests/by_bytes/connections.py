@@ -16,7 +16,7 @@ from program import BUILT, TOP, run
 
 NOW = 1000
 # The bytes that a slow writer takes at once.
-PIECE = 9
+STEP = 9
 CLOSE = b"Connection: close\r\n"
 ID_A, ID_B = ("00000000-0000-4000-8000-0000000000" + end for end in ("a1", "b1"))
 READING = '{"status":{"availability":"Unknown","uss":"uss-b"},"version":""}'
@@ -117,7 +117,7 @@ def examples():
                 yield example["name"], example["now"], request, answer
 
 
-def in_pieces():
+def in_chunks():
     """The responses are the same, however few bytes a read gives and a write takes, and wherever the first read ends."""
     found = []
     streams = [("a meeting", NOW, *joined(MEETING)), ("two readings", NOW, *joined(TWO_READINGS)), *examples()]
@@ -150,11 +150,11 @@ def failing_devices():
         found += [f"no read fails: {got!r}"] if got != (0, wanted, b"") else []
         # Each response is written on its own, in chunks.
         stream, _ = joined(TWO_READINGS)
-        pieces = [answer[at : at + PIECE] for _, answer in TWO_READINGS for at in range(0, len(answer), PIECE)]
+        chunks = [answer[at : at + STEP] for _, answer in TWO_READINGS for at in range(0, len(answer), STEP)]
         for fault in "WRITE_FAILS", "WRITE_STOPS":
-            for at in range(1, len(pieces) + 1):
-                got = room.serve(stream, WRITE_BYTES=PIECE, **{fault: at})
-                found += [f"{fault} {at}: {got!r}"] if got != (1, b"".join(pieces[: at - 1]), WRITES) else []
+            for at in range(1, len(chunks) + 1):
+                got = room.serve(stream, WRITE_BYTES=STEP, **{fault: at})
+                found += [f"{fault} {at}: {got!r}"] if got != (1, b"".join(chunks[: at - 1]), WRITES) else []
     return found
 
 
@@ -190,10 +190,10 @@ def truncated():
     with Room() as room:
         file = f"{room.folder.name}/dss.db"
         for size in range(len(stream)):
-            is_kept = size % 16 == 0 or size > len(stream) - 4
-            cut = room.serve(stream[:size], database=file if is_kept else None)
+            is_stored = size % 16 == 0 or size > len(stream) - 4
+            cut = room.serve(stream[:size], database=file if is_stored else None)
             found += [f"{size} bytes: {cut!r}"] if cut != (0, b"", b"") else []
-            if is_kept:
+            if is_stored:
                 read = room.serve(reading, database=file)
                 found += [f"after {size} bytes: {read!r}"] if read != (0, refused(404, "P7 FOUND"), b"") else []
     return found
@@ -209,7 +209,7 @@ def turns_end():
     return [f"{got!r}"] if got != (1, b"", TURNS) else []
 
 
-def greatest_body():
+def max_body():
     """A body of 1,048,576 bytes with 2,048 cells and 4,096 entries of a key gets its response."""
     key = [f"{at:0128d}" for at in range(4_096)]
     body = json.loads(intent([volume(["89c25904"] * 512)] * 4, key))
@@ -350,13 +350,13 @@ def paths():
 
 
 CASES = {
-    "connections-in-pieces": in_pieces,
+    "connections-in-pieces": in_chunks,
     "devices-that-fail": failing_devices,
     "answer-that-is-not-written": answer_not_written,
     "cell-that-is-not-written": cell_not_written,
     "put-that-is-cut": truncated,
     "turns-that-end": turns_end,
-    "greatest-body": greatest_body,
+    "greatest-body": max_body,
     "hostile-heads": hostile,
     "paths-and-methods": paths,
 }

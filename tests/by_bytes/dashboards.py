@@ -13,7 +13,7 @@ import tempfile
 import yaml
 
 import wire
-from operators import METRICS, Operated
+from admin_port import METRICS, AdminService
 from program import TOP
 from sockets import ASKED, CLOSING, difference
 
@@ -69,7 +69,7 @@ def expressions():
 
 def told():
     """Returns the metrics page of a service that has answered, and the types and labels of metrics by their names."""
-    with Operated() as started:
+    with AdminService() as started:
         started.exchange(ASKED + CLOSING, ends=False)
         started.exchange(wire.request("GET", wire.AVAILABILITY, None, fields=["Connection: close"]), ends=False)
         text = started.asked(METRICS).partition(b"\r\n\r\n")[2].decode()

@@ -21,7 +21,7 @@ NOW = 1000
 CHUNK = 20
 SEEDS = range(1, 9)
 # How often subscriptions must be notified for each cause.
-LEAST_OF_A_CAUSE = 5
+MIN_PER_CAUSE = 5
 NOT_A_DSS, VERSION, STORE = (f"dss: db: fault {it}\n".encode() for it in ("1 NotADss", "2 Version", "3 Store"))
 
 # Two USSs: an intent of two volumes that was updated once, a constraint and an availability; two subscriptions, one of
@@ -185,7 +185,7 @@ def drawn():
     for seed in [*SEEDS, *seeds.new("calls-over-a-database", 1)]:
         with Room() as room:
             found += drawn_over(room, seed, notified=notified)
-    rare = [it for it in CAUSES if notified[it] < LEAST_OF_A_CAUSE]
+    rare = [it for it in CAUSES if notified[it] < MIN_PER_CAUSE]
     return found + ([f"too few of {rare} in {dict(notified)}"] if rare else [])
 
 
@@ -309,13 +309,13 @@ def rules_of_tables():
             found += [f"{room.query('SELECT name FROM sqlite_schema')}"]
         with tables.opened(room.database) as database:
             database.execute("PRAGMA foreign_keys = ON")
-            for statement, is_taken in RULED:
+            for statement, is_accepted in RULED:
                 try:
                     database.execute(statement)
                     got = True
                 except sqlite3.IntegrityError:
                     got = False
-                found += [f"{statement}: wanted {is_taken}"] if got != is_taken else []
+                found += [f"{statement}: wanted {is_accepted}"] if got != is_accepted else []
 
             def compare(counts):
                 for table, count in counts.items():
@@ -348,7 +348,7 @@ def at_serial(room, serial):
         database.execute(f"UPDATE meta SET serial = {serial}")
 
 
-def greatest_serial():
+def max_serial():
     """A change is stored with the maximum serial, and no change after it."""
     found = []
     body = {"old_version": "", "availability": "Down"}
@@ -369,7 +369,7 @@ def greatest_serial():
     return found
 
 
-def greatest_index():
+def max_index():
     """A change gives a subscription the maximum index, together with the maximum serial. After it no change is
     possible, and so no index exceeds the maximum."""
     most, found = 2**63 - 1, []
@@ -400,7 +400,7 @@ def greatest_index():
     return found
 
 
-def not_taken():
+def rejected():
     """These are rejected: a file that is no database, a directory, a name in a missing directory, a database that
     another process holds."""
     reading = [ask("GET", f"{wire.AVAILABILITY}/uss-b", "tok-a")]
@@ -450,9 +450,9 @@ CASES = {
     "drawn-calls-over-a-database": drawn,
     "database-as-sqlite-reads-it": as_rows,
     "rules-of-the-tables": rules_of_tables,
-    "greatest-serial-in-a-database": greatest_serial,
-    "greatest-index-in-a-database": greatest_index,
+    "greatest-serial-in-a-database": max_serial,
+    "greatest-index-in-a-database": max_index,
     "databases-that-sqlite-wrote-anew": written_anew,
-    "databases-that-are-not-taken": not_taken,
+    "databases-that-are-not-taken": rejected,
     "database-that-is-cut-short": cut_short,
 }

@@ -10,7 +10,7 @@ from sockets import difference
 FEW, MANY = 5, 25
 
 
-class Wary(Service):
+class DoubleSync(Service):
     """`dss serve` with the option."""
 
     options = ("--double-sync",)
@@ -46,7 +46,7 @@ def syncs():
         if built[0]:
             raise OSError(f"cc: {built[2]!r}")
         answers = []
-        for kind, each in (Service, 1), (Wary, 2):
+        for kind, each in (Service, 1), (DoubleSync, 2):
             few, many = made(kind, FEW, library, counted), made(kind, MANY, library, counted)
             found += difference(f"syncs, {kind.__name__}", many[1] - few[1], each * (MANY - FEW))
             answers.append(many[0])

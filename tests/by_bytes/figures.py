@@ -11,7 +11,7 @@ import drawn_calls
 import wire
 from devices import SIZES, WRITES, Page, library
 from openapi import DOCUMENT, METHODS
-from operators import FAILING, HEALTH, METRICS, PUT, SERVING, Operated, said
+from admin_port import FAILING, HEALTH, METRICS, PUT, SERVING, AdminService, said
 from served_calls import Asked
 from sockets import ASKED, difference
 from verbose import Verbose, limits
@@ -103,9 +103,9 @@ def drawn():
     """The metrics count drawn calls and requests that break protocol rules as they were answered. Every rule but P13
     and P15 is broken. Requests to the admin port are not counted."""
     asked, seen = Asked(SEED), Seen()
-    with Operated(drawn_calls.ALL_TOKENS) as started:
+    with AdminService(drawn_calls.ALL_TOKENS) as started:
         for _ in range(CONNECTIONS):
-            calls = asked.calls(wire.MOST_REQUESTS)
+            calls = asked.calls(wire.MAX_REQUESTS)
             answers = started.ask([wire.request(*it) for it in calls])
             for call, answer in zip(calls, answers, strict=True):
                 seen.see(asked_by(call), answer)
@@ -121,7 +121,7 @@ def drawn():
 # ---- the database does not keep what it is given
 
 
-class Full(Operated):
+class Full(AdminService):
     """The same over a disk that a test fills and empties while it runs."""
 
     def __init__(self):

@@ -55,8 +55,8 @@ def killed(service, requests, seen, wait):
         sender.join()
         # Bytes that arrived before the reset count.
         with contextlib.suppress(ConnectionResetError):
-            while piece := connection.recv(1 << 16):
-                output += piece
+            while chunk := connection.recv(1 << 16):
+                output += chunk
     return wire.answers_of(output)
 
 

@@ -8,7 +8,7 @@ import time
 import drawn_calls
 import wire
 from figures import BROKEN, asked_by
-from operators import Operated
+from admin_port import AdminService
 from program import SECONDS, run
 from served_calls import Asked
 from serving import Service
@@ -25,7 +25,7 @@ MOST, LEFT = 4_194_304, 50
 LOST = "dss_log_lines_dropped_total"
 
 
-class Logged(Operated):
+class Logged(AdminService):
     """`dss serve` with a log in the directory of its database, and an admin port."""
 
     name = "log"
@@ -83,7 +83,7 @@ def drawn():
         suppliers = {token: uss for token, (uss, _) in drawn_calls.ALL_TOKENS.items()}
         began, secrets, calls_of = time.time(), set(suppliers), []
         for connection in range(1, CONNECTIONS + 1):
-            calls = asked.calls(wire.MOST_REQUESTS)
+            calls = asked.calls(wire.MAX_REQUESTS)
             answers = started.ask([wire.request(*it) for it in calls])
             calls_of += [(connection, *it) for it in zip(calls, answers, strict=True)]
         for sent in BROKEN.values():

@@ -38,12 +38,12 @@ def reset(connection):
 def answers_from(connection, count):
     """Returns that many responses of a connection that stays open."""
     came = b""
-    while len(wire.answers_of(came)) < count and (piece := connection.recv(1 << 16)):
-        came += piece
+    while len(wire.answers_of(came)) < count and (chunk := connection.recv(1 << 16)):
+        came += chunk
     return came
 
 
-def in_pieces(draw, stream):
+def in_chunks(draw, stream):
     """Cuts the stream at drawn positions."""
     most = min(len(stream) - 1, draw.choice((1, 5, 40)))
     cuts = sorted(draw.sample(range(1, len(stream)), most)) if len(stream) > 1 else []
@@ -57,20 +57,20 @@ def cut_among_others():
     table = [*HEADS, ("a hundred", ASKED * 99 + CLOSING, ANSWER * 99 + LAST), ("a hundred and one", ASKED * 101, ANSWER * 99 + LAST)]
     with Service() as started:
         for turn in range(6):
-            open_ones = [(name, started.connect(), in_pieces(draw, stream), wanted) for name, stream, wanted in table]
-            left = [(connection, pieces) for _, connection, pieces, _ in open_ones]
+            open_ones = [(name, started.connect(), in_chunks(draw, stream), wanted) for name, stream, wanted in table]
+            left = [(connection, chunks) for _, connection, chunks, _ in open_ones]
             while left:
                 at = draw.randrange(len(left))
-                connection, pieces = left[at]
+                connection, chunks = left[at]
                 try:
-                    if pieces:
-                        connection.sendall(pieces.pop(0))
-                    if not pieces:
+                    if chunks:
+                        connection.sendall(chunks.pop(0))
+                    if not chunks:
                         connection.shutdown(socket.SHUT_WR)
                 except OSError:
                     # The service has answered, and closed the connection.
-                    pieces.clear()
-                if not pieces:
+                    chunks.clear()
+                if not chunks:
                     left.pop(at)
             for name, connection, _, wanted in open_ones:
                 with connection:
@@ -92,8 +92,8 @@ def reset_anywhere():
         for at in range(0, len(whole), len(whole) // 120):
             connection = started.connect()
             connection.sendall(ASKED * 50)
-            while at > 0 and (piece := connection.recv(at)):
-                at -= len(piece)
+            while at > 0 and (chunk := connection.recv(at)):
+                at -= len(chunk)
             reset(connection)
         found = difference("the next", started.exchange(CLOSING, ends=False), LAST)
         lines = set((started.folder / "errors").read_bytes().removeprefix(started.listening).split(b"\n"))
@@ -286,7 +286,7 @@ def large_bodies():
         return found + difference("statuses", {it[:12] for it in answered}, wanted)
 
 
-class Round:
+class Batch:
     """Calls that were made at once, and their responses: tells whether some order of the calls explains all responses."""
 
     def __init__(self, airspace, calls, answers):
@@ -329,7 +329,7 @@ def drawn_at_once():
             for connection, call in zip(connections, calls):
                 connection.sendall(wire.request(*call))
             answers = [answers_from(connection, 1) for connection in connections]
-            after = Round(airspace, calls, answers).order
+            after = Batch(airspace, calls, answers).order
             if after is None:
                 told = [(call, answer) for call, answer in zip(calls, answers)]
                 return [f"round {number}: no order explains {told!r}"]
@@ -349,13 +349,13 @@ def drawn_in_turn():
         connections = [[started.connect(), 0] for _ in range(32)]
         for number in range(2_500):
             at = draw.randrange(32)
-            if connections[at][1] == wire.MOST_REQUESTS:
+            if connections[at][1] == wire.MAX_REQUESTS:
                 connections[at][0].close()
                 connections[at] = [started.connect(), 0]
             connections[at][1] += 1
             call = drawn.call()
             connections[at][0].sendall(wire.request(*call))
-            wanted = airspace.ask(*call).text(closes=connections[at][1] == wire.MOST_REQUESTS)
+            wanted = airspace.ask(*call).text(closes=connections[at][1] == wire.MAX_REQUESTS)
             got = answers_from(connections[at][0], 1)
             if got != wanted:
                 return [f"call {number}: {call!r}: wanted {wanted!r}, got {got!r}"]

@@ -40,7 +40,7 @@ def meetings():
     return scene
 
 
-def shown_to_others():
+def seen_by_others():
     """A reference in each state, with an availability that was set, as another USS sees it."""
     tokens = {**wire.TOKENS, "tok-7": ("uss_b.7", {wire.STRATEGIC, wire.MONITORING})}
     scene = Scene("shown to others", [], [], wire.token_file(tokens))
@@ -175,4 +175,4 @@ scopes = ["utm.strategic_coordination"]
 
 def scenes():
     """Returns all streams of the table."""
-    return [meetings(), shown_to_others(), changes_of_state(), callers(), *versions()]
+    return [meetings(), seen_by_others(), changes_of_state(), callers(), *versions()]

@@ -24,7 +24,7 @@ HANDLERS = {INTENT: (wire.INTENTS, "tok-bc"), CONSTRAINT: (wire.CONSTRAINTS, "to
 SUBSCRIBERS = tuple((wire.SUBSCRIPTIONS, it) for it in ("tok-a", "tok-bc"))
 SUBSCRIBED, CHANGES = 120, 90
 # How often they are notified at least.
-LEAST_TOLD, LEAST_TOLD_IN_MEMORY = 500, 15
+MIN_NOTIFIED, MIN_NOTIFIED_IN_MEMORY = 500, 15
 
 
 def token_of(cell):
@@ -195,7 +195,7 @@ def in_memory():
     """The same stream in memory and over a database: references, and then queries."""
     draw, airspace = drawn_calls.Draw(11), plain_policy.Airspace(NOW, drawn_calls.ALL_TOKENS)
     calls = [creation(draw, airspace, number) for number in range(FEW)]
-    return alike(calls + queries(draw, airspace, wire.MOST_REQUESTS - FEW))
+    return alike(calls + queries(draw, airspace, wire.MAX_REQUESTS - FEW))
 
 
 def subscribing(draw, airspace, number):
@@ -237,7 +237,7 @@ def notified_over_database():
         found += [] if levels == set(range(4, 17)) else [f"the levels are {sorted(levels)}"]
         found += wrong_with(room)
     print(f"{len(changes)} changes told {SUBSCRIBED} subscriptions in a database {told(airspace)} times")
-    return found + ([f"they told {told(airspace)}"] if told(airspace) < LEAST_TOLD else [])
+    return found + ([f"they told {told(airspace)}"] if told(airspace) < MIN_NOTIFIED else [])
 
 
 def deletion(airspace, entity):
@@ -251,8 +251,8 @@ def notified_in_memory():
     draw, airspace = drawn_calls.Draw(17), plain_policy.Airspace(NOW, drawn_calls.ALL_TOKENS)
     calls = [subscribing(draw, airspace, number) for number in range(40)]
     calls += [creation(draw, airspace, number) for number in range(30)]
-    calls += queries(draw, airspace, wire.MOST_REQUESTS - len(calls), SUBSCRIBERS)
-    return alike(calls) + ([f"only {told(airspace)} were told"] if told(airspace) < LEAST_TOLD_IN_MEMORY else [])
+    calls += queries(draw, airspace, wire.MAX_REQUESTS - len(calls), SUBSCRIBERS)
+    return alike(calls) + ([f"only {told(airspace)} were told"] if told(airspace) < MIN_NOTIFIED_IN_MEMORY else [])
 
 
 CASES = {

@@ -497,15 +497,15 @@ def malformed(requests):
     """Returns whether each request is P5, in streams of a hundred."""
     wanted = wire.answer(400, '{"message":"P5 FORM"}')
     closing = wire.answer(400, '{"message":"P5 FORM"}', closes=True)
-    for at in range(0, len(requests), wire.MOST_REQUESTS):
-        some = requests[at : at + wire.MOST_REQUESTS]
+    for at in range(0, len(requests), wire.MAX_REQUESTS):
+        some = requests[at : at + wire.MAX_REQUESTS]
         got = served(some)
         if len(got) != len(some):
             raise ValueError(f"{len(got)} answers to {len(some)} requests")
         yield from (it in (wanted, closing) for it in got)
 
 
-def judged(operation, cases):
+def checked(operation, cases):
     """Returns whether the schema and the program reject each body of an operation."""
     token = OPENED_BY[operation.name] if operation.name != "createIntent" else "tok-as"
     requests = [operation.request(token, body) for _, body in cases]
@@ -521,7 +521,7 @@ def bounds_of_bodies():
         for is_wrong, case, value in openapi_bodies.each_edit(bodies.body, bodies.edits):
             wanted.append(is_wrong)
             cases.append((case, value))
-        for is_wrong, (case, *refused) in zip(wanted, judged(document.operations[name], cases)):
+        for is_wrong, (case, *refused) in zip(wanted, checked(document.operations[name], cases)):
             counts[is_wrong] += 1
             if refused != [is_wrong, is_wrong]:
                 found += [f"{name}, {case}: to be refused {is_wrong}, by schema and program {refused}"]
@@ -548,7 +548,7 @@ def beyond_schemas():
     document, found = the_document(), []
     for name, bodies in openapi_bodies.UNSAID.items():
         operation = document.operations[name]
-        for case, *refused in judged(operation, bodies):
+        for case, *refused in checked(operation, bodies):
             found += [f"{name}, {case}: by schema and program {refused}"] if refused != [False, True] else []
     return found
 
@@ -560,7 +560,7 @@ def tokens_of_cells():
     digits = "0123456789abcdefABCDEF"
     tokens = [*digits, *(a + b for a in digits for b in digits), *(f"1{it}1" for it in digits), *openapi_bodies.TOKENS]
     cases = [(it, json.dumps({"area_of_interest": {"cells": [it]}}).encode()) for it in tokens]
-    return [f"{it}: by schema and program {a, b}" for it, a, b in judged(operation, cases) if a != b]
+    return [f"{it}: by schema and program {a, b}" for it, a, b in checked(operation, cases) if a != b]
 
 
 def words_of_paths():

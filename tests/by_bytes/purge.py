@@ -21,20 +21,20 @@ import tables
 import wire
 from changed_databases import Filled
 from databases import NOT_A_DSS, STORE, Room, ask, filled, sub_put, volume
-from database_copies import LOCK_AT, LOCK_LENGTH
+from backup_command import LOCK_AT, LOCK_LENGTH
 from devices import library
 from failing_files import NOT_CLOSED, Failing
-from operators import Operated
+from admin_port import AdminService
 from program import BUILT, TOP, first_difference, run
 from sockets import difference
 from without_memory import each_refused
-from words import SWEEP_IN_FUTURE
+from arguments import PURGE_IN_FUTURE
 
 # The time of the calls, and one that is past for a purge.
 NOW, LATER = 1_000, 10_000
 # At least so many intents, constraints and subscriptions are removed in one transaction, except the last.
-LEAST = 64
-FUTURE = f"{SWEEP_IN_FUTURE}\n"
+MIN = 64
+FUTURE = f"{PURGE_IN_FUTURE}\n"
 CLOCK, MEMORY = b"dss: clock\n", b"dss: memory\n"
 SEEDS, CHUNK, CHUNKS = range(40, 44), 25, 8
 # A scene of many: intents and subscriptions that end at once, and those that stay.
@@ -57,21 +57,21 @@ def done(*counts):
     return 0, printed(*counts), b""
 
 
-class Swept(Room):
+class PurgeRoom(Room):
     """A room whose database is purged."""
 
-    def words_of_sweep(self, until, now=LATER, database=None):
+    def purge_arguments(self, until, now=LATER, database=None):
         moment = [] if now is None else ["--now", f"{now}"]
         return [BUILT, "purge", "--db", str(database or self.database), "--until", f"{until}", *moment]
 
-    def sweep(self, until, now=LATER, database=None, more=None):
-        return run(self.words_of_sweep(until, now, database), more=more)
+    def purge(self, until, now=LATER, database=None, more=None):
+        return run(self.purge_arguments(until, now, database), more=more)
 
 
 # ---- what is to be left, by the rows of a database
 
 
-def swept_rows(rows, until):
+def purged_rows(rows, until):
     """Returns the rows after a purge, given those before it."""
     ends = collections.defaultdict(list)
     for entity, _, _, _, _, end in rows["volume"]:
@@ -97,13 +97,13 @@ def wrong_part(before, database, until):
     rows = tables.rows_in(database)
     found = tables.wrong_in(database)
     found += [f"{it}: more than before" for it in rows if not set(rows[it]) <= set(before[it])]
-    return found + difference("what is left of it", swept_rows(rows, until) == swept_rows(before, until), True)
+    return found + difference("what is left of it", purged_rows(rows, until) == purged_rows(before, until), True)
 
 
-def wrong_pieces(parts, before, after):
+def wrong_chunks(parts, before, after):
     """Returns whether aborted purges left the expected number of different parts: that of the chunks, and not that of
     the rows."""
-    most = sum(gone(before, after)) // LEAST + 3
+    most = sum(gone(before, after)) // MIN + 3
     return [] if 2 < len(parts) <= most else [f"{len(parts)} parts of at most {most}: {dict(sorted(parts.items()))}"]
 
 
@@ -197,25 +197,25 @@ def differs(room, airspace, calls, now=NOW):
 def by_hand():
     """A purge removes and leaves the expected rows, and reads give the expected responses before and after it. A second
     purge, and one until an earlier time, find nothing. The next change has the next serial."""
-    with Swept() as room:
+    with PurgeRoom() as room:
         airspace = policy()
         found = differs(room, airspace, by_hand_calls())
         before = tables.rows_in(room.database)
-        found += difference("until the first end", room.sweep(1_499), done(0, 0, 0))
+        found += difference("until the first end", room.purge(1_499), done(0, 0, 0))
         found += difference("its rows", tables.rows_in(room.database), before)
-        counts = airspace.sweep(UNTIL)
+        counts = airspace.purge(UNTIL)
         found += difference("the plain policy", counts, (3, 1, 2))
-        found += difference("a sweep", room.sweep(UNTIL), done(3, 1, 2))
+        found += difference("a sweep", room.purge(UNTIL), done(3, 1, 2))
         rows = tables.rows_in(room.database)
         stay = {(kind, id_) for _, kind, id_, *_ in rows["entity"]}, {id_ for _, id_, *_ in rows["subscription"]}
-        found += difference("what stays", stay, STAY) + difference("rows", rows, swept_rows(before, UNTIL))
+        found += difference("what stays", stay, STAY) + difference("rows", rows, purged_rows(before, UNTIL))
         for until in UNTIL, UNTIL - 1, 0:
-            found += difference(f"again until {until}", room.sweep(until), done(0, 0, 0))
+            found += difference(f"again until {until}", room.purge(until), done(0, 0, 0))
         found += difference("rows then", tables.rows_in(room.database), rows) + tables.wrong_in(room.database)
         found += differs(room, airspace, looks())
         # What referenced it was purged, so the next purge removes it.
-        found += difference("one that was freed", room.sweep(UNTIL), done(*airspace.sweep(UNTIL)))
-        found += difference("all", room.sweep(9_000, 9_000), done(*airspace.sweep(9_000)))
+        found += difference("one that was freed", room.purge(UNTIL), done(*airspace.purge(UNTIL)))
+        found += difference("all", room.purge(9_000, 9_000), done(*airspace.purge(9_000)))
         left = {it: len(rows) for it, rows in tables.rows_in(room.database).items() if rows}
         found += difference("what is left", left, {"availability": 1, "meta": 1})
         return found + differs(room, airspace, [put_intent(A1, "tok-a", 0, [(900, 20_000)])])
@@ -223,7 +223,7 @@ def by_hand():
 
 def reported():
     """The report has neither line nor cell of what was purged, and the same serial."""
-    with Swept() as room:
+    with PurgeRoom() as room:
         differs(room, policy(), by_hand_calls())
         found = []
         for flags, wanted in ([], [A2, A4, C2]), (["--cells"], [A2, A2, A4, C2, C2]):
@@ -232,7 +232,7 @@ def reported():
                 copy.write_bytes(room.database.read_bytes())
                 words = [BUILT, "report", "--db", str(copy), *flags]
                 before = run(words)
-                found += difference("a sweep", room.sweep(UNTIL, database=copy)[0], 0)
+                found += difference("a sweep", room.purge(UNTIL, database=copy)[0], 0)
                 after = run(words)
                 lines = [it for it in before[1].splitlines() if it.startswith(b"serial") or it.split()[1].decode() in wanted]
                 found += difference(f"the report {flags}", after, (0, b"".join(it + b"\n" for it in lines), b""))
@@ -241,66 +241,66 @@ def reported():
         return found
 
 
-def not_told():
+def not_reported():
     """If the system gives no time, nothing is opened. If the output cannot be written, that is reported, and the purge
     is done."""
-    with Swept() as room, connections.Room() as devices:
+    with PurgeRoom() as room, connections.Room() as devices:
         none = pathlib.Path(room.folder.name, "none.db")
-        found = difference("no time", room.sweep(1, None, none, {"LD_PRELOAD": devices.library, "CLOCK_FAILS": "1"}), (1, b"", CLOCK))
+        found = difference("no time", room.purge(1, None, none, {"LD_PRELOAD": devices.library, "CLOCK_FAILS": "1"}), (1, b"", CLOCK))
         found += difference("a file that was made", none.exists(), False)
         differs(room, policy(), by_hand_calls())
         before = tables.rows_in(room.database)
-        got = room.sweep(UNTIL, more={"LD_PRELOAD": devices.library, "WRITE_FAILS": "1"})
+        got = room.purge(UNTIL, more={"LD_PRELOAD": devices.library, "WRITE_FAILS": "1"})
         found += difference("not written", got, (1, b"", b"dss: output\n"))
-        return found + difference("its rows", tables.rows_in(room.database), swept_rows(before, UNTIL))
+        return found + difference("its rows", tables.rows_in(room.database), purged_rows(before, UNTIL))
 
 
 def of_nothing():
     """An empty database, and one that does not exist: `purge` makes it, as `report` does."""
-    with Swept() as room:
-        found = difference("no file", room.sweep(UNTIL), done(0, 0, 0))
+    with PurgeRoom() as room:
+        found = difference("no file", room.purge(UNTIL), done(0, 0, 0))
         found += difference("its rows", {it: rows for it, rows in tables.rows_in(room.database).items() if rows}, {"meta": [(1, 2, 0)]})
-        return found + difference("nothing", room.sweep(LATER), done(0, 0, 0))
+        return found + difference("nothing", room.purge(LATER), done(0, 0, 0))
 
 
 def refused():
     """A time in the future is rejected before anything is opened, by the clock or by `--now`. A file that is no
     database or is held is reported as by other commands. Nothing is changed."""
     found, clock = [], int(time.time())
-    with Swept() as room:
+    with PurgeRoom() as room:
         differs(room, policy(), by_hand_calls())
         before = room.database.read_bytes()
         for until, now in (clock + 60, None), (UNTIL + 1, UNTIL), (253_402_300_799, None), (1, 0):
-            got = room.sweep(until, now)
+            got = room.purge(until, now)
             found += difference(f"until {until} at {now}", got, (1, b"", FUTURE.encode()))
-            got = room.sweep(until, now, f"{room.folder.name}/none.db")
+            got = room.purge(until, now, f"{room.folder.name}/none.db")
             found += difference(f"until {until} at {now}, of no file", got, (1, b"", FUTURE.encode()))
         found += difference("a file that was made", pathlib.Path(room.folder.name, "none.db").exists(), False)
         text = pathlib.Path(room.folder.name, "text")
         text.write_text("no database, but 4096 bytes of text\n" * 120)
         for name in text, room.folder.name, f"{room.folder.name}/no/dss.db":
-            found += difference(f"{name}", room.sweep(UNTIL, database=name), (1, b"", STORE))
+            found += difference(f"{name}", room.purge(UNTIL, database=name), (1, b"", STORE))
         found += difference("its bytes", room.database.read_bytes() == before, True)
         with room.database.open("r+b") as file:
             fcntl.lockf(file, fcntl.LOCK_EX, LOCK_LENGTH, LOCK_AT)
-            found += difference("a database in use", room.sweep(UNTIL), (1, b"", STORE))
+            found += difference("a database in use", room.purge(UNTIL), (1, b"", STORE))
         # By the clock this is long past, and with --now it is just past.
-        found += difference("by the clock", room.sweep(1_500, None), done(1, 0, 0))
-        found += difference("now", room.sweep(UNTIL, UNTIL), done(2, 1, 2))
+        found += difference("by the clock", room.purge(1_500, None), done(1, 0, 0))
+        found += difference("now", room.purge(UNTIL, UNTIL), done(2, 1, 2))
         room.query("DROP TABLE naming")
-        return found + difference("another database", room.sweep(UNTIL), (1, b"", NOT_A_DSS))
+        return found + difference("another database", room.purge(UNTIL), (1, b"", NOT_A_DSS))
 
 
 # ---- beside the plain policy
 
 
-def kept_by(airspace):
+def stored_by(airspace):
     """Returns what the plain policy stores, as rows."""
     entities = {(int(kind != plain_policy.INTENT), id_, it.version, it.serial) for (kind, id_), it in airspace.entities.items()}
     return entities, {(id_, it.serial, it.index) for id_, it in airspace.subscriptions.items()}, airspace.serial
 
 
-def kept_in(room):
+def stored_in(room):
     rows = tables.rows_in(room.database)
     entities = {(kind, id_, version, serial) for _, kind, id_, _, _, version, serial, *_ in rows["entity"]}
     return entities, {(it[1], it[3], it[5]) for it in rows["subscription"]}, rows["meta"][0][2]
@@ -312,7 +312,7 @@ def drawn():
     for seed in [*SEEDS, *seeds.new("purge", 1)]:
         draw, airspace = drawn_calls.Draw(seed), plain_policy.Airspace(drawn_calls.NOW, drawn_calls.ALL_TOKENS)
         drawer = drawn_calls.Drawn(draw, airspace)
-        with Swept() as room:
+        with PurgeRoom() as room:
             for at in range(CHUNKS):
                 calls, wanted = [], []
                 for _ in range(CHUNK):
@@ -322,10 +322,10 @@ def drawn():
                 why = first_difference(wanted, wire.answers_of(output))
                 found += [f"seed {seed}, call {at * CHUNK}: {status}, {error!r}, {why}"] if why or status else []
                 until = drawn_calls.NOW + draw.below(1_000)
-                counts = airspace.sweep(until)
+                counts = airspace.purge(until)
                 went.update(dict(zip(("intents", "constraints", "subscriptions"), counts)))
-                found += difference(f"seed {seed}, sweep {at}", room.sweep(until), done(*counts))
-                found += difference(f"seed {seed}, kept after {at}", kept_in(room), kept_by(airspace))
+                found += difference(f"seed {seed}, sweep {at}", room.purge(until), done(*counts))
+                found += difference(f"seed {seed}, kept after {at}", stored_in(room), stored_by(airspace))
             found += [f"seed {seed}: {it}" for it in tables.wrong_in(room.database)]
     print(f"sweeps among drawn calls took {dict(went)}")
     return found + [f"no {it} went" for it, count in went.items() if not count]
@@ -366,13 +366,13 @@ def made_of(file, rows):
     return tables.rows_in(file)
 
 
-def in_pieces():
+def in_chunks():
     """One purge removes many, and all that stays is as it was."""
-    with Swept() as room:
+    with PurgeRoom() as room:
         before = made_of(room.database, many())
-        after = swept_rows(before, UNTIL)
+        after = purged_rows(before, UNTIL)
         counts = gone(before, after)
-        found = difference("a sweep", room.sweep(UNTIL), done(*counts))
+        found = difference("a sweep", room.purge(UNTIL), done(*counts))
         found += difference("its rows", tables.rows_in(room.database) == after, True) + tables.wrong_in(room.database)
         size = room.database.stat().st_size
         # Freed pages are used again.
@@ -385,19 +385,19 @@ def in_pieces():
 def finished(name, room, database, before):
     """Returns what is wrong with an aborted purge, and with the one that completes it."""
     found = [f"{name}: {it}" for it in wrong_part(before, database, UNTIL)]
-    rest = gone(tables.rows_in(database), swept_rows(before, UNTIL))
-    found += difference(f"{name}: the rest", room.sweep(UNTIL, database=database), done(*rest))
-    return found + difference(f"{name}: rows", tables.rows_in(database) == swept_rows(before, UNTIL), True)
+    rest = gone(tables.rows_in(database), purged_rows(before, UNTIL))
+    found += difference(f"{name}: the rest", room.purge(UNTIL, database=database), done(*rest))
+    return found + difference(f"{name}: rows", tables.rows_in(database) == purged_rows(before, UNTIL), True)
 
 
 def machine_stops():
     """A machine stops between the chunks. Whatever a disk may have persisted, whole chunks are found, and the next
     purge completes the work."""
     found, parts = [], collections.Counter()
-    with Swept() as room:
+    with PurgeRoom() as room:
         machine = crashes.Machine(room, [])
         before = made_of(machine.saved / "dss.db", many())
-        words = lambda database: room.words_of_sweep(UNTIL, database=database)
+        words = lambda database: room.purge_arguments(UNTIL, database=database)
         status, _, calls = machine.run(words(machine.again()))
         if status or not calls:
             return [f"a sweep: {status}, {calls} calls"]
@@ -410,29 +410,29 @@ def machine_stops():
                 parts[sum(gone(before, tables.rows_in(crashes.copied(database))))] += 1
                 found += finished(f"call {at} of {calls}, {kept} kept", room, database, before)
     print(f"a machine that stopped among {calls} calls on files left so much swept: {dict(sorted(parts.items()))}")
-    return found + wrong_pieces(parts, before, swept_rows(before, UNTIL))
+    return found + wrong_chunks(parts, before, purged_rows(before, UNTIL))
 
 
 def killed():
     """The same if the program is killed in the middle."""
     found, parts = [], collections.Counter()
-    with Swept() as room:
+    with PurgeRoom() as room:
         before = made_of(room.database, many(3 * ENDED))
         saved = room.database.read_bytes()
         began = time.monotonic()
-        found += difference("a sweep", room.sweep(UNTIL)[0], 0)
+        found += difference("a sweep", room.purge(UNTIL)[0], 0)
         took = time.monotonic() - began
         for at in range(KILLS):
             room.database.write_bytes(saved)
             room.database.with_name("dss.db-wal").unlink(missing_ok=True)
-            with subprocess.Popen(room.words_of_sweep(UNTIL), stdout=subprocess.PIPE, stderr=subprocess.PIPE) as program:
+            with subprocess.Popen(room.purge_arguments(UNTIL), stdout=subprocess.PIPE, stderr=subprocess.PIPE) as program:
                 time.sleep(took * (at + 1) / (KILLS + 2))
                 program.kill()
             copy = crashes.copied(room.database)
             parts[sum(gone(before, tables.rows_in(copy)))] += 1
             found += finished(f"kill {at}", room, room.database, before)
     print(f"a program that was killed left so much swept: {dict(sorted(parts.items()))}")
-    return found + wrong_pieces(parts, before, swept_rows(before, UNTIL))
+    return found + wrong_chunks(parts, before, purged_rows(before, UNTIL))
 
 
 def files_fail():
@@ -440,7 +440,7 @@ def files_fail():
     the next purge completes the work."""
     found, ends = [], collections.Counter()
 
-    class Place(Failing, Swept):
+    class Place(Failing, PurgeRoom):
         """A room of both kinds."""
 
     with Place() as room:
@@ -451,9 +451,9 @@ def files_fail():
             room.database.write_bytes(saved)
             room.database.with_name("dss.db-wal").unlink(missing_ok=True)
 
-        for more in itertools.islice(room.ways(room.words_of_sweep(UNTIL), b"", again), 0, None, CALLS_STEP):
+        for more in itertools.islice(room.ways(room.purge_arguments(UNTIL), b"", again), 0, None, CALLS_STEP):
             again()
-            status, output, error = room.run(room.words_of_sweep(UNTIL), b"", more)
+            status, output, error = room.run(room.purge_arguments(UNTIL), b"", more)
             ends[(status, error)] += 1
             is_right = (error == b"" and output != b"") if status == 0 else status == 1 and output == b"" and error in (STORE, NOT_CLOSED)
             found += [] if is_right else [f"{more}: {status}, {output!r}, {error!r}"]
@@ -465,7 +465,7 @@ def files_fail():
 def without_memory(step=STEP):
     """The same if memory allocations are refused in turn."""
     found, ends = [], collections.Counter()
-    with Swept() as room:
+    with PurgeRoom() as room:
         before = made_of(room.database, many(ENDED // 2))
         saved = room.database.read_bytes()
 
@@ -473,12 +473,12 @@ def without_memory(step=STEP):
             room.database.write_bytes(saved)
             room.database.with_name("dss.db-wal").unlink(missing_ok=True)
 
-        for at, (status, output, error), is_refused in each_refused(room.words_of_sweep(UNTIL), step=step, before=again):
+        for at, (status, output, error), is_refused in each_refused(room.purge_arguments(UNTIL), step=step, before=again):
             ends[(status, error)] += 1
             told = error == b"" and output != b"" if status == 0 else is_refused and status == 1 and output == b"" and error in (STORE, NOT_CLOSED, MEMORY)
             found += [] if told else [f"growth {at}: {status}, {output!r}, {error!r}"]
             found += finished(f"growth {at}", room, room.database, before)
-    print(f"a sweep: one in {step} of its growths of memory refused: {dict(ends)}")
+    print(f"a sweep: one in {step} of its allocations of memory refused: {dict(ends)}")
     return found
 
 
@@ -487,15 +487,15 @@ def without_memory(step=STEP):
 
 def older():
     """A database of format 1 is upgraded when it is opened, and purged."""
-    with Filled(1) as old, Swept() as room:
+    with Filled(1) as old, PurgeRoom() as room:
         room.database.write_bytes(old.database.read_bytes())
         before = tables.rows_in(room.database)
         ends = [end for *_, end in before["volume"]]
-        found = difference("a sweep until the first end", room.sweep(min(ends) - 1)[::2], (0, b""))
+        found = difference("a sweep until the first end", room.purge(min(ends) - 1)[::2], (0, b""))
         rows = tables.rows_in(room.database)
         found += difference("its format", rows["meta"][0][1], 2) + difference("its entities", rows["entity"], before["entity"])
-        got = room.sweep(max(ends) - 1, max(ends))
-        return found + difference("a sweep", got, done(*gone(rows, swept_rows(rows, max(ends) - 1)))) + tables.wrong_in(room.database)
+        got = room.purge(max(ends) - 1, max(ends))
+        return found + difference("a sweep", got, done(*gone(rows, purged_rows(rows, max(ends) - 1)))) + tables.wrong_in(room.database)
 
 
 def small_file():
@@ -504,9 +504,9 @@ def small_file():
     text = (TOP / "docs" / "OPERATE.md").read_text().partition("### Shrinking the database file\n")[2]
     block = re.search(r"(?m)^    \(umask(?:.*\n(?=    ))*.*$", text)[0].replace("./dss", BUILT)
     found = []
-    with Swept() as room:
+    with PurgeRoom() as room:
         made_of(room.database, many(4 * ENDED))
-        found += difference("a sweep", room.sweep(UNTIL)[0], 0)
+        found += difference("a sweep", room.purge(UNTIL)[0], 0)
         small = room.database.with_name("small.db")
         found += difference("the commands", run(["bash", "-e", "-c", block], folder=room.folder.name)[::2], (0, b""))
         found += difference("rows", tables.rows_in(small) == tables.rows_in(room.database), True) + tables.wrong_in(small)
@@ -519,9 +519,9 @@ def small_file():
             database.execute("VACUUM")
         found += difference("VACUUM", run([BUILT, "report", "--db", str(room.database)]), reports[0])
         # This one gets no mirror, without which it does not know what has ended.
-        found += difference("a sweep of it", room.sweep(UNTIL), (1, b"", NOT_CLOSED))
+        found += difference("a sweep of it", room.purge(UNTIL), (1, b"", NOT_CLOSED))
         for file, copy in (small, "1"), (room.database, "0"):
-            with Operated() as started:
+            with AdminService() as started:
                 started.kill()
                 for end in "", "-wal":
                     started.folder.joinpath(f"dss.db{end}").unlink(missing_ok=True)
@@ -534,11 +534,11 @@ def small_file():
 CASES = {
     "sweep-by-hand": by_hand,
     "sweep-reported": reported,
-    "sweep-not-told": not_told,
+    "sweep-not-told": not_reported,
     "sweep-of-nothing": of_nothing,
     "sweep-refused": refused,
     "sweep-among-drawn-calls": drawn,
-    "sweep-in-pieces": in_pieces,
+    "sweep-in-pieces": in_chunks,
     "machine-that-stops-in-a-sweep": machine_stops,
     "killed-in-a-sweep": killed,
     "sweep-whose-calls-fail": files_fail,

@@ -14,7 +14,7 @@ OF_THE_EXAMPLE = (
     b"intent     00000000-0000-4000-8000-0000000000a1          1 Accepted               900         2000 uss-a\n"
     b"serial 1\n"
 )
-GREATEST = 253_402_300_799
+MAX = 253_402_300_799
 ID = "00000000-0000-4000-8000-{:012x}".format
 
 
@@ -22,7 +22,7 @@ ID = "00000000-0000-4000-8000-{:012x}".format
 PLACES = f"""\
 intent {INTENT} uss-a Activated 89c25904 -100 1200 900 2000
 intent {INTENT} uss-a Activated 89c2591 -100 1200 900 2000
-intent {INTENT} uss-a Activated 89c25904 -100000 1000000 0 {GREATEST}
+intent {INTENT} uss-a Activated 89c25904 -100000 1000000 0 {MAX}
 intent {NAMING} uss-b Accepted 89c2590c 0 400 900 2000
 constraint {CONSTRAINT} uss-c - 89c3 0 500 900 2000
 """
@@ -60,7 +60,7 @@ def put(kind, entity, token, times, state=None, path="", key=()):
 
 def in_order():
     """Intents are in order of their ids whatever their age, then constraints. The report follows updates and deletions."""
-    late, early = (900, 2000), (0, GREATEST)
+    late, early = (900, 2000), (0, MAX)
     steps = [
         put(wire.INTENTS, ID(0xFF), "tok-bm", [late], "Contingent"),
         put(wire.CONSTRAINTS, ID(0xFE), "tok-c", [(5, 1500), (7, 1234)]),
@@ -73,7 +73,7 @@ def in_order():
         ask("PUT", f"{wire.AVAILABILITY}/uss-b", "tok-v", {"old_version": "", "availability": "Down"}),
     ]
     text = "".join([
-        line("intent", ID(2), 1, "Nonconforming", (0, GREATEST), "uss-b"),
+        line("intent", ID(2), 1, "Nonconforming", (0, MAX), "uss-b"),
         line("intent", ID(0x10), 2, "Activated", (3000, 4001), "uss-a"),
         line("intent", ID(0xFF), 1, "Contingent", late, "uss-b"),
         line("constraint", ID(0xA), 1, "-", early, "uss-c"),

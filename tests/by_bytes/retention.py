@@ -11,12 +11,12 @@ import tables
 import wire
 from devices import GROWTHS, SIZES, WRITES, Page, library
 from figures import FullAndVerbose
-from operators import HEALTH, SERVING, STOP, Operated, said, until_counted
+from admin_port import HEALTH, SERVING, STOP, AdminService, said, until_counted
 from plain_policy import INTENT, SUBSCRIPTION, has_ended, some_meet
 from program import SECONDS
 from served_calls import AHEAD
 from sockets import difference
-from purge import ID, STAYING, UNTIL, gone, made_of, many, put_intent, swept_rows, wrong_part
+from purge import ID, STAYING, UNTIL, gone, made_of, many, put_intent, purged_rows, wrong_part
 from without_memory import STOPPED
 
 # Seconds of retention: the scenes have ended long before, or half an hour after that.
@@ -26,14 +26,14 @@ WENT, CALLS, SEEDS = 1_500, 120, range(70, 74)
 # A cell of the drawn calls.
 NEAR = ("00000004", 0, 0)
 # Memory allocations after those of a start, of which some are refused.
-GROWTHS = 240
+ALLOCATIONS = 240
 # Growths of a file, and writes, after those of a start: from each of them on the disk is full, or takes no write at
 # all.
 FULL, REFUSED = range(1, 32, 5), (20, 40, 61, 73)
-SWEPT, FAULTS = "dss_purged_total", "dss_purge_failures_total"
+PURGED, FAULTS = "dss_purged_total", "dss_purge_failures_total"
 
 
-class Keeping(Operated):
+class Retaining(AdminService):
     """`dss serve` with an admin port over a database of these rows, with that retention."""
 
     def __init__(self, rows, keep=DAY, tokens=drawn_calls.ALL_TOKENS, options=(), **more):
@@ -44,7 +44,7 @@ class Keeping(Operated):
 
     def wait(self, count):
         """Waits until that many rows were purged, and returns the metrics."""
-        return until_counted(self, SWEPT, f"{count}")
+        return until_counted(self, PURGED, f"{count}")
 
     def rows(self):
         """Returns the stored rows, once the service has exited."""
@@ -62,7 +62,7 @@ def far(rows):
 
 def due(service):
     """Returns the rows of a service that are to be purged, and the rows without them."""
-    after = swept_rows(service.before, UNTIL)
+    after = purged_rows(service.before, UNTIL)
     return sum(gone(service.before, after)), after
 
 
@@ -70,10 +70,10 @@ def goes():
     """From the start on, all rows that ended before the retention are purged and counted. All others are as they were.
     Without the option nothing is purged."""
     found = []
-    with Keeping(far(many())) as started:
+    with Retaining(far(many())) as started:
         count, after = due(started)
         counted = started.wait(count)
-        found += difference("counted", (counted[SWEPT], counted[FAULTS], counted["dss_mirror_up"]), (f"{count}", "0", "1"))
+        found += difference("counted", (counted[PURGED], counted[FAULTS], counted["dss_mirror_up"]), (f"{count}", "0", "1"))
         entities = collections.Counter("constraint" if kind else "intent" for _, kind, *_ in after["entity"])
         told = {it: int(counted[f'dss_entities{{kind="{it}"}}']) for it in entities}
         found += difference("entities", told, dict(entities))
@@ -84,11 +84,11 @@ def goes():
         # The next start finds nothing more.
         started.start()
         time.sleep(2)
-        found += difference("again", started.counted()[SWEPT], "0") + difference("rows again", started.rows() == after, True)
+        found += difference("again", started.counted()[PURGED], "0") + difference("rows again", started.rows() == after, True)
         found += difference("lines", started.ended(), (0, b"", started.listening))
-    with Keeping(many(64, 4), None) as started:
+    with Retaining(many(64, 4), None) as started:
         time.sleep(2)
-        found += difference("without", [started.counted()[it] for it in (SWEPT, FAULTS)], ["0", "0"])
+        found += difference("without", [started.counted()[it] for it in (PURGED, FAULTS)], ["0", "0"])
         return found + difference("rows without", started.rows(), started.before)
 
 
@@ -100,15 +100,15 @@ def by_the_clock():
     rows["volume"] = [(*it[:-1], ends[at // 4 % 2]) for at, it in enumerate(rows["volume"])]
     rows["subscription"] = [(*it[:-1], ends[0]) for it in rows["subscription"]]
     found = []
-    with Keeping(rows) as started:
-        after = swept_rows(started.before, ends[0])
+    with Retaining(rows) as started:
+        after = purged_rows(started.before, ends[0])
         counts = gone(started.before, after)
-        found += difference("counted", started.wait(sum(counts))[SWEPT], f"{sum(counts)}")
+        found += difference("counted", started.wait(sum(counts))[PURGED], f"{sum(counts)}")
         found += difference("rows", started.rows() == after, True) + ([] if all(counts) else [f"{counts}"])
     for keep in 2 * now, 253_402_300_799:
-        with Keeping(rows, keep) as started:
+        with Retaining(rows, keep) as started:
             time.sleep(2)
-            found += difference(f"{keep}", [started.counted()[it] for it in (SWEPT, FAULTS)], ["0", "0"])
+            found += difference(f"{keep}", [started.counted()[it] for it in (PURGED, FAULTS)], ["0", "0"])
             found += difference(f"rows, {keep}", started.rows(), started.before)
     return found
 
@@ -116,21 +116,21 @@ def by_the_clock():
 def once_a_minute():
     """What ends while the service runs is purged by the next run, a minute after the one before, also if no client
     requests anything."""
-    with Keeping(far(many(64, 4)), 1) as started:
+    with Retaining(far(many(64, 4)), 1) as started:
         began = time.monotonic()
         first, _ = due(started)
-        found = difference("at the start", started.wait(first)[SWEPT], f"{first}")
+        found = difference("at the start", started.wait(first)[PURGED], f"{first}")
         now = int(time.time())
         puts = [put_intent(ID(7_000 + it), "tok-a", 100 + 10 * it, [(now - 10, now + (3 if it < 3 else 900))]) for it in range(4)]
         puts = [wire.request(method, target, f"Bearer {token}", wire.compact(body).encode()) for method, target, token, body in puts]
         found += difference("creations", {it[:12] for it in started.ask(puts)}, {b"HTTP/1.1 201"})
         reading = wire.request("GET", f"{wire.INTENTS}/{ID(7_000)}", "Bearer tok-a")
         time.sleep(MINUTE - 10 - (time.monotonic() - began))
-        found += difference("a look too early", started.counted()[SWEPT], f"{first}")
+        found += difference("a look too early", started.counted()[PURGED], f"{first}")
         found += difference("it", started.ask([reading])[0][:12], b"HTTP/1.1 200")
         counted = started.wait(first + 3)
         took = time.monotonic() - began
-        found += difference("a minute later", counted[SWEPT], f"{first + 3}")
+        found += difference("a minute later", counted[PURGED], f"{first + 3}")
         found += [] if MINUTE - 1 < took < MINUTE + 10 else [f"it went after {took:.1f} s"]
         return found + difference("it then", started.ask([reading])[0][:12], b"HTTP/1.1 404")
 
@@ -206,19 +206,19 @@ def pairs():
     found, kinds = [], collections.Counter()
     scene = {it: [(*row[:-3], *NEAR) if it.endswith("cell") else row for row in all_] for it, all_ in many(WENT, 0).items()}
     for seed in SEEDS:
-        with Keeping(scene, None) as whole, Keeping(scene) as swept:
+        with Retaining(scene, None) as whole, Retaining(scene) as purged:
             until = int(time.time()) - DAY
             wrong, calls, some = calls_ahead(seed, whole.before, until)
             found, kinds = found + wrong, kinds + some
             counts = []
             for at, (request, wanted) in enumerate(calls):
-                got = [it.ask([request])[0] for it in (swept, whole)]
+                got = [it.ask([request])[0] for it in (purged, whole)]
                 found += difference(f"seed {seed}, call {at}, both", *got) + difference(f"seed {seed}, call {at}", got[1], wanted)
-                counts.append(int(swept.counted()[SWEPT]) if at in (0, CALLS // 2) else 0)
+                counts.append(int(purged.counted()[PURGED]) if at in (0, CALLS // 2) else 0)
             count, _ = due(whole)
-            found += difference(f"seed {seed}, counted", swept.wait(count)[SWEPT], f"{count}")
+            found += difference(f"seed {seed}, counted", purged.wait(count)[PURGED], f"{count}")
             rows = whole.rows()
-            found += difference(f"seed {seed}, rows", swept.rows() == swept_rows(rows, until), True)
+            found += difference(f"seed {seed}, rows", purged.rows() == purged_rows(rows, until), True)
     print(f"drawn calls beside a sweep: {dict(kinds)}")
     return found + [f"few are answered {it}" for it in ("200", "201", "404", "409") if kinds[it] < 10]
 
@@ -232,27 +232,27 @@ def room_again():
     kept = len(rows["entity"]) + len(rows["subscription"])
     method, target, token, body = put_intent(ID(9_000), "tok-a", 500, [(AHEAD, AHEAD + 10)])
     put = wire.request(method, target, f"Bearer {token}", wire.compact(body).encode())
-    with Keeping(rows, None, most_kept=kept) as started:
+    with Retaining(rows, None, quota=kept) as started:
         found = difference("at its bound", started.ask([put])[0][:12], b"HTTP/1.1 500")
         started.kill()
         started.options = ("--retention", f"{DAY}")
         started.start()
         count, _ = due(started)
-        found += difference("counted", started.wait(count)[SWEPT], f"{count}") + difference("all of it", count, kept)
+        found += difference("counted", started.wait(count)[PURGED], f"{count}") + difference("all of it", count, kept)
         return found + difference("with room", started.ask([put])[0][:12], b"HTTP/1.1 201")
 
 
-def told_nowhere():
+def reported_nowhere():
     """The log has only the lines of requests, and nothing is on standard error. With --verbose the lines are the same
     as without."""
     found = []
     for options, preface in ((), b""), (("--verbose",), FullAndVerbose.preface):
-        service = Keeping(far(many()), options=options)
+        service = Retaining(far(many()), options=options)
         service.preface, log = preface, service.folder / "log"
         service.options += ("--access-log", f"{log}")
         with service as started:
             count, _ = due(started)
-            found += difference("counted", started.wait(count)[SWEPT], f"{count}")
+            found += difference("counted", started.wait(count)[PURGED], f"{count}")
             started.ask([wire.request("GET", f"{wire.AVAILABILITY}/uss-a", "Bearer tok-a")] * 3)
             found += difference(f"lines, {options}", log.read_text().count("\n"), 3)
             found += difference(f"told, {options}", (started.folder / "errors").read_bytes(), started.listening)
@@ -263,7 +263,7 @@ def killed():
     """If the service is killed in the middle, the database is partly purged. The next start purges the rest."""
     found, parts = [], collections.Counter()
     for at in range(8):
-        with Keeping(far(many(WENT, STAYING))) as started:
+        with Retaining(far(many(WENT, STAYING))) as started:
             time.sleep(0.05 * at)
             started.kill()
             rows = tables.rows_in(started.database)
@@ -272,13 +272,13 @@ def killed():
             parts[went] += 1
             found += [f"kill {at}: {it}" for it in wrong_part(started.before, started.database, UNTIL)]
             started.start()
-            found += difference(f"kill {at}: the rest", started.wait(count - went)[SWEPT], f"{count - went}")
+            found += difference(f"kill {at}: the rest", started.wait(count - went)[PURGED], f"{count - went}")
             found += difference(f"kill {at}: rows", started.rows() == after, True)
-    print(f"a service that was killed as it let go left so much swept: {dict(sorted(parts.items()))}")
+    print(f"a service that was killed as it let go left so much purged: {dict(sorted(parts.items()))}")
     return found
 
 
-class Refusing(Keeping):
+class Refusing(Retaining):
     """The same service, whose files take no more from some call of these kinds on, after those of a start."""
 
     def __init__(self):
@@ -311,7 +311,7 @@ class Refusing(Keeping):
         found = wrong_part(self.before, self.database, UNTIL)
         found += difference("what went", sum(gone(self.before, tables.rows_in(self.database))), went)
         self.start()
-        found += difference("the rest", self.wait(count - went)[SWEPT], f"{count - went}")
+        found += difference("the rest", self.wait(count - went)[PURGED], f"{count - went}")
         return found + difference("rows", self.rows() == after, True)
 
 
@@ -323,14 +323,14 @@ def full_disk():
     with Refusing() as started:
         for at in FULL:
             counted = started.refuse(at, GROWTHS)
-            went = int(counted[SWEPT])
+            went = int(counted[PURGED])
             parts[went] += 1
             found += difference(f"{at}: faults", counted[FAULTS], "1")
             found += [] if 0 <= went < due(started)[0] else [f"{at}: {went} went"]
             found += difference(f"{at}: health", started.asked(HEALTH), said(200, SERVING))
             found += difference(f"{at}: a reading", started.ask([reading])[0][:12], b"HTTP/1.1 200")
             found += [f"{at}: {it}" for it in started.left(went)]
-    print(f"a disk that was full as it let go left so much swept: {dict(sorted(parts.items()))}")
+    print(f"a disk that was full as it let go left so much purged: {dict(sorted(parts.items()))}")
     return found
 
 
@@ -342,7 +342,7 @@ def refused_writes():
     with Refusing() as started:
         for at in REFUSED:
             counted = started.refuse(at, WRITES | SIZES)
-            went, answer = int(counted[SWEPT]), started.ask([reading])[0]
+            went, answer = int(counted[PURGED]), started.ask([reading])[0]
             ends[answer[:12]] += 1
             goes_on = answer.startswith(b"HTTP/1.1 200")
             found += [] if goes_on or answer == wire.answer(*STOPPED) else [f"{at}: {answer!r}"]
@@ -356,7 +356,7 @@ def without_memory():
     """Memory allocations are refused, each alone, during a purge: purged rows stay purged, others stay, and clients get
     responses. The next start purges the rest."""
     found, ends = [], collections.Counter()
-    with Keeping(far(many(WENT // 4, STAYING)), None) as started:
+    with Retaining(far(many(WENT // 4, STAYING)), None) as started:
         page, saved = Page(started.folder), started.database.read_bytes()
         started.environment |= page.environment(library("refuse_memory", started.folder))
         started.kill()
@@ -367,7 +367,7 @@ def without_memory():
         opening, reading = page.get("calls"), wire.request("GET", f"{wire.AVAILABILITY}/uss-a", "Bearer tok-a")
         count, after = due(started)
         started.options = ("--retention", f"{DAY}")
-        for at in range(opening + 1, opening + GROWTHS, GROWTHS // 12):
+        for at in range(opening + 1, opening + ALLOCATIONS, ALLOCATIONS // 12):
             started.kill()
             started.database.write_bytes(saved)
             started.database.with_name("dss.db-wal").unlink(missing_ok=True)
@@ -377,23 +377,23 @@ def without_memory():
             time.sleep(2)
             page.set()
             counted = started.counted()
-            went = int(counted[SWEPT])
+            went = int(counted[PURGED])
             ends[went == count, counted[FAULTS], counted["dss_mirror_up"]] += 1
             found += difference(f"growth {at}: a reading", started.ask([reading])[0][:12], b"HTTP/1.1 200")
             started.kill()
             found += [f"growth {at}: {it}" for it in wrong_part(started.before, started.database, UNTIL)]
             found += difference(f"growth {at}: what went", sum(gone(started.before, tables.rows_in(started.database))), went)
             started.start()
-            found += difference(f"growth {at}: the rest", started.wait(count - went)[SWEPT], f"{count - went}")
+            found += difference(f"growth {at}: the rest", started.wait(count - went)[PURGED], f"{count - went}")
         found += difference("rows", started.rows() == after, True)
-    print(f"growths refused while it went; whether all went, faults, a copy: {dict(ends)}")
+    print(f"allocations refused while it went; whether all went, faults, a copy: {dict(ends)}")
     return found
 
 
-def without_copy():
+def without_mirror():
     """Over tables that SQLite rewrote there is no mirror, and nothing is purged: that is counted, and calls get
     responses."""
-    with Keeping(far(many(64, 4))) as started:
+    with Retaining(far(many(64, 4))) as started:
         started.wait(due(started)[0])
         started.rows()
         before = made_of(started.folder / "other.db", far(many(64, 4)))
@@ -402,7 +402,7 @@ def without_copy():
             database.execute("VACUUM")
         started.start()
         counted = until_counted(started, FAULTS, "1")
-        found = difference("counted", [counted[it] for it in (SWEPT, FAULTS, "dss_mirror_up")], ["0", "1", "0"])
+        found = difference("counted", [counted[it] for it in (PURGED, FAULTS, "dss_mirror_up")], ["0", "1", "0"])
         reading = wire.request("GET", f"{wire.INTENTS}/{ID(1)}", "Bearer tok-a")
         found += difference("a reading", started.ask([reading])[0][:12], b"HTTP/1.1 200")
         return found + difference("rows", started.rows() == before, True)
@@ -414,10 +414,10 @@ CASES = {
     "keep-once-a-minute": once_a_minute,
     "keep-beside-one-that-keeps-all": pairs,
     "keep-gives-room-again": room_again,
-    "keep-is-told-nowhere": told_nowhere,
+    "keep-is-told-nowhere": reported_nowhere,
     "keep-and-kills": killed,
     "keep-on-a-full-disk": full_disk,
     "keep-while-no-write-is-taken": refused_writes,
     "keep-without-memory": without_memory,
-    "keep-without-a-copy": without_copy,
+    "keep-without-a-copy": without_mirror,
 }

@@ -516,7 +516,7 @@ def scopes():
 
 # The most that 2,048 cells cover within 16,384: a cell covers a power of 4, so that their sum is 2 modulo 3.
 LEVELS = {11: 700, 12: 1278, 13: 70}
-MOST_BODY = 1_048_576
+MAX_BODY = 1_048_576
 
 
 def tokens_at(level, count):
@@ -536,7 +536,7 @@ def all_limits():
 
     def put_limits(key, over=None):
         members = {"extents": volumes, "key": key, "state": "Accepted", "uss_base_url": url}
-        return ask("PUT", target(INTENTS, "a1", over), "tok-a", wire.compact(members).ljust(MOST_BODY))
+        return ask("PUT", target(INTENTS, "a1", over), "tok-a", wire.compact(members).ljust(MAX_BODY))
 
     def told(manager="uss-a", serial=None, version=1):
         return seen("a1", manager, serial, version=version, times=(0, 253_402_300_799), url=url)

@@ -36,7 +36,7 @@ class Asked:
         for number in range(1, count + 1):
             call = self.drawn.call()
             requests.append(wire.request(*call))
-            wanted.append(self.airspace.ask(*call).text(closes=number == wire.MOST_REQUESTS))
+            wanted.append(self.airspace.ask(*call).text(closes=number == wire.MAX_REQUESTS))
         why = first_difference(wanted, service.ask(requests))
         return [why] if why else []
 
@@ -46,7 +46,7 @@ def without_a_restart():
     asked, found = Asked(SEED), []
     with Service(drawn_calls.ALL_TOKENS) as service:
         for at in range(CONNECTIONS):
-            found += [f"connection {at}: {it}" for it in asked.differs(service, wire.MOST_REQUESTS)]
+            found += [f"connection {at}: {it}" for it in asked.differs(service, wire.MAX_REQUESTS)]
         service.kill()
         return found + tables.wrong_in(service.folder / "dss.db")
 
@@ -62,7 +62,7 @@ def with_restarts():
                 found += [] if (status, errors) == (0, service.listening) else [f"start {at}: {status}, {errors!r}"]
             service.kill()
             # The next one exits by itself, and the one after it does not.
-            service.count = 1 if service.count > 1 else wire.MOST_REQUESTS
+            service.count = 1 if service.count > 1 else wire.MAX_REQUESTS
             service.start()
         service.kill()
         return found + tables.wrong_in(service.folder / "dss.db")

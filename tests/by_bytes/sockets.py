@@ -19,7 +19,7 @@ ANSWER, LAST = wire.answer(200, READING), wire.answer(200, READING, closes=True)
 SOCKET = b"dss: socket\n"
 CLOCK = b"dss: stream: fault 3 Clock\n"
 TOO_LONG = b"dss: self: request too long\n"
-MOST_BYTES = 16_384
+MAX_BYTES = 16_384
 
 
 def difference(name, got, wanted):
@@ -142,7 +142,7 @@ def through_itself():
         step = example["steps"][0]
         asked = [BUILT, "self", "--tokens", "examples/tokens.toml", "--now", str(example["now"]), "-"]
         request, answer = step["request"].encode("latin-1"), step["answer"].encode("latin-1")
-        wanted = (0, answer, b"") if len(request) <= MOST_BYTES else (1, b"", TOO_LONG)
+        wanted = (0, answer, b"") if len(request) <= MAX_BYTES else (1, b"", TOO_LONG)
         found += difference(example["name"], run(asked, request), wanted)
     return found
 
@@ -151,13 +151,13 @@ def through_itself_within_limits():
     """`self` takes at most 16,384 bytes, and returns at most as many."""
     asked = [BUILT, "self", "--tokens", "examples/tokens.toml", "--now", "1000"]
     short = wire.request("GET", f"{wire.AVAILABILITY}/uss-b", "Bearer tok-a", b"", ["Connection: close"])
-    room = MOST_BYTES - len(short) - len("16000") + 1
+    room = MAX_BYTES - len(short) - len("16000") + 1
     greatest = wire.request("GET", f"{wire.AVAILABILITY}/uss-b", "Bearer tok-a", b" " * room, ["Connection: close"])
-    found = [] if len(greatest) == MOST_BYTES else [f"the request has {len(greatest)} bytes"]
+    found = [] if len(greatest) == MAX_BYTES else [f"the request has {len(greatest)} bytes"]
     name = "u" * 64
     reading = wire.compact({"status": {"availability": "Unknown", "uss": name}, "version": ""})
     many = wire.request("GET", f"{wire.AVAILABILITY}/{name}", "Bearer tok-a")
-    fits = MOST_BYTES // len(wire.answer(200, reading))
+    fits = MAX_BYTES // len(wire.answer(200, reading))
     with tempfile.TemporaryDirectory() as room:
         file = pathlib.Path(room, "requests")
         for name, sent, wanted in (

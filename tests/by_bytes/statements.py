@@ -23,7 +23,7 @@ NARROWED = re.compile(rf"\bfrom\s+{BY_INDEX}", re.IGNORECASE)
 WIDENED = re.compile(rf"\bor\b|\bunion\b|\bjoin\b|,\s*{CELLS}", re.IGNORECASE)
 # The fewest statements on each table of cells: by both kinds of positions, and by what it belongs to, to read and to
 # remove.
-LEAST = 4
+MIN = 4
 
 
 def literals(source):
@@ -73,7 +73,7 @@ def on_cells():
             seen[table] += sum(re.search(rf"(?<!_){table}\b", it) is not None for it in asked)
         if any(f"/{it}/" in name for it in NARROW) and READS_ALL.search(source):
             found.append(f"{name} reads whole tables")
-    found += [f"{count} statements on {table} were seen" for table, count in seen.items() if count < LEAST]
+    found += [f"{count} statements on {table} were seen" for table, count in seen.items() if count < MIN]
     for text, is_wrong in PLANTED.items():
         planted = f"fn planted() {{\n    query(\n        tx,\n        {text},\n    )\n}}\n"
         found += [f"{text}: planted, and {'not ' * is_wrong}found"] if bool(unnarrowed(planted)) != is_wrong else []

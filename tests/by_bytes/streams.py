@@ -11,7 +11,7 @@ import drawn_calls
 import meanings
 import seeds
 import wire
-import words
+import arguments
 from plain_policy import AVAILABILITIES, RULES, STATES
 from program import BUILT, TOP, first_difference, run, serve
 from scenes import NOW
@@ -20,11 +20,11 @@ CLOSE = b"Connection: close\r\n"
 SEEDS, NEW_SEEDS = range(1, 121), 10
 MANGLED_SEEDS = range(201, 291)
 # How often drawn calls, and mangled ones, break each rule. Each operation succeeds as often, too.
-LEAST, LEAST_MANGLED = 49, 10
+MIN, MIN_MANGLED = 49, 10
 # How often a put meets an intent of each state with each availability of its manager.
-LEAST_MET = 20
+MIN_MET = 20
 # How often subscriptions are notified of changes, and how often for each cause.
-LEAST_NOTIFIED, LEAST_OF_A_CAUSE = 500, 50
+MIN_NOTIFIED, MIN_PER_CAUSE = 500, 50
 CAUSES = ("old alone", "new alone", "both", "the caller's own", "another's", "two addresses")
 
 
@@ -63,24 +63,24 @@ def drawn():
     """Streams of drawn calls get the plain policy's responses, and each rule and each operation occurs. Calls meet
     intents of each state, of managers of each availability, and subscriptions are notified for each cause."""
     met, notified = collections.Counter(), collections.Counter()
-    found = answered_as_drawn("drawn calls", [*SEEDS, *seeds.new("drawn-calls", NEW_SEEDS)], LEAST, met=met, notified=notified)
-    rare = [it for it in itertools.product(STATES, AVAILABILITIES) if met[it] < LEAST_MET]
-    rare += [it for it in CAUSES if notified[it] < LEAST_OF_A_CAUSE]
+    found = answered_as_drawn("drawn calls", [*SEEDS, *seeds.new("drawn-calls", NEW_SEEDS)], MIN, met=met, notified=notified)
+    rare = [it for it in itertools.product(STATES, AVAILABILITIES) if met[it] < MIN_MET]
+    rare += [it for it in CAUSES if notified[it] < MIN_PER_CAUSE]
     told = notified["the caller's own"] + notified["another's"]
     print(f"subscriptions told of changes: {told}, of which are " + ", ".join(f"{it} {notified[it]}" for it in CAUSES))
-    found += [f"{told} subscriptions told of changes"] if told < LEAST_NOTIFIED else []
+    found += [f"{told} subscriptions told of changes"] if told < MIN_NOTIFIED else []
     return found + ([f"too few of {rare}"] if rare else [])
 
 
 def mangled():
     """The same for drawn calls in which letters of bodies and targets are replaced."""
-    return answered_as_drawn("mangled calls", [*MANGLED_SEEDS, *seeds.new("mangled-calls", NEW_SEEDS)], LEAST_MANGLED, is_mangled=True)
+    return answered_as_drawn("mangled calls", [*MANGLED_SEEDS, *seeds.new("mangled-calls", NEW_SEEDS)], MIN_MANGLED, is_mangled=True)
 
 
 def differs(name, calls, outcomes):
     """Returns how the responses to drawn calls differ from these outcomes."""
     requests = [wire.request(*it) for it in calls]
-    wanted = [it.text(closes=at == wire.MOST_REQUESTS) for at, it in enumerate(outcomes, 1)]
+    wanted = [it.text(closes=at == wire.MAX_REQUESTS) for at, it in enumerate(outcomes, 1)]
     return served(name, requests, wanted, drawn_calls.NOW, wire.token_file(drawn_calls.ALL_TOKENS))
 
 
@@ -116,7 +116,7 @@ def said():
 def token_files():
     """Each token file of the table is read, or its fault is reported."""
     found = []
-    for text, fault in words.TOKEN_FILES:
+    for text, fault in arguments.TOKEN_FILES:
         got = serve(b"", NOW, text)
         wanted = (1, b"", f"dss: tokens: fault {fault}\n".encode()) if fault else (0, b"", b"")
         if got != wanted:
@@ -127,7 +127,7 @@ def token_files():
 def command_lines():
     """Each command line of the table exits with its status. A rejected one prints something; the text is not fixed."""
     found = []
-    for line, status, part in words.COMMAND_LINES:
+    for line, status, part in arguments.COMMAND_LINES:
         got, output, error = run(["dss", *line], program=BUILT)
         says = (error if status else output).decode()
         silent = output if status else error
@@ -139,7 +139,7 @@ def command_lines():
 def cells():
     """Each token of the table is printed as a cell, or its fault is reported."""
     found = []
-    for token, status, text in words.CELLS:
+    for token, status, text in arguments.CELLS:
         wanted = (status, b"" if status else text.encode(), text.encode() if status else b"")
         got = run([BUILT, "cell", token])
         if got != wanted:

@@ -60,10 +60,10 @@ def files():
     words, printed = ["tokens.toml"], b""
     for number in range(1, STREAMS + CREATIONS + 1):
         calls = []
-        for at in range(1, wire.MOST_REQUESTS + 1):
+        for at in range(1, wire.MAX_REQUESTS + 1):
             call = drawn.call() if number <= STREAMS else creation(draw, drawn, 1_000 * number + at)
             calls.append(wire.request(*call))
-            printed += airspace.ask(*call).text(closes=at == wire.MOST_REQUESTS)
+            printed += airspace.ask(*call).text(closes=at == wire.MAX_REQUESTS)
         words.append(f"{number}.http")
         found[f"data/{number}.http"] = b"".join(calls)
     for token in CELLS:

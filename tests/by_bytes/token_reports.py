@@ -4,7 +4,7 @@ import re
 import tempfile
 
 from program import BUILT, TOP, run
-from words import TOKEN_FILES
+from arguments import TOKEN_FILES
 
 SALT = "f0" * 32
 SCOPES = (
@@ -156,8 +156,8 @@ def agreement():
         wanted = (1, f"dss: tokens: fault {fault}\n") if fault else (0, "")
         if (status, error) != wanted:
             found += [f"{text!r}: wanted {wanted!r}, got {(status, error)!r}"]
-        mistakes = [it for it in lines if "warning: " not in it and not it.startswith("FILE: ")]
-        if bool(mistakes) != bool(fault) or any(it.startswith("FILE: ") for it in lines) == bool(fault):
+        errors = [it for it in lines if "warning: " not in it and not it.startswith("FILE: ")]
+        if bool(errors) != bool(fault) or any(it.startswith("FILE: ") for it in lines) == bool(fault):
             found += [f"{text!r}: {fault}, and the lines are {lines!r}"]
     return found
 

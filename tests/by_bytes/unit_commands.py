@@ -8,7 +8,7 @@ import subprocess
 import threading
 import time
 
-from operators import STOP, Operated
+from admin_port import STOP, AdminService
 from program import BUILT, TOP, run
 from sockets import ASKED, CLOSING, LAST, difference
 
@@ -23,7 +23,7 @@ def command(unit, name, service):
     return ["bash", "-c", text]
 
 
-class Kept(Operated):
+class UnitService(AdminService):
     """The service with an access log and a backup directory, as in the unit."""
 
     def command(self):
@@ -36,7 +36,7 @@ class Kept(Operated):
 
 def stops():
     """The unit's ExecStop stops the service, and waits until it has exited."""
-    with Operated() as started:
+    with AdminService() as started:
         found = difference("an answer", started.exchange(CLOSING, ends=False), LAST)
         # Reaps the process once it has exited, as systemd does.
         threading.Thread(target=started.program.wait, daemon=True).start()
@@ -48,7 +48,7 @@ def stops():
 def copies():
     """The backup unit makes a backup of the day, which opens. A second run says that it exists."""
     day = datetime.datetime.now(datetime.timezone.utc).strftime("%Y-%m-%d")
-    with Kept() as started:
+    with UnitService() as started:
         started.exchange(CLOSING, ends=False)
         asked = command("dss-backup.service", "ExecStart", started)
         status, output, error = run(asked)
@@ -69,7 +69,7 @@ def rotates():
     if not program:
         print("logrotate is not here")
         return []
-    with Kept() as started:
+    with UnitService() as started:
         text = (DEPLOY / "logrotate").read_text().replace("/var/log/dss/", f"{started.folder}/")
         owner = f"{started.folder.owner()} {started.folder.group()}"
         settings = started.folder / "logrotate"

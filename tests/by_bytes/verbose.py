@@ -16,7 +16,7 @@ from serving import Service
 from sockets import difference
 from token_reports import FILES, IS_EXAMPLE, is_short
 
-TAKEN = "dss: socket\n"
+IN_USE = "dss: socket\n"
 
 
 def system(number):
@@ -28,12 +28,12 @@ def cause(of, words):
     return f"dss: cause: {of}: {words}\n"
 
 
-def limits(connections="any number of connections", clients=1000, most_kept=None):
-    bound = "" if most_kept is None else f", at most {most_kept} kept of each supplier"
+def limits(connections="any number of connections", clients=1000, quota=None):
+    bound = "" if quota is None else f", at most {quota} kept of each supplier"
     return f"dss: limits: {clients} clients at once, {connections}{bound}\n"
 
 
-class Taken:
+class PortInUse:
     """A port in use, so that `serve` exits when it is about to listen."""
 
     def __enter__(self):
@@ -48,7 +48,7 @@ class Taken:
 
     def told(self):
         """Returns the lines about that port, with the option."""
-        return cause(f"127.0.0.1:{self.there.getsockname()[1]}", system(errno.EADDRINUSE)) + TAKEN
+        return cause(f"127.0.0.1:{self.there.getsockname()[1]}", system(errno.EADDRINUSE)) + IN_USE
 
     def serve(self, text, *options):
         """Returns the status, the output and the lines of standard error of `serve` with this text of a token file."""
@@ -63,10 +63,10 @@ def token_files():
     """Each token file gives the lines of its check, except the line that reports no error. Without the option only the
     fault is printed."""
     found = []
-    with Taken() as it:
+    with PortInUse() as it:
         for text, lines, fault in FILES:
             told = "".join(f"{line}\n" for line in lines if not line.startswith("FILE: "))
-            last = f"dss: tokens: fault {fault}\n" if fault else TAKEN
+            last = f"dss: tokens: fault {fault}\n" if fault else IN_USE
             found += difference(f"{text!r}", it.serve(text), (1, b"", last))
             wanted = told + (last if fault else limits() + it.told())
             found += difference(f"{text!r}, --verbose", it.serve(text, "--verbose"), (1, b"", wanted))
@@ -79,10 +79,10 @@ def limits_of_options():
     ways = (
         (["--max-connections", "7"], limits(clients=7)),
         (["--count", "20"], limits("20 connections")),
-        (["--quota", "1000"], limits(most_kept=1000)),
+        (["--quota", "1000"], limits(quota=1000)),
         (["--count", "1000000", "--max-connections", "1", "--quota", "4294967295"], limits("1000000 connections", 1, 4294967295)),
     )
-    with Taken() as it:
+    with PortInUse() as it:
         return [
             found for options, line in ways
             for found in difference(f"{options}", it.serve(text, "--verbose", *options), (1, b"", line + it.told()))

@@ -13,7 +13,7 @@ import wire
 from devices import library
 from program import BUILT, CASES, TOP, content, first_difference, run
 
-MOST_GROWTHS = 20_000
+MAX_ALLOCATIONS = 20_000
 FAULT = (500, '{"message":"fault"}')
 STOPPED = (503, '{"message":"stopped"}')
 STORE = b"dss: db: fault 3 Store\n"
@@ -27,12 +27,12 @@ def each_environment(step=1):
     such an allocation: its number, the environment, and a file that exists once it was refused."""
     with tempfile.TemporaryDirectory() as room:
         device, mark = library("refuse_memory", room), pathlib.Path(room, "refused")
-        for at in range(1, MOST_GROWTHS * step, step):
+        for at in range(1, MAX_ALLOCATIONS * step, step):
             mark.unlink(missing_ok=True)
             yield at, {"LD_PRELOAD": device, "REFUSE_AT": str(at), "REFUSED": str(mark)}, mark
             if not mark.exists():
                 return
-    raise ValueError(f"over {MOST_GROWTHS} growths of memory")
+    raise ValueError(f"over {MAX_ALLOCATIONS} allocations of memory")
 
 
 def each_refused(command, given=b"", step=1, before=lambda: None):
@@ -55,8 +55,8 @@ def case(name):
     allowed += [(0, wire.answer(*FAULT, closes=True), b"")] if given else []
     for at, got, is_refused in each_refused([BUILT, *words], given):
         if not is_refused:
-            print(f"{name}: {at - 1} growths of memory refused in turn")
-            return [] if at > 10 and got == allowed[0] else [f"with {at - 1} growths: {got!r}"]
+            print(f"{name}: {at - 1} allocations of memory refused in turn")
+            return [] if at > 10 and got == allowed[0] else [f"with {at - 1} allocations: {got!r}"]
         if got not in allowed:
             return [f"growth {at} refused: {got!r}"]
 
@@ -190,7 +190,7 @@ def stream_of(name, calls):
         else:
             return [f"growth {at}, refused: {is_refused}: {got!r}"]
     each = [faults[it] for it in range(len(calls))]
-    print(f"{name}: {at - 1} growths of memory refused in turn: faults {each}, ends of the stream after so "
+    print(f"{name}: {at - 1} allocations of memory refused in turn: faults {each}, ends of the stream after so "
           f"many answers {[ends[it] for it in range(len(calls))]}, without a trace {others}")
     return [] if all(each) else ["not each of the calls was answered with a fault"]
 
@@ -238,7 +238,7 @@ def stream_over(name, calls, step):
             wrong = lost(database, calls, found, ended == "memory")
             if wrong:
                 return [f"growth {at}: {it}" for it in wrong]
-    print(f"{name} over a database: of {at} growths of memory one in {step} refused: {dict(ends)}")
+    print(f"{name} over a database: of {at} allocations of memory one in {step} refused: {dict(ends)}")
     return [] if ends["fault"] and ends["store"] else [f"{dict(ends)}"]
 
 
@@ -274,5 +274,5 @@ def move(step=STEP):
             kept = {it: rows[it] for it in before if it in rows} == wanted and not any(rows[it] for it in tables.LATER_TABLES)
             if not is_right or not kept or tables.wrong_in(database):
                 return [f"growth {at}: {got!r}, then {status}, {said!r}, {error!r}, {rows}"]
-    print(f"the move of a database: of {at} growths of memory one in {step} refused: {dict(ends)}")
+    print(f"the move of a database: of {at} allocations of memory one in {step} refused: {dict(ends)}")
     return [] if ends["store"] else [f"{dict(ends)}"]

@@ -95,7 +95,7 @@ def is_change(call):
     return call[0] in ("PUT", "DELETE")
 
 
-class Judged:
+class Checked:
     """The responses to the calls of a batch, and the results of later reads of the same things.
 
     `wrong` is set if no order of the changes that were made explains them by the policy. Otherwise it has the
@@ -111,11 +111,11 @@ class Judged:
         self.done = [at for at, it in enumerate(calls) if is_change(it) and found[at] != before_it[at]]
         for at, it in enumerate(calls):
             if is_change(it):
-                self.judge_told(at)
+                self.check_told(at)
         if not self.wrong:
             self.run(self.in_order())
 
-    def judge_told(self, at):
+    def check_told(self, at):
         """Checks that the response to a change is true: the change is done, or not made if the response is a fault."""
         answer = self.told[at]
         is_done = at in self.done
@@ -181,7 +181,7 @@ class AtOnce(Service):
         self.page.set()
         self.environment = {**os.environ, **self.page.environment(self.device), **(more or {})}
         self.start()
-        self.kept = [[self.connect(), wire.MOST_REQUESTS, b""] for _ in self.changers]
+        self.kept = [[self.connect(), wire.MAX_REQUESTS, b""] for _ in self.changers]
         # Once each has a response, the service knows them all.
         self.each_asks([("GET", f"{wire.AVAILABILITY}/uss-w", "Bearer tok-w", None)] * len(self.changers))
         self.told()
@@ -218,7 +218,7 @@ class AtOnce(Service):
         old = [it for it in self.kept if it[1] < 2]
         for it in old:
             it[0].close()
-            it[:] = [self.connect(), wire.MOST_REQUESTS - 1, b""]
+            it[:] = [self.connect(), wire.MAX_REQUESTS - 1, b""]
             it[0].sendall(wire.request("GET", f"{wire.AVAILABILITY}/uss-w", "Bearer tok-w"))
         for it in old:
             self.told_to(it, PATIENCE)
@@ -230,12 +230,12 @@ class AtOnce(Service):
         while not (answers := wire.answers_of(it[2])):
             it[0].settimeout(max(until - time.monotonic(), 0.001))
             try:
-                piece = it[0].recv(1 << 16)
+                chunk = it[0].recv(1 << 16)
             except (TimeoutError, socket.timeout, ConnectionResetError):
                 return None
-            if not piece:
+            if not chunk:
                 return None
-            it[2] += piece
+            it[2] += chunk
         it[2] = it[2][len(answers[0]) :]
         return answers[0]
 
@@ -246,7 +246,7 @@ class AtOnce(Service):
     def found(self, calls):
         """Returns the results of reads of what these calls change or read, over separate connections."""
         asked = [wire.request(*looked_at(it)) for it in calls]
-        return [it for at in range(0, len(asked), wire.MOST_REQUESTS - 1) for it in self.ask(asked[at : at + wire.MOST_REQUESTS - 1])]
+        return [it for at in range(0, len(asked), wire.MAX_REQUESTS - 1) for it in self.ask(asked[at : at + wire.MAX_REQUESTS - 1])]
 
     def changes(self, airspace, turn):
         """Returns a change of each client."""
@@ -265,8 +265,8 @@ class AtOnce(Service):
         for turn in range(turns):
             calls = self.changes(airspace, turn)
             self.send_at_once(calls)
-            judged = Judged(airspace, calls, self.told(), self.found(calls))
-            if judged.wrong or judged.made != len(calls):
-                raise ValueError(f"turn {turn}: {judged.made} changes, {judged.wrong}")
-            airspace = judged.after
+            checked = Checked(airspace, calls, self.told(), self.found(calls))
+            if checked.wrong or checked.made != len(calls):
+                raise ValueError(f"turn {turn}: {checked.made} changes, {checked.wrong}")
+            airspace = checked.after
         return airspace

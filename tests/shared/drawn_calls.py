@@ -287,9 +287,9 @@ class Drawn:
 
 
 # Bytes that can occur anywhere in a mangled body or target.
-PIECES = [b'"', b"\\", b"{", b"}", b"[", b"]", b",", b":", b"0", b"-", b".", b"e", b"+", b"00", b" ", b"\t", b"\n"]
-PIECES += [b"\\u0041", b"\\ud800", b"\\u0000", b"\\/", b"9" * 25, b"null", b"true", b"NaN", b"u", "é".encode()]
-PIECES += ["\ufeff".encode(), b"\x00", b"\x7f", b"\x80", b"\xff"]
+FRAGMENTS = [b'"', b"\\", b"{", b"}", b"[", b"]", b",", b":", b"0", b"-", b".", b"e", b"+", b"00", b" ", b"\t", b"\n"]
+FRAGMENTS += [b"\\u0041", b"\\ud800", b"\\u0000", b"\\/", b"9" * 25, b"null", b"true", b"NaN", b"u", "é".encode()]
+FRAGMENTS += ["\ufeff".encode(), b"\x00", b"\x7f", b"\x80", b"\xff"]
 MARKS = "/?#%aA0.-_~\"{}+|^`'"
 
 
@@ -301,14 +301,14 @@ def mangled(draw, call):
         at = draw.below(len(body) + 1)
         beyond = at + draw.of((0, 0, 1, 1, 2, 5))
         copy = draw.below(len(body) + 1)
-        body[at:beyond] = draw.of((b"", draw.of(PIECES), draw.of(PIECES), body[copy : copy + draw.below(12)]))
+        body[at:beyond] = draw.of((b"", draw.of(FRAGMENTS), draw.of(FRAGMENTS), body[copy : copy + draw.below(12)]))
     if draw.one_in(8):
         at = draw.below(len(target) + 1)
         target = target[:at] + draw.of(MARKS) + target[at + draw.below(2) :]
     return method, target, authorization, bytes(body) if call[3] is not None else None
 
 
-def calls_of(seed, count=wire.MOST_REQUESTS, is_mangled=False, met=None, notified=None):
+def calls_of(seed, count=wire.MAX_REQUESTS, is_mangled=False, met=None, notified=None):
     """Returns the calls of a stream, and the outcomes that the plain policy gives them. Counts in `met` the intents
     that puts meet, and in `notified` the subscriptions that changes notify."""
     draw = Draw(seed)
@@ -326,7 +326,7 @@ def calls_of(seed, count=wire.MOST_REQUESTS, is_mangled=False, met=None, notifie
     return calls, outcomes
 
 
-def stream(seed, count=wire.MOST_REQUESTS, is_mangled=False, met=None, notified=None):
+def stream(seed, count=wire.MAX_REQUESTS, is_mangled=False, met=None, notified=None):
     """Returns the requests of a stream, and the outcomes that the plain policy gives them, as `calls_of` does."""
     calls, outcomes = calls_of(seed, count, is_mangled, met, notified)
     return [wire.request(*it) for it in calls], outcomes

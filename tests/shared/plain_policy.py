@@ -23,7 +23,7 @@ NO_SUBSCRIPTION = "00000000-0000-4000-8000-000000000000"
 
 ALTITUDES = (-100_000, 1_000_000)
 TIMES = (0, 253_402_300_799)
-MOST_COVERED = 16_384
+MAX_COVERED = 16_384
 
 RULES = {
     1: (404, "ROUTE"),
@@ -412,7 +412,7 @@ def breaks_form(_airspace, call):
 
 # P6 AREA
 def breaks_area(_airspace, call):
-    return sum(it.covered() for it in call.asked.extents()) > MOST_COVERED
+    return sum(it.covered() for it in call.asked.extents()) > MAX_COVERED
 
 
 # P7 FOUND
@@ -558,7 +558,7 @@ class Airspace:
     def setting(self, uss):
         return self.settings.get(uss, ("Unknown", ""))
 
-    def sweep(self, until):
+    def purge(self, until):
         """Purges what has ended by a time: intents and constraints, and subscriptions that no remaining intent
         references. Returns the number of each that was purged."""
         entities = {key: it for key, it in self.entities.items() if not has_ended(it, until)}
@@ -688,7 +688,7 @@ class Airspace:
             "version": self.ovn(kept),
         }
 
-    def keep_subscription(self, call, manager, index):
+    def store_subscription(self, call, manager, index):
         put = call.asked.put
         kept = Subscription(call.asked.id, manager, self.next(), index, put)
         self.subscriptions[kept.id] = kept
@@ -699,11 +699,11 @@ class Airspace:
         return 200, value
 
     def create_subscription(self, call):
-        return self.keep_subscription(call, call.uss, 0)
+        return self.store_subscription(call, call.uss, 0)
 
     def update_subscription(self, call):
         old = self.found(call)
-        return self.keep_subscription(call, old.manager, old.index)
+        return self.store_subscription(call, old.manager, old.index)
 
     def delete_subscription(self, call):
         seen = self.sub_view(self.found(call))

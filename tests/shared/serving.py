@@ -11,11 +11,11 @@ from ports import free_port
 from program import BUILT, SECONDS
 
 
-def words(folder, port, count, clients=None, most_kept=None):
+def words(folder, port, count, clients=None, quota=None):
     """Returns the command line of the service over a directory with its token file and its database, for that many
     connections, and with a quota."""
     at_once = [] if clients is None else ["--max-connections", f"{clients}"]
-    bound = [] if most_kept is None else ["--quota", f"{most_kept}"]
+    bound = [] if quota is None else ["--quota", f"{quota}"]
     files = ["--tokens", f"{folder}/tokens.toml", "--db", f"{folder}/dss.db"]
     return [BUILT, "serve", *files, "--port", f"{port}", "--count", f"{count}", *at_once, *bound]
 
@@ -24,8 +24,8 @@ def until_closed(connection):
     """Returns the bytes that arrive until the other side closes."""
     came = b""
     try:
-        while piece := connection.recv(1 << 16):
-            came += piece
+        while chunk := connection.recv(1 << 16):
+            came += chunk
     except ConnectionResetError:
         pass
     return came
@@ -37,10 +37,10 @@ class Service:
     # The seconds in which it must listen, its address, further options, and the lines before it listens.
     patience, address, options, preface = SECONDS, "127.0.0.1", (), b""
 
-    def __init__(self, tokens=None, count=1_000_000, disk=None, more=None, clients=None, most_kept=None):
+    def __init__(self, tokens=None, count=1_000_000, disk=None, more=None, clients=None, quota=None):
         self.room = tempfile.TemporaryDirectory(dir=disk)
         self.folder, self.count, self.clients = pathlib.Path(self.room.name), count, clients
-        self.most_kept = most_kept
+        self.quota = quota
         self.environment = {**os.environ, **(more or {})}
         (self.folder / "tokens.toml").write_text(wire.token_file(tokens))
 
@@ -54,7 +54,7 @@ class Service:
 
     def command(self):
         """Returns the command line of the program."""
-        return [*words(self.folder, self.port, self.count, self.clients, self.most_kept), *self.options]
+        return [*words(self.folder, self.port, self.count, self.clients, self.quota), *self.options]
 
     def start(self):
         """Starts the program, and waits until it listens."""

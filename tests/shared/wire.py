@@ -43,7 +43,7 @@ REASONS = {
 }
 
 # A connection closes after this many requests.
-MOST_REQUESTS = 100
+MAX_REQUESTS = 100
 
 
 def token_file(tokens=None, salt=SALT):

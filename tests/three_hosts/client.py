@@ -23,7 +23,7 @@ AHEAD = 4_000_000_000
 MARKED = f"{wire.AVAILABILITY}/uss-n"
 READ = ("GET", MARKED, "Bearer tok-v", None)
 # Each change of unknown outcome doubles the possible airspaces. These are the most.
-MOST_CANDIDATES = 64
+MAX_CANDIDATES = 64
 PAUSE = 0.1
 
 
@@ -132,7 +132,7 @@ class Client:
         self.keep(before + made)
 
     def keep(self, candidates):
-        if len(candidates) > MOST_CANDIDATES:
+        if len(candidates) > MAX_CANDIDATES:
             raise Failed("too many calls of unknown outcome")
         self.candidates = candidates
 

@@ -64,7 +64,7 @@ class Asking:
 
 def counted_together():
     """Intents and subscriptions count together. Another USS has its own quota."""
-    with Service(most_kept=2) as service:
+    with Service(quota=2) as service:
         it = Asking(service)
         it.put("the first", 201, 1)
         it.subscribe("the second", 200, 2)
@@ -80,7 +80,7 @@ def counted_together():
 
 def counted_cells():
     """Each entity includes 64 cells. The cells of all volumes count. An update that does not grow passes."""
-    with Service(most_kept=1) as service:
+    with Service(quota=1) as service:
         it = Asking(service)
         it.put("a cell too many", FAULT, 1, count=EACH + 1)
         it.put("too many in all", FAULT, 1, count=EACH // 2 + 1, volumes=2)
@@ -99,7 +99,7 @@ def counted_at_start():
         for number in (1, 2, 3):
             it.put(f"without a bound {number}", 201, number, count=2 * EACH)
         service.kill()
-        service.most_kept = 2
+        service.quota = 2
         service.start()
         it.put("one more than are there", FAULT, 4)
         it.put("an update with as many cells", 200, 1, count=2 * EACH, ovn=1)

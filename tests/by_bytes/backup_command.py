@@ -45,7 +45,7 @@ class Copied(Room):
         done = subprocess.run(words, capture_output=True, preexec_fn=bound, restore_signals=False, timeout=60)
         return done.returncode, done.stderr
 
-    def wrong_in_copy(self, copy=None):
+    def wrong_in_backup(self, copy=None):
         """Returns how a backup differs from the database."""
         copy = copy or self.copy
         found = tables.wrong_in(copy)
@@ -70,16 +70,16 @@ def whole():
         room.database.chmod(0o640)
         found = told("a copy", room.backup(), DONE) + told("its bytes", room.copy.read_bytes(), room.database.read_bytes())
         found += told("its access", room.copy.stat().st_mode & 0o777, 0o640)
-        found += room.wrong_in_copy()
+        found += room.wrong_in_backup()
         # Reading the database has left a log beside it.
         for end in "", "-wal":
             pathlib.Path(f"{room.copy}{end}").unlink(missing_ok=True)
         room.begun.write_bytes(b"x" * 100_000)
-        found += told("after one that was broken off", room.backup(), DONE) + room.wrong_in_copy()
+        found += told("after one that was broken off", room.backup(), DONE) + room.wrong_in_backup()
         words = [BUILT, "backup", "--db", "dss.db", "again.db"]
         found += told("in its folder", run(words, folder=room.folder.name), DONE)
         again = pathlib.Path(room.folder.name, "again.db")
-        return found + room.wrong_in_copy(again) + [f"{room.begun} is there"] * room.begun.exists()
+        return found + room.wrong_in_backup(again) + [f"{room.begun} is there"] * room.begun.exists()
 
 
 def with_log():
@@ -93,7 +93,7 @@ def with_log():
             file, log = (room.database.with_name(it).read_bytes() for it in ("dss.db", "dss.db-wal"))
         room.database.write_bytes(file)
         room.database.with_name("dss.db-wal").write_bytes(log)
-        found = told("a copy", room.backup(), DONE) + room.wrong_in_copy()
+        found = told("a copy", room.backup(), DONE) + room.wrong_in_backup()
         found += told("the state", tables.rows_in(room.copy)["availability"][0][1], 1)
         return found + ([] if log else ["the log was empty"])
 
@@ -133,7 +133,7 @@ def broken_off():
         found += told("killed", room.bounded(dies=True), (-signal.SIGXFSZ, b""))
         found += [f"{room.copy} is there"] if room.copy.exists() else []
         found += [] if room.begun.exists() else ["it was killed before it wrote"]
-        return found + told("after it", room.backup(), DONE) + room.wrong_in_copy()
+        return found + told("after it", room.backup(), DONE) + room.wrong_in_backup()
 
 
 def each_call():
@@ -148,7 +148,7 @@ def each_call():
             ends.add(error)
             found += told(f"call {at}, its output", output, b"")
             found += told(f"call {at}, its status", status, 1 if error else 0)
-            found += [f"call {at}: {it}" for it in (room.nothing_left() if error else room.wrong_in_copy())]
+            found += [f"call {at}: {it}" for it in (room.nothing_left() if error else room.wrong_in_backup())]
     wanted = {STORE, WRITE, NOT_CLOSED, b"", READ, MEMORY}
     return found + ([f"the faults {ends}"] if not ends <= wanted or WRITE not in ends else [])
 

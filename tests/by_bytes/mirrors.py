@@ -66,7 +66,7 @@ def refused(name, calls):
         if not mark.exists() and ended != "done":
             return [f"{name}: {found}"]
         ends[ended] += mark.exists()
-    print(f"{name} over serve: of {at} growths of memory one in {STEP} refused: {dict(ends)}")
+    print(f"{name} over serve: of {at} allocations of memory one in {STEP} refused: {dict(ends)}")
     return [] if ends["done"] > 10 else [f"{name}: {dict(ends)}"]
 
 
@@ -86,7 +86,7 @@ def of_other_tables():
             connection.execute(statement)
             connection.close()
             service.start()
-            found += [f"after {statement}: {it}" for it in asked.differs(service, wire.MOST_REQUESTS)]
+            found += [f"after {statement}: {it}" for it in asked.differs(service, wire.MAX_REQUESTS)]
         service.kill()
         return found + tables.wrong_in(service.folder / "dss.db")
 

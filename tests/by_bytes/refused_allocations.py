@@ -33,9 +33,9 @@ class Scene:
             self.saved = pathlib.Path(room, "dss.db").read_bytes()
             self.rows = tables.rows_in(pathlib.Path(room, "dss.db"))
         with self.room() as room:
-            counted = pathlib.Path(room, "growths")
+            counted = pathlib.Path(room, "allocations")
             self.again(room, {"GROWTHS": str(counted)})
-            self.growths = int(counted.read_text())
+            self.allocations = int(counted.read_text())
 
     def room(self):
         return tempfile.TemporaryDirectory(dir=self.folder)
@@ -83,7 +83,7 @@ class Scene:
         """Does the same for each allocation, from the last one back to the last one without which the database is not
         opened."""
         with concurrent.futures.ThreadPoolExecutor(os.cpu_count()) as pool:
-            for came, wrong in pool.map(lambda at: self.refused(at, row), range(self.growths, 0, -1)):
+            for came, wrong in pool.map(lambda at: self.refused(at, row), range(self.allocations, 0, -1)):
                 if came == "opening":
                     pool.shutdown(cancel_futures=True)
                     return
@@ -100,7 +100,7 @@ def each_of(name, before, calls, rows, never=()):
             for came, wrong in scene.each_refused(row):
                 ends[came] += 1
                 found += wrong
-            print(f"{name}: {row} in a row of {ends.total()} growths of memory refused: {dict(sorted(ends.items()))}")
+            print(f"{name}: {row} in a row of {ends.total()} allocations of memory refused: {dict(sorted(ends.items()))}")
             found += [f"{row} in a row: {ends[it]} times {it}" for it in never if ends[it]]
             found += [] if ends["fault"] or row > 1 else ["never a fault"]
     return found

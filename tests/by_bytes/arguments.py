@@ -51,7 +51,7 @@ TOKEN_FILES = (
 RUN = ["run", "--tokens", "examples/tokens.toml", "--now"]
 TOKENS_AND_DB = ["--tokens", "t", "--db", "d"]
 # The message of a purge until a time that is not past.
-SWEEP_IN_FUTURE = "dss: until: in the future"
+PURGE_IN_FUTURE = "dss: until: in the future"
 
 
 def serving(port, count):
@@ -124,7 +124,7 @@ COMMAND_LINES = (
         )
     ),
     # These arguments are accepted. Then the time is not past, which is reported before a missing directory.
-    *((["purge", "--db", "no/d", "--until", until, *now], 1, SWEEP_IN_FUTURE) for until, *now in (("253402300799",), ("1", "--now=0"))),
+    *((["purge", "--db", "no/d", "--until", until, *now], 1, PURGE_IN_FUTURE) for until, *now in (("253402300799",), ("1", "--now=0"))),
     *((["purge", "--db=no/d", f"--until={it}", f"--now={it}"], 1, "dss: db: fault 3 Store") for it in ("0", "253402300799")),
     (["backup"], 2, "--db <FILE>"),
     (["backup", "t"], 2, "--db <FILE>"),

@@ -17,7 +17,7 @@ AT_ONCE = 2
 READS, WRITES = b"dss: stream: fault 1 Read\n", b"dss: stream: fault 2 Write\n"
 PUT = wire.request("PUT", f"{wire.AVAILABILITY}/uss-b", "Bearer tok-v", b'{"old_version":"","availability":"Down"}')
 # Responses about these take more than the buffers of both sides hold.
-INTENTS_KEPT, FAR = 300, 4_000_000_000
+STORED_INTENTS, FAR = 300, 4_000_000_000
 
 
 def drip(connection):
@@ -50,9 +50,9 @@ def beside(name, sent, bound, answers=b"", faults=b"", slowly=False):
         return found + difference(f"{name}: the service", started.ended(), (0, b"", started.listening + faults))
 
 
-def kept_intents():
+def stored_intents():
     """Returns requests that create intents in one cell, of which no two meet."""
-    for at in range(INTENTS_KEPT):
+    for at in range(STORED_INTENTS):
         volume = {"cells": ["89c25904"], "altitude_lower": 0, "altitude_upper": 10}
         volume |= {"time_start": FAR + 100 * at, "time_end": FAR + 100 * at + 50}
         body = {"extents": [volume], "key": [], "state": "Accepted", "uss_base_url": "https://a.example"}
@@ -64,15 +64,15 @@ def taking_nothing():
     """A client that requests much and reads none of it is disconnected."""
     query = wire.request("POST", f"{wire.INTENTS}/query", "Bearer tok-a", b'{"area_of_interest":{"cells":["89c2591"]}}')
     with Service() as started:
-        puts = list(kept_intents())
+        puts = list(stored_intents())
         found = []
-        for at in range(0, INTENTS_KEPT, wire.MOST_REQUESTS):
-            statuses = {it[:12] for it in started.ask(puts[at : at + wire.MOST_REQUESTS])}
+        for at in range(0, STORED_INTENTS, wire.MAX_REQUESTS):
+            statuses = {it[:12] for it in started.ask(puts[at : at + wire.MAX_REQUESTS])}
             found += difference("creations", statuses, {b"HTTP/1.1 201"})
         with socket.socket() as held:
             held.setsockopt(socket.SOL_SOCKET, socket.SO_RCVBUF, 4096)
             held.connect(("127.0.0.1", started.port))
-            held.sendall(query * wire.MOST_REQUESTS)
+            held.sendall(query * wire.MAX_REQUESTS)
             found += difference("the one beside it", started.exchange(CLOSING, ends=False), LAST)
             errors, began = started.folder / "errors", time.monotonic()
             # The buffers are full after some seconds.

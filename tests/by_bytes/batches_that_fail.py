@@ -20,7 +20,7 @@ import lengths
 import plain_policy
 import tables
 import wire
-from at_once import CLIENTS, FAULTED, NOW, STOPS, TOKENS, AtOnce, Changer, Judged, is_change, looked_at, watched
+from at_once import CLIENTS, FAULTED, NOW, STOPS, TOKENS, AtOnce, Changer, Checked, is_change, looked_at, watched
 from crashes import KEPT, STOPPED
 from devices import SIZES, WRITES, library
 from program import SECONDS, first_difference
@@ -28,7 +28,7 @@ from serving import Service
 
 SEED = 81
 # The most stops of the machine, batches in which a call on files fails, and batches that begin with a full disk.
-MOST_STOPS, FAILURES, FULL = lengths.of(12, 30), 24, 8
+MAX_STOPS, FAILURES, FULL = lengths.of(12, 30), 24, 8
 ALL_AFTER = 1_000_000
 # The changes of a batch whose memory allocations are refused, and the step from one refused allocation to the next.
 FEW, STEP = 5, 61
@@ -36,11 +36,11 @@ FEW, STEP = 5, 61
 KILLS, CREATIONS = lengths.of(10, 20), 6
 
 
-def wrong_in(judged, name, told=()):
+def wrong_in(checked, name, told=()):
     """Returns what is wrong with a batch that must be stored as a whole or not at all."""
-    found = [f"{name}: {it}" for it in judged.wrong]
-    if not judged.wrong and not judged.is_whole():
-        found += [f"{name}: {judged.made} of {judged.changes} changes of a round are kept, told were {[(it or b'')[:12] for it in told]}"]
+    found = [f"{name}: {it}" for it in checked.wrong]
+    if not checked.wrong and not checked.is_whole():
+        found += [f"{name}: {checked.made} of {checked.changes} changes of a batch are kept, told were {[(it or b'')[:12] for it in told]}"]
     return found
 
 
@@ -79,9 +79,9 @@ def planted():
         "one serial twice": ([None] * len(calls), [numbers[it] for it in found]),
         "answers exchanged": (exchanged, found),
     }
-    judged = lambda told, found: wrong_in(Judged(airspace, calls, told, found), "")
-    found = [f"{name}: {it}" for name, words in rights.items() for it in judged(*words)]
-    return found + [f"{name}: not seen" for name, words in wrongs.items() if not judged(*words)]
+    checked = lambda told, found: wrong_in(Checked(airspace, calls, told, found), "")
+    found = [f"{name}: {it}" for name, words in rights.items() for it in checked(*words)]
+    return found + [f"{name}: not seen" for name, words in wrongs.items() if not checked(*words)]
 
 
 # ---- the machine stops
@@ -124,7 +124,7 @@ class Stopping(AtOnce):
         self.kill()
         return found, wrong + tables.wrong_in(self.folder / "dss.db")
 
-    def round(self, airspace, turn, **numbers):
+    def batch(self, airspace, turn, **numbers):
         calls = self.mixed(airspace, turn)
         self.send_at_once(calls, **numbers)
         return calls, self.told()
@@ -133,12 +133,12 @@ class Stopping(AtOnce):
 def one_stop(service, airspace, kept, at, lies=0):
     """Returns what is wrong after a batch that was answered, and a stop at that call of the next one."""
     service.again(kept)
-    calls, told = service.round(airspace, 4, lies=lies)
-    after = Judged(airspace, calls, told, service.found(calls)).after
-    calls, told = service.round(after, 5, at=at, row=1, lies=lies)
+    calls, told = service.batch(airspace, 4, lies=lies)
+    after = Checked(airspace, calls, told, service.found(calls)).after
+    calls, told = service.batch(after, 5, at=at, row=1, lies=lies)
     found, wrong = service.found_again(calls, told)
-    judged, where = Judged(after, calls, told, found), f"call {at}, {kept} kept"
-    return [f"{where}: {it}" for it in wrong] + wrong_in(judged, where, told), judged.made
+    checked, where = Checked(after, calls, told, found), f"call {at}, {kept} kept"
+    return [f"{where}: {it}" for it in wrong] + wrong_in(checked, where, told), checked.made
 
 
 def machine_stops():
@@ -149,10 +149,10 @@ def machine_stops():
         airspace = service.fill()
         service.save()
         service.again("all")
-        service.round(airspace, 4)
+        service.batch(airspace, 4)
         calls = service.page.get("calls")
         places = [(at, kept) for at in range(1, calls + 1) for kept in KEPT]
-        while len(places) > MOST_STOPS:
+        while len(places) > MAX_STOPS:
             places.pop(draw.below(len(places)))
         for at, kept in places:
             wrong, made = one_stop(service, airspace, kept, at)
@@ -160,7 +160,7 @@ def machine_stops():
             found += wrong
         wrong, _ = one_stop(service, airspace, "synced", 1, lies=1)
         found += [] if wrong else ["changes that were answered and are gone were not seen"]
-    print(f"the machine stopped {len(places)} times among {calls} calls of a round, of which so many changes were kept then: {dict(sorted(ends.items()))}")
+    print(f"the machine stopped {len(places)} times among {calls} calls of a batch, of which so many changes were kept then: {dict(sorted(ends.items()))}")
     return found
 
 
@@ -174,33 +174,33 @@ class Failing(AtOnce):
         super().__init__(library(device, folder), clients)
         self.ends = collections.Counter()
 
-    def judged(self, airspace, calls, told):
+    def checked(self, airspace, calls, told):
         """Returns the outcome of a batch once calls work again. If the service has stopped, the next start shows it."""
         self.page.set()
         found = self.found(calls)
         if STOPS in told:
             stays = [] if set(found) == {STOPS} else [f"stopped, and then {set(found)}"]
             self.again()
-            judged = Judged(airspace, calls, told, self.found(calls))
-            judged.wrong += stays
+            checked = Checked(airspace, calls, told, self.found(calls))
+            checked.wrong += stays
             self.ends["stopped"] += 1
-            return judged
-        judged = Judged(airspace, calls, told, found)
+            return checked
+        checked = Checked(airspace, calls, told, found)
         self.ends["fault" if FAULTED in told else "ended" if None in told else "done"] += 1
-        return judged
+        return checked
 
     def next_works(self, airspace, turn, name):
         """Returns the airspace after a batch in which nothing fails, and what is wrong with it. If each change has its
         own sync, the service has dropped its mirror, and is started again."""
         calls = self.changes(airspace, turn)
         self.send_at_once(calls)
-        judged = Judged(airspace, calls, self.told(), self.found(calls))
-        if not judged.wrong and judged.made != len(calls):
-            judged.wrong += [f"{judged.made} of {len(calls)} changes were made"]
+        checked = Checked(airspace, calls, self.told(), self.found(calls))
+        if not checked.wrong and checked.made != len(calls):
+            checked.wrong += [f"{checked.made} of {len(calls)} changes were made"]
         if self.page.get("syncs") >= len(calls):
             self.ends["without a copy"] += 1
             self.again()
-        return judged.after, [f"{name}, the next round: {it}" for it in judged.wrong]
+        return checked.after, [f"{name}, the next batch: {it}" for it in checked.wrong]
 
     def again(self):
         """Stops it, and starts it over the same files."""
@@ -211,7 +211,7 @@ class Failing(AtOnce):
 def at_most_one_sort(told):
     """Returns whether all changes of one batch have the same outcome: done, faults, or stopped."""
     sorts = {it if it in (FAULTED, STOPS) else b"done" for it in told}
-    return [] if len(sorts) == 1 else [f"one round is told as {[it[:12] for it in told]}"]
+    return [] if len(sorts) == 1 else [f"one batch is told as {[it[:12] for it in told]}"]
 
 
 def calls_fail():
@@ -227,11 +227,11 @@ def calls_fail():
             asked = service.mixed(airspace, number)
             service.send_at_once(asked, **numbers)
             told = service.told()
-            judged = service.judged(airspace, asked, told)
-            found += wrong_in(judged, f"{numbers}", told)
+            checked = service.checked(airspace, asked, told)
+            found += wrong_in(checked, f"{numbers}", told)
             found += [f"{numbers}: {it}" for it in at_most_one_sort([it for it, call in zip(told, asked) if is_change(call)])]
             most = max(most, told.count(FAULTED))
-            airspace, wrong = service.next_works(judged.after, number, f"{numbers}")
+            airspace, wrong = service.next_works(checked.after, number, f"{numbers}")
             found += wrong
             if found:
                 break
@@ -252,11 +252,11 @@ def full_disk():
                 service.send_at_once(asked, **{**numbers, "at": at})
                 told = service.told()
                 seen = service.found(asked)
-                judged = service.judged(airspace, asked, told)
-                found += wrong_in(judged, f"{numbers}", told)
+                checked = service.checked(airspace, asked, told)
+                found += wrong_in(checked, f"{numbers}", told)
                 if STOPS not in told and seen != service.found(asked):
                     found += [f"{numbers}: while the disk is full: {seen!r}"]
-                airspace = judged.after
+                airspace = checked.after
             airspace, wrong = service.next_works(airspace, number + 2, f"{numbers}")
             found += wrong
             if found:
@@ -268,7 +268,7 @@ def full_disk():
 # ---- memory lacks
 
 
-def growths_refused(step):
+def allocations_refused(step):
     """Memory allocations are refused in a batch of five changes, one in so many: each change is done, or gets a fault
     and is not made, or its connection ends and it was done or not; or the service has stopped, or has exited.
     Acknowledged changes are there."""
@@ -280,24 +280,24 @@ def growths_refused(step):
             asked = service.changes(airspace, at)
             service.send_at_once(asked, at=at, row=1)
             told = service.told()
-            growths = service.page.get("calls")
+            allocations = service.page.get("calls")
             if None in told:
                 # It may be about to exit because memory ran out, and is started again as its unit does.
                 with contextlib.suppress(subprocess.TimeoutExpired):
                     service.program.wait(timeout=0.05)
                 service.again()
-            judged = service.judged(airspace, asked, told)
+            checked = service.checked(airspace, asked, told)
             if FAULTED in told and STOPS not in told:
                 # It may have dropped its mirror.
                 service.again()
-            found += [f"growth {at}: {it}" for it in judged.wrong]
-            found += wrong_in(judged, f"growth {at}", told) if STOPS in told else []
-            airspace, wrong = service.next_works(judged.after, at + 1, f"growth {at}")
+            found += [f"growth {at}: {it}" for it in checked.wrong]
+            found += wrong_in(checked, f"growth {at}", told) if STOPS in told else []
+            airspace, wrong = service.next_works(checked.after, at + 1, f"growth {at}")
             found += wrong
-            if at > growths:
+            if at > allocations:
                 break
             at += step
-    print(f"{FEW} changes at once: of {growths} growths of memory one in {step} refused: {dict(sorted(service.ends.items()))}")
+    print(f"{FEW} changes at once: of {allocations} allocations of memory one in {step} refused: {dict(sorted(service.ends.items()))}")
     return found + ([] if service.ends["fault"] else ["never a fault"])
 
 
@@ -331,15 +331,15 @@ def answered_and_killed(service, sent, seen, wait):
     senders = [threading.Thread(target=send, args=it) for it in zip(connections, sent)]
     for it in senders:
         it.start()
-    while len(wire.answers_of(came[0])) < seen and (piece := connections[0].recv(1 << 16)):
-        came[0] += piece
+    while len(wire.answers_of(came[0])) < seen and (chunk := connections[0].recv(1 << 16)):
+        came[0] += chunk
     time.sleep(wait)
     service.kill()
     for at, (connection, sender) in enumerate(zip(connections, senders)):
         sender.join()
         with connection, contextlib.suppress(ConnectionResetError):
-            while piece := connection.recv(1 << 16):
-                came[at] += piece
+            while chunk := connection.recv(1 << 16):
+                came[at] += chunk
     return [wire.answers_of(it) for it in came]
 
 
@@ -402,7 +402,7 @@ CASES = {
     "at-once-machine-that-stops": machine_stops,
     "at-once-calls-on-files-that-fail": calls_fail,
     "at-once-full-disk": full_disk,
-    "at-once-without-memory": lambda: growths_refused(STEP),
+    "at-once-without-memory": lambda: allocations_refused(STEP),
     "at-once-killed": killed,
 }
-SCENES = {"changes-at-once-without-memory": lambda: growths_refused(1)}
+SCENES = {"changes-at-once-without-memory": lambda: allocations_refused(1)}

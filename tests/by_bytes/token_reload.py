@@ -52,7 +52,7 @@ class Changing(Service):
             came += connection.recv(1 << 16) or b"\r\n\r\n"
         return answers[0]
 
-    def judged(self, what, tokens):
+    def checked(self, what, tokens):
         """Returns what is wrong with calls on the open connection and on new ones, by a table of tokens."""
         self.airspace.tokens, found = tokens, []
         for token in sorted(MORE):
@@ -98,11 +98,11 @@ def added_and_removed():
     """A token works within two seconds after it was added to the file, and is denied once it was removed, on an open
     connection as well."""
     with Changing() as service:
-        found = service.judged("as it started", wire.TOKENS)
+        found = service.checked("as it started", wire.TOKENS)
         for what, tokens in ("one more", MORE), ("one less", FEWER), ("all again", wire.TOKENS | NEW):
             service.write(wire.token_file(tokens))
             found += service.takes(tokens)
-            found += service.judged(what, tokens)
+            found += service.checked(what, tokens)
         return found + service.tells("good files", b"")
 
 
@@ -115,7 +115,7 @@ def without_clients():
         service.write(wire.token_file(FEWER))
         time.sleep(SEEN)
         service.kept = service.connect()
-        return found + service.judged("a first call", FEWER)
+        return found + service.checked("a first call", FEWER)
 
 
 def wrong_files():
@@ -135,13 +135,13 @@ def wrong_files():
         for what, text, line in files:
             service.write(text)
             found += service.tells(what, line)
-        found += service.judged("after wrong files", wire.TOKENS)
+        found += service.checked("after wrong files", wire.TOKENS)
         service.write(good)
         found += service.takes(FEWER)
-        found += service.judged("after a good one", FEWER)
+        found += service.checked("after a good one", FEWER)
         service.write(files[0][1])
         found += service.tells("a wrong one again", files[0][2])
-        return found + service.judged("after a wrong one again", FEWER)
+        return found + service.checked("after a wrong one again", FEWER)
 
 
 def gone_and_back():
@@ -156,12 +156,12 @@ def gone_and_back():
         name.rename(away)
         time.sleep(LOOKS)
         found += service.tells("gone", UNREAD)
-        found += service.judged("while it is gone", wire.TOKENS)
+        found += service.checked("while it is gone", wire.TOKENS)
         away.rename(name)
         found += service.tells("back", b"")
-        found += service.judged("once it is back", wire.TOKENS)
+        found += service.checked("once it is back", wire.TOKENS)
         service.write(wire.token_file(FEWER))
-        return found + service.takes(FEWER) + service.judged("another", FEWER)
+        return found + service.takes(FEWER) + service.checked("another", FEWER)
 
 
 def without_memory():
@@ -184,7 +184,7 @@ def without_memory():
             page.set()
             time.sleep(LOOKS)
             service.kept = service.connect()
-            found += service.judged(f"after growth {at}", tokens)
+            found += service.checked(f"after growth {at}", tokens)
         return found
 
 

@@ -7,7 +7,7 @@ import time
 import wire
 from failing_files import Failing
 from many_clients import reset
-from patience import kept_intents
+from client_timeouts import stored_intents
 from ports import free_port
 from program import BUILT, SECONDS, TOP, run
 from serving import Service, until_closed
@@ -52,7 +52,7 @@ def asks(method, path, fields=(), body=b""):
 HEALTH, METRICS, STOP = asks("GET", "/health"), asks("GET", "/metrics"), asks("POST", "/stop", ["Content-Length: 0"])
 
 
-class Operated(Service):
+class AdminService(Service):
     """`dss serve` with an admin port."""
 
     def command(self):
@@ -116,7 +116,7 @@ def paths():
         ("a path of clients", ASKED, said(404, no_path)),
         ("two requests", HEALTH + STOP, said(200, SERVING)),
     ]
-    with Operated(count=2) as started, started.connect() as silent, started.connect() as kept:
+    with AdminService(count=2) as started, started.connect() as silent, started.connect() as kept:
         kept.sendall(ASKED)
         found = difference("a client before", kept.recv(1 << 16), ANSWER)
         for name, sent, wanted in table:
@@ -141,7 +141,7 @@ def paths():
 
 def counts():
     """The metrics of known clients have their values, and each has its help and its type."""
-    with Operated() as started:
+    with AdminService() as started:
         before = time.time()
         text = started.asked(METRICS)
         found = difference("the head of it", text.startswith(said(200, b"", PROMETHEUS)[:-len("0\r\nConnection: close\r\n\r\n")]), True)
@@ -179,7 +179,7 @@ def ends():
     """A service that is told to stop answers complete requests, closes its connections and exits. It accepts no new
     client."""
     found = []
-    with Operated() as started, contextlib.ExitStack() as stack:
+    with AdminService() as started, contextlib.ExitStack() as stack:
         silent, half, kept = (stack.enter_context(started.connect()) for _ in range(3))
         half.sendall(PUT[:-1])
         kept.sendall(ASKED)
@@ -208,13 +208,13 @@ def ends_with_others():
     stopping."""
     found = []
     query = wire.request("POST", f"{wire.INTENTS}/query", "Bearer tok-a", b'{"area_of_interest":{"cells":["89c2591"]}}')
-    with Operated() as started, socket.socket() as held, contextlib.ExitStack() as stack:
-        puts = list(kept_intents())
-        for at in range(0, len(puts), wire.MOST_REQUESTS):
-            started.ask(puts[at : at + wire.MOST_REQUESTS])
+    with AdminService() as started, socket.socket() as held, contextlib.ExitStack() as stack:
+        puts = list(stored_intents())
+        for at in range(0, len(puts), wire.MAX_REQUESTS):
+            started.ask(puts[at : at + wire.MAX_REQUESTS])
         held.setsockopt(socket.SOL_SOCKET, socket.SO_RCVBUF, 4096)
         held.connect(("127.0.0.1", started.port))
-        held.sendall(query * wire.MOST_REQUESTS)
+        held.sendall(query * wire.MAX_REQUESTS)
         until_counted(started, "dss_connections_open", "1")
         # Once the buffers are full, no request is answered.
         made = None
@@ -243,7 +243,7 @@ def broken():
         # change.
         for at in range(1, 100):
             environment = {"LD_PRELOAD": room.library, "FAIL_AT": f"{at}", "FAIL_ON": "1"}
-            with contextlib.suppress(OSError), Operated(more=environment) as started:
+            with contextlib.suppress(OSError), AdminService(more=environment) as started:
                 answer = started.exchange(put, ends=False)
                 if answer == wire.answer(*STOPPED, closes=True):
                     found += difference("its health", started.asked(HEALTH), said(503, DEAD))
@@ -260,7 +260,7 @@ def many():
     """Sixteen operators connect at once, and the next one once one of them has disconnected. Clients are served
     meanwhile."""
     found = []
-    with Operated() as started, contextlib.ExitStack() as stack:
+    with AdminService() as started, contextlib.ExitStack() as stack:
         held = [stack.enter_context(started.operator()) for _ in range(MOST)]
         with started.operator() as late:
             late.sendall(HEALTH)
@@ -323,12 +323,12 @@ def version():
     found = []
     for word in "--version", "-V":
         found += difference(word, run([BUILT, word]), (0, f"dss {number} ({kit})\n".encode(), b""))
-    with Operated() as started:
+    with AdminService() as started:
         counted = started.counted()
     return found + difference("as it is counted", counted.get(f'dss_build_info{{version="{number}",kit="{kit}"}}'), "1")
 
 
-class Listening(Operated):
+class Listening(AdminService):
     """The same on a given address."""
 
     def __init__(self, address):

@@ -10,7 +10,7 @@ import drawn_calls
 import tables
 import wire
 from devices import SIZES, WRITES, Page, library
-from operators import STOP, Operated, asks, said
+from admin_port import STOP, AdminService, asks, said
 from program import BUILT, run
 from sockets import difference
 from without_memory import FAULT
@@ -99,7 +99,7 @@ def airspace_in(file):
 # ---- what is shown
 
 
-class Shown(Operated):
+class SnapshotService(AdminService):
     """A service with an admin port, over a database that drawn calls have filled before."""
 
     def fill(self, seed):
@@ -132,7 +132,7 @@ class Shown(Operated):
 @contextlib.contextmanager
 def filled(seed):
     """Starts the service over a filled database; returns the contents of its tables before that."""
-    service = Shown(drawn_calls.ALL_TOKENS)
+    service = SnapshotService(drawn_calls.ALL_TOKENS)
     service.fill(seed)
     wanted = airspace_in(service.folder / "dss.db")
     with service as started:
@@ -218,7 +218,7 @@ def queries():
 def cut_by_cells():
     """A page ends after the entity that brings it to the maximum number of cells, however few entities it has."""
     cells = [f"{0x89C2590400000000 + 0x800000000 * it:016x}".rstrip("0") for it in range(300)]
-    with Shown(drawn_calls.ALL_TOKENS) as started:
+    with SnapshotService(drawn_calls.ALL_TOKENS) as started:
         volumes = [{"cells": cells, "altitude_lower": it, "altitude_upper": it, "time_start": 4_000_000_000, "time_end": 4_000_000_001}
                    for it in range(6)]
         requests = [
@@ -240,7 +240,7 @@ def started_without(device, mark, at):
     """Returns the output of a service that gets no memory at that allocation: why it does not listen, or its airspace
     and a response to a client."""
     mark.unlink(missing_ok=True)
-    service = Shown(drawn_calls.ALL_TOKENS)
+    service = SnapshotService(drawn_calls.ALL_TOKENS)
     service.fill(SEEDS[0])
     service.environment = {**os.environ, "LD_PRELOAD": device, "REFUSE_AT": f"{at}", "REFUSED": f"{mark}"}
     try:
@@ -252,7 +252,7 @@ def started_without(device, mark, at):
         return f"{fault}", None
 
 
-def without_copy():
+def without_mirror():
     """If memory runs out for the mirror when a service starts, it says so, and still answers its clients."""
     met = 0
     with tempfile.TemporaryDirectory() as room:
@@ -275,14 +275,14 @@ def without_copy():
     return [] if met else ["no growth of memory was that of a copy"]
 
 
-def lost_copy():
+def dropped_mirror():
     """A mirror that was dropped because a change failed is reported, and exists again after the next successful change."""
     body = {"extents": {"cells": ["89c25904"], "altitude_lower": 0, "altitude_upper": 10, "time_start": 4_000_000_000, "time_end": 4_000_000_001}}
     body |= {"uss_base_url": "u", "notify_for_operational_intents": True}
     put = wire.request("PUT", f"{wire.SUBSCRIPTIONS}/00000000-0000-4000-8000-0000000000f0", "Bearer tok-a", wire.compact(body).encode())
     with tempfile.TemporaryDirectory() as folder:
         page = Page(folder)
-        service = Shown(drawn_calls.ALL_TOKENS, more=page.environment(library("fail_files", folder)))
+        service = SnapshotService(drawn_calls.ALL_TOKENS, more=page.environment(library("fail_files", folder)))
         service.fill(SEEDS[0])
         with service as started:
             before, _ = started.page()
@@ -302,6 +302,6 @@ CASES = {
     "airspace-changed-between-pages": changed_between,
     "airspace-queries": queries,
     "airspace-page-of-many-cells": cut_by_cells,
-    "airspace-without-a-copy": without_copy,
-    "airspace-after-a-lost-copy": lost_copy,
+    "airspace-without-a-copy": without_mirror,
+    "airspace-after-a-lost-copy": dropped_mirror,
 }
