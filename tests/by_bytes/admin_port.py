@@ -340,13 +340,13 @@ class Listening(AdminService):
 
 
 CASES = {
-    "operators-port": paths,
-    "operators-port-counts": counts,
-    "operators-port-ends-the-service": ends,
-    "operators-port-ends-it-in-time": ends_with_others,
-    "operators-port-of-a-broken-service": broken,
-    "operators-port-with-many": many,
-    "operators-port-that-cannot-be-had": without_port,
+    "admin-port": paths,
+    "admin-port-metrics": counts,
+    "admin-port-ends-the-service": ends,
+    "admin-port-ends-it-in-time": ends_with_others,
+    "admin-port-of-a-broken-service": broken,
+    "admin-port-with-many": many,
+    "admin-port-in-use": without_port,
     "another-address": elsewhere,
     "version": version,
 }

@@ -157,6 +157,6 @@ CASES = {
     "backup-whole": whole,
     "backup-with-log": with_log,
     "backup-refused": refused,
-    "backup-broken-off": broken_off,
+    "backup-aborted": broken_off,
     "backup-each-call": each_call,
 }

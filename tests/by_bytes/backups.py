@@ -283,9 +283,9 @@ def full_disk():
 
 
 CASES = {
-    "backups-beside-changes": beside_changes,
+    "backups-during-changes": beside_changes,
     "backups-refused": refusals,
-    "backups-in-no-folder": folders,
+    "backups-in-no-directory": folders,
     "backups-one-at-a-time": one_at_a_time,
     "backups-killed": killed,
     "backups-on-a-full-disk": full_disk,

@@ -350,13 +350,13 @@ def paths():
 
 
 CASES = {
-    "connections-in-pieces": in_chunks,
+    "connections-in-chunks": in_chunks,
     "devices-that-fail": failing_devices,
-    "answer-that-is-not-written": answer_not_written,
+    "response-that-is-not-written": answer_not_written,
     "cell-that-is-not-written": cell_not_written,
     "put-that-is-cut": truncated,
     "turns-that-end": turns_end,
-    "greatest-body": max_body,
+    "max-body": max_body,
     "hostile-heads": hostile,
     "paths-and-methods": paths,
 }

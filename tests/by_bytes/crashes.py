@@ -203,4 +203,4 @@ def each_move():
     return found
 
 
-CASES = {"machine-that-stops-in-a-change": each_call, "machine-that-stops-in-a-move": each_move}
+CASES = {"machine-that-stops-in-a-change": each_call, "machine-that-stops-in-an-upgrade": each_move}

@@ -170,4 +170,4 @@ def come():
         return found + promtool(["test", "rules", str(file)])
 
 
-CASES = {"figures-that-are-shown": names, "figures-are-read": reads, "alerts-come": come}
+CASES = {"metrics-in-dashboards": names, "expressions-are-read": reads, "alerts-fire": come}

@@ -450,9 +450,9 @@ CASES = {
     "drawn-calls-over-a-database": drawn,
     "database-as-sqlite-reads-it": as_rows,
     "rules-of-the-tables": rules_of_tables,
-    "greatest-serial-in-a-database": max_serial,
-    "greatest-index-in-a-database": max_index,
+    "max-serial-in-a-database": max_serial,
+    "max-index-in-a-database": max_index,
     "databases-that-sqlite-wrote-anew": written_anew,
-    "databases-that-are-not-taken": rejected,
+    "databases-that-are-rejected": rejected,
     "database-that-is-cut-short": cut_short,
 }

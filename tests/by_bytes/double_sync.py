@@ -67,4 +67,4 @@ def one_file():
     return []
 
 
-CASES = {"wary-syncs-twice": syncs, "wary-or-not-over-one-file": one_file}
+CASES = {"double-sync-syncs-twice": syncs, "double-sync-or-not-over-one-file": one_file}

@@ -193,7 +193,7 @@ def still_failing():
 
 
 CASES = {
-    "figures-of-drawn-calls": drawn,
-    "figures-of-a-full-disk": full_disk,
-    "figures-of-a-disk-that-stays-full": still_failing,
+    "metrics-of-drawn-calls": drawn,
+    "metrics-of-a-full-disk": full_disk,
+    "metrics-of-a-disk-that-stays-full": still_failing,
 }

@@ -115,6 +115,6 @@ def while_the_file_is_gone():
 
 CASES = {
     "serve-while-the-file-is-gone": while_the_file_is_gone,
-    "serve-without-memory-for-a-copy": without_memory_for_it,
+    "serve-without-memory-for-a-mirror": without_memory_for_it,
     "serve-of-other-tables": of_other_tables,
 }

@@ -265,7 +265,7 @@ def without_space():
 
 CASES = {
     "old-databases-of-the-release": as_released,
-    "old-databases-moved-silently": silently,
+    "old-databases-upgraded-silently": silently,
     "old-database-worked-example": worked_example,
     "old-databases-keep-their-serial": serials,
     "old-databases-that-sqlite-wrote-anew": of_sqlite,

@@ -598,9 +598,9 @@ CHECKS = {
     "openapi-no-operation": others_denied,
     "openapi-scopes": scopes_open,
     "openapi-bounds": bounds_of_bodies,
-    "openapi-answers": bounds_of_answers,
+    "openapi-responses": bounds_of_answers,
     "openapi-unsaid": beyond_schemas,
     "openapi-cells": tokens_of_cells,
-    "openapi-words": words_of_paths,
+    "openapi-path-parameters": words_of_paths,
 }
 CASES = {name: told(check) for name, check in CHECKS.items()}

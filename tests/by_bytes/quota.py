@@ -124,8 +124,8 @@ def unbounded():
 
 
 CASES = {
-    "most-kept-counted-together": counted_together,
-    "most-kept-counted-cells": counted_cells,
-    "most-kept-counted-at-start": counted_at_start,
-    "most-kept-without-the-option": unbounded,
+    "quota-counted-together": counted_together,
+    "quota-counted-cells": counted_cells,
+    "quota-counted-at-start": counted_at_start,
+    "quota-without-the-option": unbounded,
 }

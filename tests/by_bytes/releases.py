@@ -408,13 +408,13 @@ def kit_of_the_readme():
 
 
 CASES = {
-    "first-answer-of-a-release": first_answer,
-    "spoilt-release": spoilt,
+    "first-response-of-a-release": first_answer,
+    "damaged-release": spoilt,
     "release-for-another-processor": other_processor,
-    "release-of-other-sources": other_sources,
-    "damaged-where-it-stands": damaged_here,
-    "build-that-is-asked-for": asked_build,
-    "checkout-that-cannot-be-written": not_written,
+    "release-from-other-sources": other_sources,
+    "program-damaged-after-unpacking": damaged_here,
+    "build-on-request": asked_build,
+    "read-only-checkout": not_written,
     "first-uses-at-once": at_once,
     "gate-over-a-release": gates,
     "portable-program": portable,

@@ -130,5 +130,5 @@ CASES = {
     "report-in-order": in_order,
     "report-of-nothing": of_nothing,
     "report-not-written": not_written,
-    "report-places": places,
+    "report-cells": places,
 }

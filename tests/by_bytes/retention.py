@@ -409,15 +409,15 @@ def without_mirror():
 
 
 CASES = {
-    "keep-lets-go": goes,
-    "keep-by-the-clock": by_the_clock,
-    "keep-once-a-minute": once_a_minute,
-    "keep-beside-one-that-keeps-all": pairs,
-    "keep-gives-room-again": room_again,
-    "keep-is-told-nowhere": reported_nowhere,
-    "keep-and-kills": killed,
-    "keep-on-a-full-disk": full_disk,
-    "keep-while-no-write-is-taken": refused_writes,
-    "keep-without-memory": without_memory,
-    "keep-without-a-copy": without_mirror,
+    "retention-purges": goes,
+    "retention-by-the-clock": by_the_clock,
+    "purge-once-a-minute": once_a_minute,
+    "retention-compared-with-none": pairs,
+    "retention-frees-the-quota": room_again,
+    "retention-is-reported-nowhere": reported_nowhere,
+    "retention-and-kills": killed,
+    "retention-on-a-full-disk": full_disk,
+    "retention-while-no-write-succeeds": refused_writes,
+    "retention-without-memory": without_memory,
+    "retention-without-a-mirror": without_mirror,
 }

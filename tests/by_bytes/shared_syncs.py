@@ -130,7 +130,7 @@ def drawn():
 
 CASES = {
     "at-once-share-a-sync": shared,
-    "at-once-held-back": deferred,
+    "at-once-deferred": deferred,
     "at-once-two-hundred": two_hundred,
     "at-once-drawn": drawn,
 }

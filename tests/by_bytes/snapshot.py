@@ -302,6 +302,6 @@ CASES = {
     "airspace-changed-between-pages": changed_between,
     "airspace-queries": queries,
     "airspace-page-of-many-cells": cut_by_cells,
-    "airspace-without-a-copy": without_mirror,
-    "airspace-after-a-lost-copy": dropped_mirror,
+    "airspace-without-a-mirror": without_mirror,
+    "airspace-after-a-dropped-mirror": dropped_mirror,
 }

@@ -181,7 +181,7 @@ CASES = {
     "serve-one-after-the-other": one_after_the_other,
     "serve-broken-clients": broken_clients,
     "serve-pipelined": pipelined,
-    "serve-last-answer": last_answer,
+    "serve-last-response": last_answer,
     "serve-clock-that-fails": clock_that_fails,
     "serve-second-on-the-port": second_service,
     "serve-faults-in-order": faults_in_order,

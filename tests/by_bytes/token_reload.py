@@ -192,6 +192,6 @@ CASES = {
     "tokens-added-and-removed-while-it-serves": added_and_removed,
     "tokens-changed-while-nobody-is-connected": without_clients,
     "tokens-wrong-while-it-serves": wrong_files,
-    "tokens-gone-while-it-serves": gone_and_back,
+    "tokens-missing-while-it-serves": gone_and_back,
     "tokens-changed-without-memory": without_memory,
 }

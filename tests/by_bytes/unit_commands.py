@@ -86,4 +86,4 @@ def rotates():
         return found + difference("the old file", (moved.is_file() and len(moved.read_text().splitlines())), 2)
 
 
-CASES = {"unit-stops-the-service": stops, "unit-copies-the-database": copies, "logrotate-moves-the-log": rotates}
+CASES = {"unit-stops-the-service": stops, "unit-backs-up-the-database": copies, "logrotate-moves-the-log": rotates}

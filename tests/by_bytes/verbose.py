@@ -159,9 +159,9 @@ def connection_given_up():
 
 
 CASES = {
-    "verbose-tells-of-token-files": token_files,
-    "verbose-tells-limits": limits_of_options,
+    "verbose-token-files": token_files,
+    "verbose-limits": limits_of_options,
     "verbose-listens": listening,
-    "verbose-tells-causes": causes,
-    "verbose-tells-which-connection": connection_given_up,
+    "verbose-causes": causes,
+    "verbose-connections": connection_given_up,
 }
