@@ -35,7 +35,7 @@ def check():
     """Checks that the service responds this way."""
     drawn = [(text[:3], (re.search(r"OVN is (\w{4})", text) or [None, None])[1]) for who, _, text in SAID if who == DSS]
     if drawn != looked_up():
-        raise ValueError(f"drawn is {drawn}, and the example has {looked_up()}")
+        raise ValueError(f"the picture has {drawn}, but examples/meeting.answers has {looked_up()}")
 
 
 def picture():

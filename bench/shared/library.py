@@ -29,7 +29,7 @@ def built(folder):
     """Returns the program, compiled in a directory."""
     program = f"{folder}/space"
     if subprocess.run(["cc", "-O2", "-o", program, str(TOP / "bench" / "shared" / "space.c"), "-lsqlite3"]).returncode:
-        sys.exit("bench: bench/shared/space.c cannot be compiled")
+        sys.exit("bench: bench/shared/space.c: compiling failed; are gcc and libsqlite3-dev installed?")
     return program
 
 

@@ -50,7 +50,7 @@ def cases(built):
             return
         finally:
             del os.environ["FLAW"]
-        raise AssertionError(f"{name} holds all the same")
+        raise AssertionError(f"{name} holds in spite of the change")
 
     return {
         f"{new} for {old} in {file} is noticed": lambda number=number, name=name: is_noticed(number, name)

@@ -317,7 +317,7 @@ def what_is_no_airspace(files, program):
 def opened(place, width=1200, height=800, scheme="light"):
     """Opens the page with a token. Nothing may go wrong in it, and it may send requests only to the gateway."""
     if not browser.program():
-        raise Skipped("there is no chromium: apt-get install chromium")
+        raise Skipped("chromium is not installed: apt-get install chromium")
     page = browser.Browser(width, height)
     try:
         page.size(width, height, scheme)

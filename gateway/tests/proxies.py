@@ -106,7 +106,7 @@ def haproxy(files, behind):
     """Runs it before the service of a port, without its check of health, and gives its port and the lines of its log."""
     program = shutil.which("haproxy", path="/usr/sbin:/usr/bin")
     if not program:
-        raise Skipped("haproxy is not here")
+        raise Skipped("haproxy is not installed: apt-get install haproxy")
     folder, port = files.folder / new_id(), free_port()
     folder.mkdir()
     certificate(folder)

@@ -160,7 +160,7 @@ def machine_stops():
             found += wrong
         wrong, _ = one_stop(service, airspace, "synced", 1, lies=1)
         found += [] if wrong else ["changes that were answered and are gone were not seen"]
-    print(f"the machine stopped {len(places)} times among {calls} calls of a batch, of which so many changes were kept then: {dict(sorted(ends.items()))}")
+    print(f"the machine stopped {len(places)} times among {calls} calls of a batch, with these numbers of changes stored then: {dict(sorted(ends.items()))}")
     return found
 
 
@@ -235,7 +235,7 @@ def calls_fail():
             found += wrong
             if found:
                 break
-    print(f"{FAILURES} rounds in which calls on files failed, of some {calls} each: {dict(sorted(service.ends.items()))}")
+    print(f"{FAILURES} batches in which calls on files failed, of about {calls} each: {dict(sorted(service.ends.items()))}")
     return found + ([] if most > 2 else ["never several faults"])
 
 
@@ -261,7 +261,7 @@ def full_disk():
             found += wrong
             if found:
                 break
-    print(f"{2 * FULL} rounds over a full disk: {dict(sorted(service.ends.items()))}")
+    print(f"{2 * FULL} batches over a full disk: {dict(sorted(service.ends.items()))}")
     return found + ([] if service.ends["fault"] else ["never a fault"])
 
 
@@ -290,14 +290,14 @@ def allocations_refused(step):
             if FAULTED in told and STOPS not in told:
                 # It may have dropped its mirror.
                 service.again()
-            found += [f"growth {at}: {it}" for it in checked.wrong]
-            found += wrong_in(checked, f"growth {at}", told) if STOPS in told else []
-            airspace, wrong = service.next_works(checked.after, at + 1, f"growth {at}")
+            found += [f"allocation {at}: {it}" for it in checked.wrong]
+            found += wrong_in(checked, f"allocation {at}", told) if STOPS in told else []
+            airspace, wrong = service.next_works(checked.after, at + 1, f"allocation {at}")
             found += wrong
             if at > allocations:
                 break
             at += step
-    print(f"{FEW} changes at once: of {allocations} allocations of memory one in {step} refused: {dict(sorted(service.ends.items()))}")
+    print(f"{FEW} changes at once: one of {step} of {allocations} memory allocations refused: {dict(sorted(service.ends.items()))}")
     return found + ([] if service.ends["fault"] else ["never a fault"])
 
 

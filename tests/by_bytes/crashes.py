@@ -199,7 +199,7 @@ def each_move():
     for name, fill in moves().items():
         wrong, count = of_move(name, fill)
         found, stops = found + wrong, stops + count
-    print(f"the machine stopped {stops} times among the calls that move an old database")
+    print(f"the machine stopped {stops} times among the calls that upgrade an old database")
     return found
 
 

@@ -101,7 +101,7 @@ def unread(expression):
         elif sign in (")", "]", "}") and (not depth or depth.pop() != sign):
             return [f"a bracket in {expression}"]
     called = set(re.findall(r"\b([a-z]\w*)\s*\(", text)) - FUNCTIONS
-    return ([f"an open bracket in {expression}"] if depth else []) + [f"no function is {it}" for it in sorted(called)]
+    return ([f"an open bracket in {expression}"] if depth else []) + [f"no such function: {it}" for it in sorted(called)]
 
 
 def names():
@@ -112,11 +112,11 @@ def names():
     for place, expression in shown + watched:
         named = set(re.findall(r"\bdss_\w+", re.sub(r'"[^"]*"', "", expression)))
         unknown = sorted(named - set(figures))
-        found += [f"{place}: the service tells no {it}" for it in unknown] + [f"{place}: {it}" for it in unread(expression)]
+        found += [f"{place}: the service has no metric {it}" for it in unknown] + [f"{place}: {it}" for it in unread(expression)]
         of_these = GIVEN.union(*(labels[figures[it]] for it in named - set(unknown)))
-        found += [f"{place}: no label is {it}" for it in sorted(labels_in(expression) - of_these)] if not unknown else []
+        found += [f"{place}: no such label: {it}" for it in sorted(labels_in(expression) - of_these)] if not unknown else []
         seen |= {figures.get(it) for it in named} if (place, expression) in shown else set()
-    found += [f"{it} is not shown" for it in sorted(set(labels) - seen)]
+    found += [f"{it} is in no panel" for it in sorted(set(labels) - seen)]
     document = (TOP / "docs" / "OPERATE.md").read_text()
     found += [f"docs/OPERATE.md has no {it}" for it in sorted(labels) if not re.search(rf"`{it}\b", document)]
     return found + promtool(["check", "metrics"], text)
@@ -125,7 +125,7 @@ def names():
 def promtool(words, given=None):
     """Returns promtool's faults for a file, if promtool is installed."""
     if not shutil.which("promtool"):
-        print("promtool is not here: Debian has it in the package prometheus")
+        print("promtool is missing, so expressions are checked less: install the package prometheus")
         return []
     done = subprocess.run(["promtool", *words], input=given, capture_output=True, text=True, timeout=60)
     return [f"promtool {words}: {done.stdout}{done.stderr}"] if done.returncode else []

@@ -95,7 +95,7 @@ def each_call_of_a_move():
             is_right = told and (after == HELD or after == MOVED and told == "not opened")
             found += [] if is_right else [f"{more}: {got!r}, then {after!r}"]
             found += moved_wrong(f"{more}", before, room.database) + [f"{more}: {it}" for it in tables.wrong_in(room.database)]
-    print(f"a move: of {room.count} calls on files each failed alone, and with all after it: {dict(sorted(ends.items()))}")
+    print(f"an upgrade: of {room.count} calls on files each failed alone, and with all after it: {dict(sorted(ends.items()))}")
     return found + [f"never {it}" for it in ("done", "not opened") if not ends[it]]
 
 

@@ -22,12 +22,12 @@ def edited(edit, folder):
         if word == "file":
             path = text
             if not (folder / path).is_file():
-                raise BadEdit(f"there is no file {path}")
+                raise BadEdit(f"file {path} does not exist")
             texts.setdefault(path, (folder / path).read_text())
         elif word == "old":
             old = text
             if path is None or texts[path].count(old) != 1:
-                raise BadEdit(f"{old!r} is not there once")
+                raise BadEdit(f"{old!r} does not occur exactly once")
         elif word == "new" and old is not None:
             texts[path], old = texts[path].replace(old, text), None
     if all(text == (folder / path).read_text() for path, text in texts.items()):

@@ -101,7 +101,7 @@ def rounds(many=ROUNDS, seed=SEED):
         found += wrong
         counts.append(count)
     between = sum(0 < it < CALLS for it in counts)
-    print(f"{many} kills, {between} of them between the first answer and the last")
+    print(f"{many} kills, {between} of them between the first response and the last")
     return found + ([f"only {between} kills in {many} fell among the calls"] if 2 * between < many else [])
 
 

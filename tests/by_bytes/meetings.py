@@ -236,7 +236,7 @@ def notified_over_database():
         levels = levels_of(it.put for it in airspace.subscriptions.values())
         found += [] if levels == set(range(4, 17)) else [f"the levels are {sorted(levels)}"]
         found += wrong_with(room)
-    print(f"{len(changes)} changes told {SUBSCRIBED} subscriptions in a database {told(airspace)} times")
+    print(f"{len(changes)} changes notified {SUBSCRIBED} subscriptions in a database {told(airspace)} times")
     return found + ([f"they told {told(airspace)}"] if told(airspace) < MIN_NOTIFIED else [])
 
 

@@ -66,7 +66,7 @@ def refused(name, calls):
         if not mark.exists() and ended != "done":
             return [f"{name}: {found}"]
         ends[ended] += mark.exists()
-    print(f"{name} over serve: of {at} allocations of memory one in {STEP} refused: {dict(ends)}")
+    print(f"{name} over serve: one of {STEP} of {at} memory allocations refused: {dict(ends)}")
     return [] if ends["done"] > 10 else [f"{name}: {dict(ends)}"]
 
 

@@ -151,7 +151,7 @@ def unknown():
     for document in DOCUMENTS:
         for number, name in words_in(document):
             if name and not is_name(name):
-                found += [f"{document.relative_to(TOP)}:{number}: nothing is named {name}"]
+                found += [f"{document.relative_to(TOP)}:{number}: {name}: no such name in the repository"]
     return found
 
 
@@ -241,10 +241,10 @@ def misplaced():
         rows += 1
         pairs = said_of_crates(contracts)
         crates = {it for _, it in pairs if it} | set(re.findall(r"`(\w+)::\w+`", contracts)) if "`" in contracts else crates
-        found += [f"{place}: of which crate is {it}?" for it, crate in pairs if crate is None]
+        found += [f"{place}: {it}: the row does not say its crate" for it, crate in pairs if crate is None]
         found += [f"{place}: {crate} has no {it}" for it, crate in pairs if crate and not is_made_in(crate, it)]
-        found += [f"{place}: no {it} where it is said" for it in undefined(definitions, [it for it in crates if is_crate(it)])]
-    return found + elsewhere() + ([] if rows > 100 else [f"{rows} rows are no such tables"])
+        found += [f"{place}: {it}: not defined in these crates" for it in undefined(definitions, [it for it in crates if is_crate(it)])]
+    return found + elsewhere() + ([] if rows > 100 else [f"{rows} rows found in the tables, too few; their headings may have changed"])
 
 
 def headless():
@@ -254,7 +254,7 @@ def headless():
     folders = "crates/*/src/*.rt", "crates/*/specs/*.antt", "scripts/*", "tests/*", "tests/*/*.py", "tests/devices/*"
     files = [it for folder in folders for it in sorted(TOP.glob(folder)) if it.is_file() and it.suffix in begins]
     texts = ((it, re.sub(r"^#!.*\n", "", it.read_text())) for it in files if it.name != "Lib.antt")
-    return [f"{it.relative_to(TOP)} begins otherwise" for it, text in texts if not text.startswith(begins[it.suffix])]
+    return [f"{it.relative_to(TOP)}: the first line does not say what the file contains" for it, text in texts if not text.startswith(begins[it.suffix])]
 
 
 def anchors(document):
@@ -272,7 +272,7 @@ def dead_links():
         for link, file, anchor in re.findall(r"\]\((([^)#:\s]*)(?:#([^)\s]*))?)\)", text):
             target = document.parent / file if file else document
             is_there = target.exists() and (not anchor or anchor in anchors(target))
-            found += [] if is_there else [f"{document.relative_to(TOP)}: there is no {link}"]
+            found += [] if is_there else [f"{document.relative_to(TOP)}: {link}: the target of this link does not exist"]
     return found
 
 
@@ -280,7 +280,7 @@ def pictures_are_drawn():
     """The pictures show existing crates, functions and calls."""
     drawn = runpy.run_path(str(TOP / "scripts" / "pictures"))
     old = [name for name, picture in drawn["PICTURES"].items() if picture() != (TOP / "docs" / name).read_text()]
-    found = [f"docs/{name} is another: run scripts/pictures" for name in old]
+    found = [f"docs/{name} is not current: run scripts/pictures" for name in old]
     # Functions that get no space call no function that changes one.
     is_blind = drawn["picture_of_a_put"].calls("early::early", "change::commit_change")
     return found + (["a call is seen where there is none"] if is_blind else [])

@@ -446,7 +446,7 @@ def answers_to_drawn_calls():
                 right = value.get("message") in rules and alike[0][2].is_valid(value)
             count += 1
             found += [] if right else [f"{method} {target}: {outcome.status} {outcome.body}"]
-    print(f"answers to drawn calls: {count}")
+    print(f"responses to drawn calls: {count}")
     return found
 
 
@@ -525,7 +525,7 @@ def bounds_of_bodies():
             counts[is_wrong] += 1
             if refused != [is_wrong, is_wrong]:
                 found += [f"{name}, {case}: to be refused {is_wrong}, by schema and program {refused}"]
-    print(f"bodies at their bounds: {counts[True]} refused, {counts[False]} let pass")
+    print(f"bodies at their bounds: {counts[True]} rejected, {counts[False]} accepted")
     return found + ([] if min(counts.values()) >= 60 else ["under 60 of a kind"])
 
 

@@ -64,10 +64,10 @@ def links(root):
     for page in sorted(top.rglob("*.md")):
         for link in re.findall(r"\]\(([^)#:\s]+)(?:#[^)]*)?\)", page.read_text()):
             is_there = (page.parent / link).exists()
-            found += [f"{page.relative_to(top)}: {link} is not there"] if not is_there and not ELSEWHERE.match(link) else []
+            found += [f"{page.relative_to(top)}: {link} does not exist"] if not is_there and not ELSEWHERE.match(link) else []
     for page in sorted([*top.rglob("*.md"), *(root / "usr/lib").rglob("*.service")]):
         for path in set(re.findall(r"/(usr/(?:bin|lib|share)/[\w./-]*dss[\w./-]*\w)", page.read_text())) - OF_OTHERS:
-            found += [f"{page.relative_to(root)}: /{path} is not there"] if not (root / path).exists() else []
+            found += [f"{page.relative_to(root)}: /{path} does not exist"] if not (root / path).exists() else []
     return found
 
 
@@ -94,7 +94,7 @@ def options(root):
                 asked = re.findall(r"(?<!\S)\[?(--[\w-]+)", words)
                 seen += len(asked)
                 found += [f"{place}: dss {command} has no {it}" for it in asked if not re.search(rf"{it}\b", said[command])]
-    return found + ([] if seen > 50 else [f"{seen} options were seen"])
+    return found + ([] if seen > 50 else [f"{seen} options found, too few"])
 
 
 def said_by_lintian(package):
@@ -150,7 +150,7 @@ def completed(root, *words):
 
 
 def completions(root):
-    found = [f"{it} is not offered" for it in COMMANDS if it not in completed(root, "")]
+    found = [f"{it} is missing from the completions" for it in COMMANDS if it not in completed(root, "")]
     found += difference("se", completed(root, "se")[:1], ["serve"] if "serve" in completed(root, "se") else ["self"])
     found += difference("--to", completed(root, "run", "--to"), ["--tokens"])
     found += difference("--d", completed(root, "upgrade", "--d"), ["--db"])

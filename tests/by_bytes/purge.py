@@ -205,7 +205,7 @@ def by_hand():
         found += difference("its rows", tables.rows_in(room.database), before)
         counts = airspace.purge(UNTIL)
         found += difference("the plain policy", counts, (3, 1, 2))
-        found += difference("a sweep", room.purge(UNTIL), done(3, 1, 2))
+        found += difference("a purge", room.purge(UNTIL), done(3, 1, 2))
         rows = tables.rows_in(room.database)
         stay = {(kind, id_) for _, kind, id_, *_ in rows["entity"]}, {id_ for _, id_, *_ in rows["subscription"]}
         found += difference("what stays", stay, STAY) + difference("rows", rows, purged_rows(before, UNTIL))
@@ -232,7 +232,7 @@ def reported():
                 copy.write_bytes(room.database.read_bytes())
                 words = [BUILT, "report", "--db", str(copy), *flags]
                 before = run(words)
-                found += difference("a sweep", room.purge(UNTIL, database=copy)[0], 0)
+                found += difference("a purge", room.purge(UNTIL, database=copy)[0], 0)
                 after = run(words)
                 lines = [it for it in before[1].splitlines() if it.startswith(b"serial") or it.split()[1].decode() in wanted]
                 found += difference(f"the report {flags}", after, (0, b"".join(it + b"\n" for it in lines), b""))
@@ -324,10 +324,10 @@ def drawn():
                 until = drawn_calls.NOW + draw.below(1_000)
                 counts = airspace.purge(until)
                 went.update(dict(zip(("intents", "constraints", "subscriptions"), counts)))
-                found += difference(f"seed {seed}, sweep {at}", room.purge(until), done(*counts))
+                found += difference(f"seed {seed}, purge {at}", room.purge(until), done(*counts))
                 found += difference(f"seed {seed}, kept after {at}", stored_in(room), stored_by(airspace))
             found += [f"seed {seed}: {it}" for it in tables.wrong_in(room.database)]
-    print(f"sweeps among drawn calls took {dict(went)}")
+    print(f"purges among drawn calls removed {dict(went)}")
     return found + [f"no {it} went" for it, count in went.items() if not count]
 
 
@@ -372,7 +372,7 @@ def in_chunks():
         before = made_of(room.database, many())
         after = purged_rows(before, UNTIL)
         counts = gone(before, after)
-        found = difference("a sweep", room.purge(UNTIL), done(*counts))
+        found = difference("a purge", room.purge(UNTIL), done(*counts))
         found += difference("its rows", tables.rows_in(room.database) == after, True) + tables.wrong_in(room.database)
         size = room.database.stat().st_size
         # Freed pages are used again.
@@ -400,7 +400,7 @@ def machine_stops():
         words = lambda database: room.purge_arguments(UNTIL, database=database)
         status, _, calls = machine.run(words(machine.again()))
         if status or not calls:
-            return [f"a sweep: {status}, {calls} calls"]
+            return [f"a purge: {status}, {calls} calls"]
         places = sorted({1, 2, calls - 1, calls} | {1 + at * (calls - 1) // STOPS for at in range(STOPS)})
         for kept in crashes.KEPT:
             for at in places:
@@ -409,7 +409,7 @@ def machine_stops():
                 found += difference(f"call {at} of {calls}, {kept} kept", (status, output if at < calls else b""), (crashes.STOPPED, b""))
                 parts[sum(gone(before, tables.rows_in(crashes.copied(database))))] += 1
                 found += finished(f"call {at} of {calls}, {kept} kept", room, database, before)
-    print(f"a machine that stopped among {calls} calls on files left so much swept: {dict(sorted(parts.items()))}")
+    print(f"a machine that stopped among {calls} calls on files left these parts: {dict(sorted(parts.items()))}")
     return found + wrong_chunks(parts, before, purged_rows(before, UNTIL))
 
 
@@ -420,7 +420,7 @@ def killed():
         before = made_of(room.database, many(3 * ENDED))
         saved = room.database.read_bytes()
         began = time.monotonic()
-        found += difference("a sweep", room.purge(UNTIL)[0], 0)
+        found += difference("a purge", room.purge(UNTIL)[0], 0)
         took = time.monotonic() - began
         for at in range(KILLS):
             room.database.write_bytes(saved)
@@ -431,7 +431,7 @@ def killed():
             copy = crashes.copied(room.database)
             parts[sum(gone(before, tables.rows_in(copy)))] += 1
             found += finished(f"kill {at}", room, room.database, before)
-    print(f"a program that was killed left so much swept: {dict(sorted(parts.items()))}")
+    print(f"a program that was killed left these parts: {dict(sorted(parts.items()))}")
     return found + wrong_chunks(parts, before, purged_rows(before, UNTIL))
 
 
@@ -458,7 +458,7 @@ def files_fail():
             is_right = (error == b"" and output != b"") if status == 0 else status == 1 and output == b"" and error in (STORE, NOT_CLOSED)
             found += [] if is_right else [f"{more}: {status}, {output!r}, {error!r}"]
             found += finished(f"{more}", room, room.database, before)
-    print(f"a sweep: of {room.count} calls on files some failed, alone and with all after it: {dict(ends)}")
+    print(f"a purge: of {room.count} calls on files some failed, alone and with all after it: {dict(ends)}")
     return found + ([] if {status for status, _ in ends} == {0, 1} else [f"only {dict(ends)}"])
 
 
@@ -476,9 +476,9 @@ def without_memory(step=STEP):
         for at, (status, output, error), is_refused in each_refused(room.purge_arguments(UNTIL), step=step, before=again):
             ends[(status, error)] += 1
             told = error == b"" and output != b"" if status == 0 else is_refused and status == 1 and output == b"" and error in (STORE, NOT_CLOSED, MEMORY)
-            found += [] if told else [f"growth {at}: {status}, {output!r}, {error!r}"]
-            found += finished(f"growth {at}", room, room.database, before)
-    print(f"a sweep: one in {step} of its allocations of memory refused: {dict(ends)}")
+            found += [] if told else [f"allocation {at}: {status}, {output!r}, {error!r}"]
+            found += finished(f"allocation {at}", room, room.database, before)
+    print(f"a purge: one of {step} of its memory allocations refused: {dict(ends)}")
     return found
 
 
@@ -491,11 +491,11 @@ def older():
         room.database.write_bytes(old.database.read_bytes())
         before = tables.rows_in(room.database)
         ends = [end for *_, end in before["volume"]]
-        found = difference("a sweep until the first end", room.purge(min(ends) - 1)[::2], (0, b""))
+        found = difference("a purge until the first end", room.purge(min(ends) - 1)[::2], (0, b""))
         rows = tables.rows_in(room.database)
         found += difference("its format", rows["meta"][0][1], 2) + difference("its entities", rows["entity"], before["entity"])
         got = room.purge(max(ends) - 1, max(ends))
-        return found + difference("a sweep", got, done(*gone(rows, purged_rows(rows, max(ends) - 1)))) + tables.wrong_in(room.database)
+        return found + difference("a purge", got, done(*gone(rows, purged_rows(rows, max(ends) - 1)))) + tables.wrong_in(room.database)
 
 
 def small_file():
@@ -506,7 +506,7 @@ def small_file():
     found = []
     with PurgeRoom() as room:
         made_of(room.database, many(4 * ENDED))
-        found += difference("a sweep", room.purge(UNTIL)[0], 0)
+        found += difference("a purge", room.purge(UNTIL)[0], 0)
         small = room.database.with_name("small.db")
         found += difference("the commands", run(["bash", "-e", "-c", block], folder=room.folder.name)[::2], (0, b""))
         found += difference("rows", tables.rows_in(small) == tables.rows_in(room.database), True) + tables.wrong_in(small)
@@ -519,7 +519,7 @@ def small_file():
             database.execute("VACUUM")
         found += difference("VACUUM", run([BUILT, "report", "--db", str(room.database)]), reports[0])
         # This one gets no mirror, without which it does not know what has ended.
-        found += difference("a sweep of it", room.purge(UNTIL), (1, b"", NOT_CLOSED))
+        found += difference("a purge of it", room.purge(UNTIL), (1, b"", NOT_CLOSED))
         for file, copy in (small, "1"), (room.database, "0"):
             with AdminService() as started:
                 started.kill()

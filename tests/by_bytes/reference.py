@@ -42,7 +42,7 @@ def alerts():
     """The page has each alert, and no other."""
     told = set(re.findall(r"`(Dss[A-Z]\w+)`", PAGE.read_text()))
     rules = set(re.findall(r"- alert: (\w+)", (TOP / "deploy" / "prometheus-rules.yaml").read_text()))
-    return [f"{it} is in one of docs/OPERATE.md and the rules alone" for it in sorted(told ^ rules)]
+    return [f"{it} is only in one of docs/OPERATE.md and the rules" for it in sorted(told ^ rules)]
 
 
 CASES = {

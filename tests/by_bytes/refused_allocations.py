@@ -77,7 +77,7 @@ class Scene:
                 return "opening", []
             came, found = self.came_to(got)
             wrong = [f"{got!r}"] if came is None else self.wrong_in(pathlib.Path(room, "dss.db"), found, came)
-            return came, [f"growth {at}, {row} in a row: {it}" for it in wrong]
+            return came, [f"allocation {at}, {row} in a row: {it}" for it in wrong]
 
     def each_refused(self, row):
         """Does the same for each allocation, from the last one back to the last one without which the database is not
@@ -100,7 +100,7 @@ def each_of(name, before, calls, rows, never=()):
             for came, wrong in scene.each_refused(row):
                 ends[came] += 1
                 found += wrong
-            print(f"{name}: {row} in a row of {ends.total()} allocations of memory refused: {dict(sorted(ends.items()))}")
+            print(f"{name}: {row} in a row of {ends.total()} memory allocations refused: {dict(sorted(ends.items()))}")
             found += [f"{row} in a row: {ends[it]} times {it}" for it in never if ends[it]]
             found += [] if ends["fault"] or row > 1 else ["never a fault"]
     return found

@@ -152,8 +152,8 @@ def first_answer():
         began = time.monotonic()
         found = it.answered("first")
         took = time.monotonic() - began
-        print(f"the first answer of a fresh clone took {took:.2f} s")
-        found += [f"the first answer took {took:.2f} s"] if took >= FIRST_ANSWER else []
+        print(f"the first response of a fresh clone took {took:.2f} s")
+        found += [f"the first response took {took:.2f} s"] if took >= FIRST_ANSWER else []
         found += it.answered("second")
         it.top.joinpath("release", "made-of").unlink()
         found += it.answered("without the release, of what stands built")

@@ -219,7 +219,7 @@ def pairs():
             found += difference(f"seed {seed}, counted", purged.wait(count)[PURGED], f"{count}")
             rows = whole.rows()
             found += difference(f"seed {seed}, rows", purged.rows() == purged_rows(rows, until), True)
-    print(f"drawn calls beside a sweep: {dict(kinds)}")
+    print(f"drawn calls during a purge: {dict(kinds)}")
     return found + [f"few are answered {it}" for it in ("200", "201", "404", "409") if kinds[it] < 10]
 
 
@@ -274,7 +274,7 @@ def killed():
             started.start()
             found += difference(f"kill {at}: the rest", started.wait(count - went)[PURGED], f"{count - went}")
             found += difference(f"kill {at}: rows", started.rows() == after, True)
-    print(f"a service that was killed as it let go left so much purged: {dict(sorted(parts.items()))}")
+    print(f"a service that was killed during a purge left these parts: {dict(sorted(parts.items()))}")
     return found
 
 
@@ -330,7 +330,7 @@ def full_disk():
             found += difference(f"{at}: health", started.asked(HEALTH), said(200, SERVING))
             found += difference(f"{at}: a reading", started.ask([reading])[0][:12], b"HTTP/1.1 200")
             found += [f"{at}: {it}" for it in started.left(went)]
-    print(f"a disk that was full as it let go left so much purged: {dict(sorted(parts.items()))}")
+    print(f"a disk that was full during a purge left these parts: {dict(sorted(parts.items()))}")
     return found
 
 
@@ -348,7 +348,7 @@ def refused_writes():
             found += [] if goes_on or answer == wire.answer(*STOPPED) else [f"{at}: {answer!r}"]
             found += difference(f"{at}: faults", counted[FAULTS], "1")
             found += [f"{at}: {it}" for it in started.left(went)]
-    print(f"no write was taken as it let go: {dict(ends)}")
+    print(f"no write succeeded during a purge: {dict(ends)}")
     return found
 
 
@@ -379,14 +379,14 @@ def without_memory():
             counted = started.counted()
             went = int(counted[PURGED])
             ends[went == count, counted[FAULTS], counted["dss_mirror_up"]] += 1
-            found += difference(f"growth {at}: a reading", started.ask([reading])[0][:12], b"HTTP/1.1 200")
+            found += difference(f"allocation {at}: a reading", started.ask([reading])[0][:12], b"HTTP/1.1 200")
             started.kill()
-            found += [f"growth {at}: {it}" for it in wrong_part(started.before, started.database, UNTIL)]
-            found += difference(f"growth {at}: what went", sum(gone(started.before, tables.rows_in(started.database))), went)
+            found += [f"allocation {at}: {it}" for it in wrong_part(started.before, started.database, UNTIL)]
+            found += difference(f"allocation {at}: what went", sum(gone(started.before, tables.rows_in(started.database))), went)
             started.start()
-            found += difference(f"growth {at}: the rest", started.wait(count - went)[PURGED], f"{count - went}")
+            found += difference(f"allocation {at}: the rest", started.wait(count - went)[PURGED], f"{count - went}")
         found += difference("rows", started.rows() == after, True)
-    print(f"allocations refused while it went; whether all went, faults, a copy: {dict(ends)}")
+    print(f"allocations refused during a purge; all purged, faults, a mirror: {dict(ends)}")
     return found
 
 

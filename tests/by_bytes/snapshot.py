@@ -269,7 +269,7 @@ def without_mirror():
             if came == NO_MEMORY:
                 met += 1
                 if not known.startswith(b"HTTP/1.1 200"):
-                    return [f"growth {at} refused: {known!r}"]
+                    return [f"allocation {at} refused: {known!r}"]
             elif met:
                 break
     return [] if met else ["no growth of memory was that of a copy"]

@@ -67,13 +67,13 @@ def on_cells():
     found, seen = [], {"cell": 0, "subscription_cell": 0}
     for file in SOURCES:
         name, source = str(file.relative_to(TOP)), file.read_text()
-        found += [f"{name}: {it!r} asks for all cells" for it in unnarrowed(source)]
+        found += [f"{name}: {it!r} selects all cells" for it in unnarrowed(source)]
         asked = [it for it in literals(source) if ON_CELLS.search(it)]
         for table in seen:
             seen[table] += sum(re.search(rf"(?<!_){table}\b", it) is not None for it in asked)
         if any(f"/{it}/" in name for it in NARROW) and READS_ALL.search(source):
             found.append(f"{name} reads whole tables")
-    found += [f"{count} statements on {table} were seen" for table, count in seen.items() if count < MIN]
+    found += [f"{count} statements on {table} found, too few" for table, count in seen.items() if count < MIN]
     for text, is_wrong in PLANTED.items():
         planted = f"fn planted() {{\n    query(\n        tx,\n        {text},\n    )\n}}\n"
         found += [f"{text}: planted, and {'not ' * is_wrong}found"] if bool(unnarrowed(planted)) != is_wrong else []

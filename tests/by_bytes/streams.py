@@ -67,8 +67,8 @@ def drawn():
     rare = [it for it in itertools.product(STATES, AVAILABILITIES) if met[it] < MIN_MET]
     rare += [it for it in CAUSES if notified[it] < MIN_PER_CAUSE]
     told = notified["the caller's own"] + notified["another's"]
-    print(f"subscriptions told of changes: {told}, of which are " + ", ".join(f"{it} {notified[it]}" for it in CAUSES))
-    found += [f"{told} subscriptions told of changes"] if told < MIN_NOTIFIED else []
+    print(f"notifications of subscriptions: {told}, of these " + ", ".join(f"{it} {notified[it]}" for it in CAUSES))
+    found += [f"{told} notifications of subscriptions"] if told < MIN_NOTIFIED else []
     return found + ([f"too few of {rare}"] if rare else [])
 
 
@@ -99,7 +99,7 @@ def answered_as_drawn(name, drawn, least, **how):
             found += shortest(seed, calls)
         counts.update(it.why for it in outcomes)
         works |= {it.why for it in outcomes if it.why not in RULES}
-    print(f"{name}: {counts.total()}, of which are " + ", ".join(f"P{it} {counts[it]}" for it in RULES))
+    print(f"{name}: {counts.total()}, of these " + ", ".join(f"P{it} {counts[it]}" for it in RULES))
     rare = [it for it in [*RULES, *works] if counts[it] < least]
     return found + ([f"under {least} of {rare}"] if rare or len(works) != 17 else [])
 

@@ -11,7 +11,7 @@ def tables_are_current():
         old = [it for it in made["TABLES"] if made["rewritten"](it) != (TOP / it).read_text()]
     except LookupError as error:
         return [repr(error)]
-    return [f"{it} has another table: run scripts/doc_tables.py" for it in old]
+    return [f"{it}: a table is not current: run scripts/doc_tables.py" for it in old]
 
 
 CASES = {"tables-in-docs": tables_are_current}

@@ -180,11 +180,11 @@ def without_memory():
             tokens = FEWER if service.airspace.tokens == wire.TOKENS else wire.TOKENS
             page.set(at=1 if at == ALL else at, row=ALL if at == ALL else 1)
             service.write(wire.token_file(tokens))
-            found += service.tells(f"growth {at}", MEMORY)
+            found += service.tells(f"allocation {at}", MEMORY)
             page.set()
             time.sleep(LOOKS)
             service.kept = service.connect()
-            found += service.checked(f"after growth {at}", tokens)
+            found += service.checked(f"after allocation {at}", tokens)
         return found
 
 

@@ -67,7 +67,7 @@ def rotates():
     """logrotate moves the log away, and the service continues in a new file of its own."""
     program = shutil.which("logrotate", path="/usr/sbin:/usr/bin")
     if not program:
-        print("logrotate is not here")
+        print("logrotate is missing, so this case is skipped: install the package logrotate")
         return []
     with UnitService() as started:
         text = (DEPLOY / "logrotate").read_text().replace("/var/log/dss/", f"{started.folder}/")

@@ -32,7 +32,7 @@ def each_environment(step=1):
             yield at, {"LD_PRELOAD": device, "REFUSE_AT": str(at), "REFUSED": str(mark)}, mark
             if not mark.exists():
                 return
-    raise ValueError(f"over {MAX_ALLOCATIONS} allocations of memory")
+    raise ValueError(f"over {MAX_ALLOCATIONS} memory allocations")
 
 
 def each_refused(command, given=b"", step=1, before=lambda: None):
@@ -55,10 +55,10 @@ def case(name):
     allowed += [(0, wire.answer(*FAULT, closes=True), b"")] if given else []
     for at, got, is_refused in each_refused([BUILT, *words], given):
         if not is_refused:
-            print(f"{name}: {at - 1} allocations of memory refused in turn")
+            print(f"{name}: {at - 1} memory allocations refused in turn")
             return [] if at > 10 and got == allowed[0] else [f"with {at - 1} allocations: {got!r}"]
         if got not in allowed:
-            return [f"growth {at} refused: {got!r}"]
+            return [f"allocation {at} refused: {got!r}"]
 
 
 def hour_of(start):
@@ -188,9 +188,9 @@ def stream_of(name, calls):
         elif is_refused and (status, error) == (1, b"dss: memory\n") and wanted.startswith(output):
             ends[len(found)] += 1
         else:
-            return [f"growth {at}, refused: {is_refused}: {got!r}"]
+            return [f"allocation {at}, refused: {is_refused}: {got!r}"]
     each = [faults[it] for it in range(len(calls))]
-    print(f"{name}: {at - 1} allocations of memory refused in turn: faults {each}, ends of the stream after so "
+    print(f"{name}: {at - 1} memory allocations refused in turn: faults {each}, ends of the stream after so "
           f"many answers {[ends[it] for it in range(len(calls))]}, without a trace {others}")
     return [] if all(each) else ["not each of the calls was answered with a fault"]
 
@@ -232,13 +232,13 @@ def stream_over(name, calls, step):
             ended = {b"": "done", b"dss: memory\n": "memory", STORE: "store", b"dss: db: fault\n": "close"}.get(error)
             is_right = found == wanted[: len(found)] and ended is not None and status == (ended != "done")
             if not is_right or not is_refused and (ended, faulted, stopped in found) != ("done", None, False):
-                return [f"growth {at}, refused: {is_refused}: {got!r}"]
+                return [f"allocation {at}, refused: {is_refused}: {got!r}"]
             ends["stopped" if stopped in found else "fault" if faulted is not None else ended] += 1
             run([BUILT, "run", *words])
             wrong = lost(database, calls, found, ended == "memory")
             if wrong:
-                return [f"growth {at}: {it}" for it in wrong]
-    print(f"{name} over a database: of {at} allocations of memory one in {step} refused: {dict(ends)}")
+                return [f"allocation {at}: {it}" for it in wrong]
+    print(f"{name} over a database: one of {step} of {at} memory allocations refused: {dict(ends)}")
     return [] if ends["fault"] and ends["store"] else [f"{dict(ends)}"]
 
 
@@ -264,7 +264,7 @@ def move(step=STEP):
                 (1, b"", b"dss: db: fault\n"): "close", (1, b"", b"dss: output\n"): "output",
             }.get(got)
             if ended is None or not is_refused and ended != "done":
-                return [f"growth {at}, refused: {is_refused}: {got!r}"]
+                return [f"allocation {at}, refused: {is_refused}: {got!r}"]
             ends[ended] += 1
             status, said, error = run(words)
             # A database that was not opened is as it was, or upgraded, if that could not be reported.
@@ -273,6 +273,6 @@ def move(step=STEP):
             wanted = before | {"meta": [(1, 2, before["meta"][0][2])]}
             kept = {it: rows[it] for it in before if it in rows} == wanted and not any(rows[it] for it in tables.LATER_TABLES)
             if not is_right or not kept or tables.wrong_in(database):
-                return [f"growth {at}: {got!r}, then {status}, {said!r}, {error!r}, {rows}"]
-    print(f"the move of a database: of {at} allocations of memory one in {step} refused: {dict(ends)}")
+                return [f"allocation {at}: {got!r}, then {status}, {said!r}, {error!r}, {rows}"]
+    print(f"the upgrade of a database: one of {step} of {at} memory allocations refused: {dict(ends)}")
     return [] if ends["store"] else [f"{dict(ends)}"]

@@ -113,7 +113,7 @@ class Client:
             return True
         if not found:
             wanted = [(it.status, it.body) for it in outcomes]
-            raise Failed(f"{call}: an acknowledged change is lost, or one that was not is there: {got}, wanted {wanted}")
+            raise Failed(f"{call}: an acknowledged change is lost, or an unacknowledged one is stored: got {got}, wanted {wanted}")
         self.keep(found)
         if self.airspace.serial > serials[0] or len(found) > 1 and got[0] in (200, 201) and call[0] in ("PUT", "DELETE"):
             self.acknowledged += 1

@@ -53,7 +53,7 @@ class Rounds:
                 return
             if not any("is ended: for" in text for it in self.hosts.hosts for _, text in it.events("dss", began - BOUND)):
                 break
-        raise Failed(f"{left} calls are not answered, while nothing failed: {dict(self.client.answers)}")
+        raise Failed(f"{left} calls got no response although nothing failed: {dict(self.client.answers)}")
 
     def again(self, hosts=None, since=None):
         """Waits until clients are served, over the proxies of hosts, and records how long that took."""
@@ -134,9 +134,9 @@ class Rounds:
             self.client.changes(self.direct(old), 1)
             time.sleep(1)
             if any(self.client.reads(self.direct(it)) for it in others):
-                raise Failed("a host serves that reaches no other")
+                raise Failed("a host serves that reaches no other host")
         if self.client.acknowledged != acknowledged:
-            raise Failed(f"{self.client.acknowledged - acknowledged} changes are acknowledged without a majority")
+            raise Failed(f"{self.client.acknowledged - acknowledged} changes were acknowledged without a majority")
         for it in others:
             it.join()
         self.again()
@@ -234,7 +234,7 @@ class Rounds:
         old.signal(signal.SIGSTOP, "dss")
         time.sleep(1 + self.draw.below(9))
         if any(self.client.reads(self.direct(it)) for it in self.hosts.others(old)):
-            raise Failed("another serves while the program stands still that has the lock")
+            raise Failed("another host serves while the paused program has the lock")
         old.signal(signal.SIGCONT, "dss")
         self.again(since=began)
         self.busy()
@@ -311,7 +311,7 @@ class Rounds:
         for began in (float(it[0]) for it in tries if it[1] == "0"):
             for listened, ended, host in self.served(since):
                 if listened < began and began + 2 * BOUND < min(ended, time.time()):
-                    raise Failed(f"host {host.number} went on to serve when another had the lock, at {began}")
+                    raise Failed(f"host {host.number} continued to serve when another had the lock, at {began}")
         return sum("fault 3 Store" in " ".join(it) for it in tries)
 
     def look_at_programs(self, since):
@@ -329,7 +329,7 @@ class Rounds:
         for watch in watches:
             for answered, old in watch.old(self.client.marks):
                 if not self.is_late(watch.host, answered):
-                    raise Failed(f"host {watch.host.number} answers at {answered} what is old by {old:.2f} s")
+                    raise Failed(f"host {watch.host.number} gave a response at {answered} that was old by {old:.2f} s")
                 self.late.append(answered - self.went_on[watch.host])
 
     def one(self, kind):
@@ -359,7 +359,7 @@ class Rounds:
             f" {time.time() - began:.0f} s", flush=True,
         )
         if not refused:
-            raise Failed("no standby tried")
+            raise Failed("no standby tried to open the database")
 
     def report(self):
         print(
