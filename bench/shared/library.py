@@ -1,5 +1,6 @@
-"""Measures SQLite's own library for the statements of the space, by bench/shared/space.c. It needs Debian's gcc and
-libsqlite3-dev."""
+"""Measures SQLite's own library for the statements of the space, by bench/shared/space.c.
+
+It needs Debian's gcc and libsqlite3-dev."""
 import pathlib
 import subprocess
 import sys

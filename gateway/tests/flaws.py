@@ -1,4 +1,6 @@
-"""Builds a gateway that contains each change of `flaws`, enabled one at a time by a number in the environment, and
+"""Checks that a changed gateway fails its properties.
+
+It builds a gateway that contains each change of `flaws`, enabled one at a time by a number in the environment, and
 checks that a property fails."""
 import os
 import pathlib

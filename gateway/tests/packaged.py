@@ -1,5 +1,6 @@
-"""The Debian package of the gateway that scripts/package makes: its paths, its program, its page, and the needs of its
-unit."""
+"""The Debian package of the gateway that scripts/package makes.
+
+Cases check its paths, its program, its page, and the needs of its unit."""
 import gzip
 import re
 import subprocess

@@ -1,5 +1,6 @@
-"""Runs all cases over a gateway and one that is built with the sanitizers. The last line is 'N passed, N failed', with
-', N skipped' after it if a case cannot run here.
+"""Runs all cases over a gateway and one that is built with the sanitizers.
+
+The last line is 'N passed, N failed', with ', N skipped' after it if a case cannot run here.
 
     try_all.py DIRECTORY SANITIZED-DIRECTORY [NAME..]
 

@@ -1,5 +1,6 @@
-"""The list of checks: each has a sentence, and the rules of docs/POLICY.md and the operations of the standard that it
-tests."""
+"""The list of checks.
+
+Each has a sentence, and the rules of docs/POLICY.md and the operations of the standard that it tests."""
 import dataclasses
 
 

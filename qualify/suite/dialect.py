@@ -1,5 +1,6 @@
-"""Volumes, times and bodies, in the form of this project's profile or of the standard. Also the places of a run, far
-out at sea."""
+"""Volumes, times and bodies, in the form of this project's profile or of the standard.
+
+Also the places of a run, far out at sea."""
 import calendar
 import math
 import random

@@ -1,5 +1,6 @@
-"""The forms of responses: which members each has, and of what kind. Those of the profile are exact; the standard
-permits further members."""
+"""The forms of responses: which members each has, and of what kind.
+
+Those of the profile are exact; the standard permits further members."""
 import re
 
 ID = re.compile(r"[0-9a-f]{8}-[0-9a-f]{4}-[0-9a-f]{4}-[0-9a-f]{4}-[0-9a-f]{12}")

@@ -1,5 +1,6 @@
-"""`serve` waits for each client only within a bound, and then aborts the connection. Meanwhile other clients do not
-wait."""
+"""`serve` waits for each client only within a bound, and then aborts the connection.
+
+Meanwhile other clients do not wait."""
 import concurrent.futures
 import json
 import socket

@@ -1,5 +1,4 @@
-"""Requests that arrive in chunks get the same responses as whole ones. Failing devices and broken protocol rules are
-reported.
+"""Requests in chunks get the responses of whole ones; device faults and broken protocol rules are reported.
 
 tests/devices/devices.c, loaded before the C library, makes standard input and output of the built program give and
 take few bytes a call, or fail."""

@@ -1,6 +1,8 @@
-"""A machine stops at each change of the database's files. Whatever the disk may have persisted, the next start finds
-the airspace before or after the change, and the one after it if the change was acknowledged. If a database of format
-1 is opened, its tables are found as they were, or in format 2."""
+"""A machine stops at each change of the database's files.
+
+Whatever the disk may have persisted, the next start finds the airspace before or after the change, and the one after
+it if the change was acknowledged. If a database of format 1 is opened, its tables are found as they were, or in
+format 2."""
 import pathlib
 import shutil
 

@@ -1,5 +1,7 @@
-"""Checks the files in deploy/ for Prometheus and Grafana: they parse, the service has each metric and label in them,
-each metric is shown, and each alert fires if it should and only then.
+"""Checks the files in deploy/ for Prometheus and Grafana.
+
+They parse, the service has each metric and label in them, each metric is shown, and each alert fires if it should
+and only then.
 
 If Debian's package prometheus is installed, its promtool parses each expression and tests the alerts. Otherwise a
 check of names, signs and brackets replaces it."""

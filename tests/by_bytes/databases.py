@@ -1,5 +1,6 @@
-"""An airspace in a database gets the same responses as in memory, and SQLite reads and checks its file. Other files are
-rejected."""
+"""An airspace in a database gets the same responses as in memory.
+
+SQLite reads and checks its file. Other files are rejected."""
 import collections
 import json
 import pathlib

@@ -1,6 +1,7 @@
-"""Each call on a database's files fails in turn. Each response is the plain policy's, or a fault that changed nothing,
-or says that the service has stopped. A stopped service answers every later call the same way. Acknowledged changes
-are found again."""
+"""Each call on a database's files fails in turn.
+
+Each response is the plain policy's, or a fault that changed nothing, or says that the service has stopped. A stopped
+service answers every later call the same way. Acknowledged changes are found again."""
 import collections
 import pathlib
 

@@ -1,5 +1,7 @@
-"""Compares the metrics of `serve` with what its clients saw: requests by operation, status and rule, their durations,
-and whether the database stores changes. They are on the admin port and on standard error."""
+"""Compares the metrics of `serve` with what its clients saw.
+
+These are requests by operation, status and rule, their durations, and whether the database stores changes. They are
+on the admin port and on standard error."""
 import collections
 import errno
 import re

@@ -1,5 +1,6 @@
-"""Rows on what the rules mean: which volumes meet, what each USS sees, changes of state and of versions, and the USS of
-a token."""
+"""Rows on what the rules mean.
+
+They cover which volumes meet, what each USS sees, changes of state and of versions, and the USS of a token."""
 import wire
 from scenes import ID, NOTHING_LISTED, NO_SUBSCRIPTION, Scene, area, cells, put, volume
 from wire import CONSTRAINTS, INTENTS

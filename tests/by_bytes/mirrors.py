@@ -1,5 +1,6 @@
-"""`serve` answers reads from its mirror in memory. It also works without memory for a mirror, and with tables that get
-none."""
+"""`serve` answers reads from its mirror in memory.
+
+It also works without memory for a mirror, and with tables that get none."""
 import collections
 import contextlib
 import sqlite3

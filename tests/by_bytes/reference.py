@@ -1,5 +1,6 @@
-"""Compares docs/OPERATE.md with the sources: the parts that scripts/reference makes, printed lines, bodies of the admin
-port, and alerts."""
+"""Compares docs/OPERATE.md with the sources.
+
+It compares the parts that scripts/reference makes, printed lines, bodies of the admin port, and alerts."""
 import re
 import runpy
 

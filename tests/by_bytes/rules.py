@@ -1,5 +1,4 @@
-"""What each rule denies and what it permits, one request a row, as the tables of rules and scopes in docs/POLICY.md
-say.
+"""What each rule denies and permits, one request a row, as in the tables of docs/POLICY.md.
 
 A row begins on an empty airspace with requests that succeed, and ends with the one whose whole response is compared.
 P15 has no row: no stream of a hundred requests reaches the maximum serial or version. Forms (P5) are in bodies.py,

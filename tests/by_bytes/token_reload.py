@@ -1,5 +1,6 @@
-"""The token file changes while `serve` runs: it applies to all later calls. If it is wrong, the previous one stays
-active."""
+"""The token file changes while `serve` runs, and applies to all later calls.
+
+If it is wrong, the previous one stays active."""
 import contextlib
 import os
 import time

@@ -1,7 +1,6 @@
-"""A client that draws changes and compares each response with the plain policy's, and watches that read on each host
-meanwhile.
+"""A client that draws changes and compares each response with the plain policy's.
 
-It also handles changes whose outcome it cannot know."""
+Watches read on each host meanwhile. It also handles changes whose outcome it cannot know."""
 import collections
 import copy
 import dataclasses

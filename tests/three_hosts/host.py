@@ -1,5 +1,6 @@
-"""The process that runs on a host in its own namespaces. It does with the units of deploy/hosts what systemd does,
-because systemd does not run there.
+"""The process that runs on a host in its own namespaces.
+
+It does with the units of deploy/hosts what systemd does, because systemd does not run there.
 
   host.py ROOM NUMBER PROGRAM DEPLOY     waits for a line, and runs the host
   host.py start|stop                     starts and stops glusterd there"""

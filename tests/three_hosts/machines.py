@@ -1,5 +1,6 @@
-"""Three hosts in namespaces of their own, on one switch, and functions that make them fail. All their processes end
-with this one."""
+"""Three hosts in namespaces of their own, on one switch, and functions that make them fail.
+
+All their processes end with this one."""
 import contextlib
 import ctypes
 import os

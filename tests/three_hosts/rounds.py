@@ -1,5 +1,6 @@
-"""Rounds in which hosts fail, drawn by a seed. Acknowledged changes stay, one host serves at a time, and tables are
-sound."""
+"""Rounds in which hosts fail, drawn by a seed.
+
+Acknowledged changes stay, one host serves at a time, and tables are sound."""
 import collections
 import signal
 import statistics

@@ -1,5 +1,6 @@
-"""Paths, methods and connections, as the profile defines them. A proxy in front of the service may answer them by its
-own rules."""
+"""Paths, methods and connections, as the profile defines them.
+
+A proxy in front of the service may answer them by its own rules."""
 from suite.check import check
 from suite.trial import AVAILABILITY, CONSTRAINTS, INTENTS, SUBSCRIPTIONS
 
