@@ -8,18 +8,18 @@ import re
 
 TOP = pathlib.Path(__file__).resolve().parent.parent
 # The lines from left to right: the party of each, and a note below it.
-WHO = [("Supplier A", "flies at nine"), ("dss", "who plans where, and in which version"), ("Supplier B", "wants to fly there, too")]
+WHO = [("USS A", "flies at nine"), ("dss", "stores who plans where, and the version"), ("USS B", "wants to fly there as well")]
 A, DSS, B = range(3)
 # Each message: from whom, to whom, and its text. The service's responses begin with their status.
 SAID = [
-    (A, DSS, "my flight a1: these cells, heights, times"),
-    (DSS, A, "201: kept. Its OVN is 0c8b.."),
+    (A, DSS, "my flight a1: cells, altitudes, times"),
+    (DSS, A, "201: stored. Its OVN is 0c8b.."),
     (B, DSS, "my flight b1: the same place and time"),
-    (DSS, B, "409: you must know the flight a1 of A"),
-    (B, A, "what do you fly there? (past dss)"),
-    (A, B, "the flight's details, and its OVN 0c8b.."),
+    (DSS, B, "409: your key lacks flight a1 of A"),
+    (B, A, "details of a1? (directly, not by dss)"),
+    (A, B, "the details of a1, and its OVN 0c8b.."),
     (B, DSS, "b1, planned around a1, with the key 0c8b.."),
-    (DSS, B, "201: kept. Its OVN is da59.."),
+    (DSS, B, "201: stored. Its OVN is da59.."),
 ]
 # The distances of lines and of rows, the margin, and the boxes above.
 LANE, ROW, MARGIN, TOP_BOX, WIDE_BOX = 330, 40, 140, 52, 250

@@ -17,7 +17,7 @@ serve::serve_clients
     client_connection::turn
       client_io::receive
       connection::advance
-        buffered::next_held
+        buffered::next_buffered
           rest::head_so_far
         call::ask
           routes::find
@@ -56,26 +56,26 @@ serve::serve_clients
 # The first function of each part of the path, and the name of the part.
 PARTS = {
     "serve::serve_clients": "all connections",
-    "event_loop::run_once": "a round of their calls",
-    "client_connection::turn": "a turn of one of them",
-    "connection::advance": "the next request, answered",
-    "buffered::next_held": "a whole request",
-    "call::ask": "the call that it makes",
-    "early::early": "the rules that look at the call alone",
-    "look_up::look_up": "what the call names, from the copy in memory",
-    "standing::standing": "the rules on what was found",
+    "event_loop::run_once": "an iteration of the loop",
+    "client_connection::turn": "a turn of one connection",
+    "connection::advance": "the next request and its response",
+    "buffered::next_buffered": "a whole request",
+    "call::ask": "the call of the request",
+    "early::early": "the stateless rules",
+    "look_up::look_up": "the entities of the call, from the mirror",
+    "standing::standing": "the stateful rules",
     "needed::needed_with": "the key",
-    "effects::prepare": "the change and the answer, made",
-    "changes::enqueue": "the change is seen, and waits",
-    "text::response_text": "the answer, held back",
-    "event_loop::commit_batch": "the end of the round",
+    "effects::prepare": "the change and the response, prepared",
+    "changes::enqueue": "the change is visible, and pending",
+    "text::response_text": "the response, deferred",
+    "event_loop::commit_batch": "the end of the batch",
     "batch::commit_batch": "one transaction, one sync",
-    "client_connection::tell": "and each is answered",
+    "client_connection::tell": "each response is sent",
 }
 # The columns: the crates of each, by the prefixes of their names.
 LANES = {
     "the wire": ("dss_", "admin_", "wire_", "token_conf"), "the service": ("service_",), "the rules": ("policy_", "entity_"),
-    "tables and copy": ("space_",),
+    "tables and mirror": ("space_",),
 }
 FUNCTION = re.compile(r"^( *)(?:pub(?:\(\w+\))? )?fn (\w+)", re.M)
 COMMENT = re.compile(r"((?:^ *//.*\n)+)(?: *#.*\n)*\Z", re.M)

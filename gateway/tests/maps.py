@@ -231,7 +231,7 @@ def the_service_gone_and_back(files, program):
         assert back["asked"] > gone["asked"]
 
 
-# ---- the data as the operator's port has it
+# ---- the data of the admin port
 
 @contextlib.contextmanager
 def over_whole(files, program, *options):

@@ -137,7 +137,7 @@ class Trial:
         self.a, self.b, self.b_processing, self.a_monitoring, self.b_monitoring, self.manager, self.arbiter = (
             self.suppliers[it] for it in ("A", "B", "B processing", "A monitoring", "B monitoring", "constraint manager", "arbiter"))
 
-    # ---- what is put
+    # ---- puts
 
     def id(self):
         """Returns a new id, by the seed of the run."""
@@ -163,7 +163,7 @@ class Trial:
             "extents": volume, "uss_base_url": URL.format(url), "notify_for_operational_intents": intents,
             "notify_for_constraints": constraints}
 
-    # ---- what comes
+    # ---- responses
 
     def taken(self, supplier, exchange):
         """Returns the response, after the expectations on every response."""
@@ -212,7 +212,7 @@ class Trial:
                 if isinstance(ovn, str) and len(ovn) >= 16:
                     self.knowledge.given[ovn] = supplier.uss, exchange.path
 
-    # ---- what is taken away
+    # ---- cleanup
 
     def may_be_kept(self, supplier, path):
         kind = next((it for it in (INTENTS, CONSTRAINTS, SUBSCRIPTIONS) if path.startswith(f"{it}/")), None)

@@ -64,7 +64,7 @@ def show(world, it):
             it["ovn"] = world.now[kind, it["id"]]
 
 
-# ---- what is shown
+# ---- what responses show
 
 
 @fault("an_ovn_is_shown_to_the_manager_alone", "a_constraint_is_created_and_read")
@@ -132,7 +132,7 @@ def dependents_hidden(world, asked, pass_on):
     return changed(pass_on(asked), lambda _, it: it.update({name: []}) if name in it else None)
 
 
-# ---- what is found and what is missing
+# ---- what queries find and denials list
 
 
 @fault("all_that_is_missing_is_told", "each_volume_needs_a_key")
@@ -212,7 +212,7 @@ def a_stale_availability(world, asked, pass_on):
     return answer
 
 
-# ---- who is told
+# ---- notifications
 
 
 def told(answer):
@@ -268,7 +268,7 @@ def an_update_that_moves_nothing(world, asked, pass_on):
     return pass_on(asked)
 
 
-# ---- what is denied
+# ---- denials
 
 
 @fault("only_the_manager_changes_an_intent", "constraints_have_scopes", "only_an_arbiter_sets", "a_state_takes_its_scope",

@@ -54,7 +54,7 @@ class Message:
         self.body = json.dumps(value, separators=(",", ":"), sort_keys=True, ensure_ascii=False).encode()
         self.set("Content-Length", len(self.body))
 
-    # ---- of a request
+    # ---- requests
 
     @property
     def method(self):
@@ -79,7 +79,7 @@ class Message:
         other.set("Authorization", field)
         return other
 
-    # ---- of an answer
+    # ---- responses
 
     @property
     def status(self):

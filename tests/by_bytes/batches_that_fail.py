@@ -44,7 +44,7 @@ def wrong_in(checked, name, told=()):
     return found
 
 
-# ---- wrong services, which are none but what they would tell and leave
+# ---- simulated wrong services
 
 
 def asked_of_policy(airspace, calls):
@@ -265,7 +265,7 @@ def full_disk():
     return found + ([] if service.ends["fault"] else ["never a fault"])
 
 
-# ---- memory lacks
+# ---- memory runs out
 
 
 def allocations_refused(step):

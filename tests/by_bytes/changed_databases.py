@@ -238,7 +238,7 @@ def lacking_tables():
             got = room.command("report")
             found += [f"format {number}, without all: {got!r}"] if got != (0, b"serial 0\n", b"") else []
             made = tables.rows_in(room.database)
-            found += [] if made == dict.fromkeys(sorted(tables.TABLES), []) | {"meta": [(1, 2, 0)]} else [f"made anew: {made}"]
+            found += [] if made == dict.fromkeys(sorted(tables.TABLES), []) | {"meta": [(1, 2, 0)]} else [f"a new database has {made}"]
     with Filled(1) as room:
         made = [tables.named(tables.LATER)[it] for it in tables.LATER_TABLES]
         for count in range(1, len(made) + 1):

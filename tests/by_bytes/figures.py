@@ -38,7 +38,7 @@ BROKEN = {
 MINUTE = 60
 
 
-# ---- what was asked
+# ---- requests
 
 
 def snake(word):
@@ -120,7 +120,7 @@ def drawn():
     return found + difference("rules that none broke", unbroken, UNBROKEN)
 
 
-# ---- the database does not keep what it is given
+# ---- the database fails to store changes
 
 
 class Full(AdminService):

@@ -109,7 +109,7 @@ def drawn():
         parts = LINE.fullmatch(line)
         got = parts and parts.groups()[1:5] + parts.groups()[6:7]
         found += difference(rule, got, (f"{number}", "-", "none", "-", rule))
-    found += [] if all(MOMENT.fullmatch(it) for it in moments) and moments == sorted(moments) else ["the moments do not rise"]
+    found += [] if all(MOMENT.fullmatch(it) for it in moments) and moments == sorted(moments) else ["the times do not rise"]
     for it in moments[:1] + moments[-1:]:
         second = datetime.datetime.fromisoformat(it.replace("Z", "+00:00")).timestamp()
         found += [] if began - 1 <= second <= ended + 1 else [f"{it} is no time of the calls"]

@@ -62,7 +62,7 @@ def refused(name, calls):
         is_whole = len(found) == len(calls)
         if found != wanted[: len(found)] or wrong or said not in (b"", *ENDS) or is_whole != (said == b""):
             why = first_difference(wanted, found)
-            return [f"{name}, growth {at}, refused: {mark.exists()}: {said!r}, {wrong}, {why}"]
+            return [f"{name}, allocation {at}, refused: {mark.exists()}: {said!r}, {wrong}, {why}"]
         ended = "stopped" if STOPPED in found else "fault" if faulted is not None else "done" if is_whole else "ended"
         if not mark.exists() and ended != "done":
             return [f"{name}: {found}"]

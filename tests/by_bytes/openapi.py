@@ -224,7 +224,7 @@ def validator_of(schema):
     return jsonschema.Draft4Validator(of_json_schema(schema))
 
 
-# ---- every example comes true
+# ---- the examples
 
 # Streams of steps: the operation, the token, and the example of the response. A step also names another example of the
 # body than the first, or other members, and path parameters if they are not the examples.
@@ -490,7 +490,7 @@ def scopes_open():
     return found
 
 
-# ---- what the schemas say of bodies and words
+# ---- bodies and path parameters by the schemas
 
 
 def malformed(requests):

@@ -68,7 +68,7 @@ class PurgeRoom(Room):
         return run(self.purge_arguments(until, now, database), more=more)
 
 
-# ---- what is to be left, by the rows of a database
+# ---- the rows that a purge leaves
 
 
 def purged_rows(rows, until):
@@ -291,7 +291,7 @@ def refused():
         return found + difference("another database", room.purge(UNTIL), (1, b"", NOT_A_DSS))
 
 
-# ---- beside the plain policy
+# ---- compared with the plain policy
 
 
 def stored_by(airspace):
@@ -331,7 +331,7 @@ def drawn():
     return found + [f"no {it} went" for it, count in went.items() if not count]
 
 
-# ---- in pieces
+# ---- in chunks
 
 
 def many(ended=ENDED, staying=STAYING):

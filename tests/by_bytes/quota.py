@@ -70,7 +70,7 @@ def counted_together():
         it.subscribe("the second", 200, 2)
         it.put("one too many", FAULT, 3)
         it.subscribe("a subscription too many", FAULT, 4)
-        it.put("another supplier's", 201, 5, of="b")
+        it.put("another USS's", 201, 5, of="b")
         it.put("an update", 200, 1, ovn=1)
         it.delete("a removal", 1, ovn=4)
         it.put("in its place", 201, 6)

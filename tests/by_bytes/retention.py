@@ -135,7 +135,7 @@ def once_a_minute():
         return found + difference("it then", started.ask([reading])[0][:12], b"HTTP/1.1 404")
 
 
-# ---- who looks ahead
+# ---- forward-looking calls
 
 
 def looks_ahead(airspace, until, call):
@@ -223,7 +223,7 @@ def pairs():
     return found + [f"few are answered {it}" for it in ("200", "201", "404", "409") if kinds[it] < 10]
 
 
-# ---- beside other options, and where it fails
+# ---- with other options, and failures
 
 
 def room_again():

@@ -66,7 +66,7 @@ def setting(uss, availability, old=""):
     return ask("PUT", f"{wire.AVAILABILITY}/{uss}", "tok-v", wire.compact(members))
 
 
-# ---- answers
+# ---- responses
 
 
 def seen(end, manager, serial=None, state="Accepted", version=1, times=(900, 2000), availability="Unknown", url=URL):
@@ -114,7 +114,7 @@ def missing(*references):
     return done(409, {"message": "P14 KEY", **lists})
 
 
-# ---- rows: the name, the requests that are done, the last one, and its answer
+# ---- rows: the name, the requests that succeed, the last one, and its response
 
 A1 = intent("a1", "tok-a")
 B1_ABOVE = intent("b1", "tok-b", volumes=(HIGH,))
@@ -171,7 +171,7 @@ ENTITIES = (
     ("P8: a constraint", (C1,), constraint("c1", "tok-d"), denied(8)),
     ("ids apart: a constraint of an intent's id", (A1,), constraint("a1", "tok-c"), put(seen("a1", "uss-c", 2, None))),
     (
-        "ids apart: the intent is deleted alone",
+        "ids apart: only the intent is deleted",
         (A1, constraint("a1", "tok-c"), removal(INTENTS, "a1", "tok-a", 1)),
         reading(CONSTRAINTS, "a1", "tok-c"),
         found(seen("a1", "uss-c", 2, None)),
@@ -195,7 +195,7 @@ ENTITIES = (
     ("P10: update of a constraint", (C1,), constraint("c1", "tok-c", over=2), denied(10)),
     ("P10: deletion of a constraint", (C1,), removal(CONSTRAINTS, "c1", "tok-c", 2), denied(10)),
     (
-        "P10: a version of another supplier",
+        "P10: a version of another USS",
         (setting("uss-a", "Down"),),
         setting("uss-b", "Down", wire.ovn(1)),
         denied(10),
@@ -318,7 +318,7 @@ KEYS = (
         put(seen("b1", "uss-b", 3, version=2), 200),
     ),
     (
-        "P14: all that is missing, by rising ids",
+        "P14: all that is missing, in the order of their ids",
         (intent("b2", "tok-b"), intent("a1", "tok-a", key=(1,)), constraint("c2", "tok-d"), C1),
         intent("b1", "tok-bc"),
         missing(SEEN_A1, seen("b2", "uss-b", 1), seen("c1", "uss-c", state=None), seen("c2", "uss-d", state=None)),
@@ -442,7 +442,7 @@ VIEWS = (
         found(seen("c1", "uss-c", state=None)),
     ),
     (
-        "all that meet, by rising ids",
+        "all that meet, in the order of their ids",
         (intent("b2", "tok-b"), B1_ABOVE, intent("a1", "tok-a", key=(1,)), C1),
         query(INTENTS, "tok-b", QUARTERS),
         listed(SEEN_A1, seen("b1", "uss-b", 2), seen("b2", "uss-b", 1)),

@@ -28,7 +28,7 @@ NAMES = ("operational_intent_reference", "constraint_reference")
 LAST, STEP = 1_500, 5
 
 
-# ---- what the tables say
+# ---- the contents of the tables
 
 
 def extent(bounds, cells):
@@ -96,7 +96,7 @@ def airspace_in(file):
         }
 
 
-# ---- what is shown
+# ---- the pages
 
 
 class SnapshotService(AdminService):
@@ -272,7 +272,7 @@ def without_mirror():
                     return [f"allocation {at} refused: {known!r}"]
             elif met:
                 break
-    return [] if met else ["no growth of memory was that of a copy"]
+    return [] if met else ["no memory allocation was one for the mirror"]
 
 
 def dropped_mirror():

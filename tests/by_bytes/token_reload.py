@@ -153,7 +153,7 @@ def gone_and_back():
         name.rename(away)
         time.sleep(0.2)
         away.rename(name)
-        found = service.tells("gone for a moment", b"")
+        found = service.tells("missing at one check", b"")
         name.rename(away)
         time.sleep(LOOKS)
         found += service.tells("gone", UNREAD)

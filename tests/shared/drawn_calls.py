@@ -187,7 +187,7 @@ class Drawn:
             del put["old_version"]
         return "PUT", target, "tok-v", self.body(put, flaw)
 
-    # ---- what bodies are made of
+    # ---- parts of bodies
 
     def put(self, kind, flaw, token, entity):
         if kind == SUBSCRIPTION:

@@ -49,7 +49,7 @@ class Malformed(Exception):
     """A path parameter or a body that does not parse."""
 
 
-# ---- words and bodies
+# ---- path parameters and bodies
 
 
 def need(holds):
@@ -230,7 +230,7 @@ def setting_of(body):
     return members["availability"], old
 
 
-# ---- what meets what
+# ---- which volumes meet
 
 
 def touch(cell, other):
@@ -258,7 +258,7 @@ def some_meet(extents, others):
     return any(meet(a, b) for a in extents for b in others)
 
 
-# ---- what is kept
+# ---- stored state
 
 
 @dataclasses.dataclass(frozen=True)
@@ -285,7 +285,7 @@ def has_ended(kept, until):
     return not any(it.times[1] > until for it in kept.put.extents)
 
 
-# ---- what is asked
+# ---- requests
 
 
 def route_of(target):
@@ -383,7 +383,7 @@ def call_of(tokens, method, target, authorization, body):
     return Call(methods, kind, work, uss, scopes, asked)
 
 
-# ---- the rules, each asked of a call that breaks none before it
+# ---- the rules, each evaluated on a call that breaks none before it
 
 # P1 ROUTE
 def breaks_route(_airspace, call):
@@ -498,7 +498,7 @@ BREAKS = {
 }
 
 
-# ---- answers
+# ---- responses
 
 
 @dataclasses.dataclass
@@ -544,7 +544,7 @@ class Airspace:
         fields = {2: (f"Allow: {', '.join(call.methods or ())}",), 3: ("WWW-Authenticate: Bearer",)}
         return Outcome(status, wire.compact(value), fields.get(rule, ()), rule)
 
-    # ---- what is kept
+    # ---- stored state
 
     def found(self, call):
         """Returns the entity or the subscription of a call, or None."""

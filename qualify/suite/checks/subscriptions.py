@@ -92,7 +92,7 @@ def a_subscription_is_deleted(it):
     found.need(found.ids == [], "nothing")
     it.a.delete(SUBSCRIPTIONS, id_, told["version"]).must(404, "P7 FOUND")
     answer = it.b.intent(it.id(), it.volume(site)).must(201)
-    answer.need(id_ not in answer.indexes, "nobody who has gone")
+    answer.need(id_ not in answer.indexes, "no deleted subscription")
 
 
 @check("The index rises by one with the creation, update and deletion of an intent that meets it, and not with a denial",
