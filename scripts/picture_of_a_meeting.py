@@ -1,63 +1,45 @@
-<<<<<<< HEAD
 """Two USSs whose flights conflict, as a text of SVG: who asks whom, and what comes back.
-=======
-"""Draws two USSs that conflict, as SVG text: the requests and the responses.
->>>>>>> b9b2a5f777ca50dd1ad79b75566fd2a7f4a4f77c
 
-The responses are read from examples/meeting.answers, those of the first three requests of that example. If their
-statuses differ from the drawn ones, nothing is drawn."""
+The answers of the service are looked up in examples/meeting.answers, of the first three requests of that example. Where their statuses
+are not those that are drawn, nothing is drawn."""
 import html
 import pathlib
 import re
 
 TOP = pathlib.Path(__file__).resolve().parent.parent
-<<<<<<< HEAD
 # the lines from left to right: whose each is, and what it is below that
 WHO = [("USS A", "flies at nine"), ("dss", "knows who plans where and when"), ("USS B", "plans to fly there, too")]
-=======
-# The lines from left to right: the party of each, and a note below it.
-WHO = [("USS A", "flies at nine"), ("dss", "stores who plans where, and the version"), ("USS B", "wants to fly there as well")]
->>>>>>> b9b2a5f777ca50dd1ad79b75566fd2a7f4a4f77c
 A, DSS, B = range(3)
-# Each message: from whom, to whom, and its text. The service's responses begin with their status.
+# each from whom, to whom, and what is said; what the service answers begins with its status
 SAID = [
-<<<<<<< HEAD
     (A, DSS, "my flight a1: these cells, altitudes, times"),
     (DSS, A, "201: stored. Its OVN is 0c8b.."),
     (B, DSS, "my flight b1: the same place and time"),
     (DSS, B, "409: you must know the flight a1 of A"),
     (B, A, "what do you fly there? (not through dss)"),
     (A, B, "the flight's details, and its OVN 0c8b.."),
-=======
-    (A, DSS, "my flight a1: cells, altitudes, times"),
-    (DSS, A, "201: stored. Its OVN is 0c8b.."),
-    (B, DSS, "my flight b1: the same place and time"),
-    (DSS, B, "409: your key lacks flight a1 of A"),
-    (B, A, "details of a1? (directly, not by dss)"),
-    (A, B, "the details of a1, and its OVN 0c8b.."),
->>>>>>> b9b2a5f777ca50dd1ad79b75566fd2a7f4a4f77c
     (B, DSS, "b1, planned around a1, with the key 0c8b.."),
     (DSS, B, "201: stored. Its OVN is da59.."),
 ]
-# The distances of lines and of rows, the margin, and the boxes above.
+# the distance of lines, of rows, the margins, and the boxes above
 LANE, ROW, MARGIN, TOP_BOX, WIDE_BOX = 330, 40, 140, 52, 250
 
 
 def looked_up():
-    """Returns the statuses and the OVNs of the first three responses of the example."""
+    """The statuses and the OVNs of the first three answers of the example."""
     answers = (TOP / "examples" / "meeting.answers").read_text().split("HTTP/1.1 ")[1:4]
     return [(it[:3], (re.search(r'"ovn":"(\w{4})', it) or [None, None])[1]) for it in answers]
 
 
 def check():
-    """Checks that the service responds this way."""
+    """Looks that the service answers so."""
     drawn = [(text[:3], (re.search(r"OVN is (\w{4})", text) or [None, None])[1]) for who, _, text in SAID if who == DSS]
     if drawn != looked_up():
-        raise ValueError(f"the picture has {drawn}, but examples/meeting.answers has {looked_up()}")
+        raise ValueError(f"drawn is {drawn}, and the example has {looked_up()}")
 
 
 def picture():
-    """Returns the text of the picture."""
+    """The text of the picture."""
     check()
     wide, high = MARGIN * 2 + LANE * 2, 32 + TOP_BOX + ROW * (len(SAID) + 1)
     x = [MARGIN + LANE * at for at in range(len(WHO))]

@@ -1,16 +1,8 @@
-<<<<<<< HEAD
 """The path of a PUT of an operational intent in `dss serve --db`, as a text of SVG, read from the sources.
 
 It draws a list of functions, each below one that calls it. The crate of a function, and what is said of it, is read
 from the sources. That the one calls the other, itself or by functions of its crate, is looked for there: otherwise
 nothing is drawn."""
-=======
-"""Draws the path of a PUT of an operational intent through `dss serve`, as SVG text, read from the sources.
-
-The picture shows a list of functions, each below one that calls it. The location of a function, and its description,
-are read from the sources. The script checks there that the one calls the other, itself or by functions of its crate.
-If it does not, nothing is drawn."""
->>>>>>> b9b2a5f777ca50dd1ad79b75566fd2a7f4a4f77c
 import functools
 import html
 import pathlib
@@ -20,13 +12,8 @@ import textwrap
 from picture_of_crates import LAYERS, layer_of
 
 TOP = pathlib.Path(__file__).resolve().parent.parent
-<<<<<<< HEAD
 # each a step in, below a function that calls it: the file and the function, after the crate where two have both
 PATH = """
-=======
-# Each line is indented below a function that calls it: the file and the function.
-WAY = """
->>>>>>> b9b2a5f777ca50dd1ad79b75566fd2a7f4a4f77c
 serve::serve_clients
   event_loop::run_once
     client_connection::turn
@@ -74,7 +61,6 @@ serve::serve_clients
         connection::release_deferred
         client_io::send
 """
-<<<<<<< HEAD
 # where a part of the path begins, and its title
 PARTS = {
     "serve::serve_clients": "All connections",
@@ -92,30 +78,9 @@ PARTS = {
     "event_loop::commit_batch": "The end of the batch",
     "space_sql::batch::apply_batch": "The SQL space: one transaction, one sync",
     "client_connection::tell": "The response, sent",
-=======
-# The first function of each part of the path, and the name of the part.
-PARTS = {
-    "serve::serve_clients": "all connections",
-    "event_loop::run_once": "an iteration of the loop",
-    "client_connection::turn": "a turn of one connection",
-    "connection::advance": "the next request and its response",
-    "buffered::next_buffered": "a whole request",
-    "call::ask": "the call of the request",
-    "early::early": "the stateless rules",
-    "look_up::look_up": "the entities of the call, from the mirror",
-    "standing::standing": "the stateful rules",
-    "needed::needed_with": "the key",
-    "effects::prepare": "the change and the response, prepared",
-    "changes::enqueue": "the change is visible, and pending",
-    "text::response_text": "the response, deferred",
-    "event_loop::commit_batch": "the end of the batch",
-    "batch::commit_batch": "one transaction, one sync",
-    "client_connection::tell": "each response is sent",
->>>>>>> b9b2a5f777ca50dd1ad79b75566fd2a7f4a4f77c
 }
-# The columns: the crates of each, by the prefixes of their names.
+# the columns: the crates of each, by how their names begin
 LANES = {
-<<<<<<< HEAD
     "server": ("dss_",), "wire": ("wire_", "token_conf"), "service": ("service_",), "policy": ("policy_", "entity_"),
     "quota": ("space_quota",), "mirror": ("space_mirror", "space_memory"), "SQL space": ("space_sql",),
 }
@@ -123,20 +88,11 @@ FUNCTION = re.compile(r"^( *)(?:pub(?:\(\w+\))? )?fn (\w+)", re.M)
 COMMENT = re.compile(r"((?:^ *//.*\n)+)(?: *#.*\n)*\Z", re.M)
 # a row, a column, a step within a column, a box, and what stands beside
 HIGH, LANE, STEP, WIDE, BOX, MARGIN, SAID = 36, 136, 9, 126, 30, 12, 470
-=======
-    "the wire": ("dss_", "admin_", "wire_", "token_conf"), "the service": ("service_",), "the rules": ("policy_", "entity_"),
-    "tables and mirror": ("space_",),
-}
-FUNCTION = re.compile(r"^( *)(?:pub(?:\(\w+\))? )?fn (\w+)", re.M)
-COMMENT = re.compile(r"((?:^ *//.*\n)+)(?: *#.*\n)*\Z", re.M)
-# A row, a column, a step within a column, a box, the margin, and the text beside.
-HIGH, LANE, STEP, WIDE, BOX, MARGIN, SAID = 38, 170, 12, 152, 30, 12, 640
->>>>>>> b9b2a5f777ca50dd1ad79b75566fd2a7f4a4f77c
 
 
 @functools.cache
 def functions():
-    """Returns the functions of the sources: their texts by crate, file and name, each with the comment above it."""
+    """The functions of the sources: of the crate, the file and the name their texts, each with the comment above it."""
     found = {}
     for path in sorted(TOP.glob("crates/*/src/*.rt")):
         text = path.read_text()
@@ -150,62 +106,40 @@ def functions():
 
 
 def place(step):
-<<<<<<< HEAD
     """The one place of a function in the sources: its crate, its file, its name."""
     *crate, file, name = step.split("::")
     found = [it for it in functions() if it[1:] == (file, name) and it[0] in (crate or [it[0]])]
-=======
-    """Returns the only location of a function in the sources: its crate, its file, its name."""
-    file, name = step.split("::")
-    found = [it for it in functions() if it[1:] == (file, name)]
->>>>>>> b9b2a5f777ca50dd1ad79b75566fd2a7f4a4f77c
     if len(found) != 1:
         raise ValueError(f"{len(found)} crates have a function {step}")
     return found[0]
 
 
 def said_of(step):
-<<<<<<< HEAD
     """The first sentence of what the source says of a function, or of the call of a space that it is."""
     comments = [functions()[it][0][0] for it in (place(step), *named("space_core", place(step)[2]))]
     comment = next((it for it in comments if it), "")
     text = " ".join(it.strip().lstrip("/").strip() for it in comment.splitlines()).replace("`", "")
     return re.split(r"(?<=[.]) ", text)[0]
-=======
-    """Returns the first sentence of a function's doc comment."""
-    comment = " ".join(it.strip().lstrip("/").strip() for it in functions()[place(step)][0][0].splitlines())
-    return re.split(r"(?<=[.]) ", comment)[0]
->>>>>>> b9b2a5f777ca50dd1ad79b75566fd2a7f4a4f77c
 
 
 @functools.cache
 def named(crate, name):
-    """Returns the functions of a crate with a name."""
+    """The functions of a crate of a name."""
     return [it for it in functions() if (it[0], it[2]) == (crate, name)]
 
 
 @functools.cache
 def spaces():
-<<<<<<< HEAD
     """The calls of the traits of spaces, and the crates of the spaces that `serve --db` puts on one another."""
     traits = {("space_core", it) for it in ("space", "batch", "group_commit")}
     calls = [name for crate, file, name in functions() if (crate, file) in traits]
-=======
-    """Returns the calls of the traits of spaces, and the crates of the space over tables and of its mirror."""
-    calls = [name for crate, file, name in functions() if crate == "space_core" and file in ("space", "batch", "group_commit")]
->>>>>>> b9b2a5f777ca50dd1ad79b75566fd2a7f4a4f77c
     sources = sorted(TOP.glob("crates/*/src/*.rt"))
     is_space = re.compile(r"Space for (QuotaSpace|Mirrored|MemorySpace|SqlSpace)\b")
     return calls, [it.parent.parent.name for it in sources if is_space.search(it.read_text())]
 
 
 def calls(above, below):
-<<<<<<< HEAD
     """Whether a function calls another one, itself or by others of its crate; a call of a space goes to any of them."""
-=======
-    """Returns whether a function calls another one, itself or by others of its crate. A call of a space goes to the one
-    over tables and to its mirror."""
->>>>>>> b9b2a5f777ca50dd1ad79b75566fd2a7f4a4f77c
     of_space, over = spaces()
     seen, open_ = set(), [place(above)]
     while open_:
@@ -221,13 +155,8 @@ def calls(above, below):
     return False
 
 
-<<<<<<< HEAD
 def path():
     """The steps of the path, each with the place of the step above it."""
-=======
-def way():
-    """Returns the steps of the path, each with its depth and the location of the step above it."""
->>>>>>> b9b2a5f777ca50dd1ad79b75566fd2a7f4a4f77c
     found, above = [], []
     for line in PATH.strip().splitlines():
         depth, step = (len(line) - len(line.lstrip())) // 2, line.strip()
@@ -241,7 +170,7 @@ def lane_of(crate):
 
 
 def laid():
-    """Returns where the box of each step begins: below its caller, and in its own column."""
+    """Of each step where its box begins: below what calls it, and in its own column."""
     x, inner = [], []
     for step, above in path():
         lane = lane_of(place(step)[0])
@@ -252,13 +181,8 @@ def laid():
 
 
 def picture():
-<<<<<<< HEAD
     """The text of the picture."""
     steps, x = path(), laid()
-=======
-    """Returns the text of the picture."""
-    steps, x = way(), laid()
->>>>>>> b9b2a5f777ca50dd1ad79b75566fd2a7f4a4f77c
     for step, above in steps:
         if above is not None and not calls(steps[above][0], step):
             raise ValueError(f"{steps[above][0]} does not call {step}")

@@ -1,21 +1,12 @@
-<<<<<<< HEAD
 """Which crate of the repository uses which, as a text of SVG, read from crates.txt.
 
 Each layer has a column and a colour. A crate stands above those that it uses. A line is left out if another way leads
 to the same crate, and so are crates for tests."""
-=======
-"""Draws which crate of the repository depends on which, as SVG text, read from crates.txt.
-
-A crate is right below the lowest crate that uses it. A crate that the program does not use yet is right above what
-it uses. A line is left out if another path leads to the same crate. Crates only for tests and measurements are left
-out."""
->>>>>>> b9b2a5f777ca50dd1ad79b75566fd2a7f4a4f77c
 import functools
 import pathlib
 
 TOP = pathlib.Path(__file__).resolve().parent.parent
 CRATES = TOP / "crates.txt"
-<<<<<<< HEAD
 FOR_TESTS = "test_"
 # The layers: of each how the names of its crates begin, the colour of their boxes and that of their lines. The first
 # layer that fits counts.
@@ -32,13 +23,6 @@ COLUMNS = "program", "wire", "service and policy", "entities and cells", "space 
 # a box, what lies between columns and between rows, the margin, and the line of titles
 WIDE, HIGH, BETWEEN, BELOW, MARGIN, TITLE = 122, 26, 46, 20, 28, 30
 # how often each crate is moved nearer its lines
-=======
-FOR_TESTS = {"test_grid_vectors", "test_libraries", "test_sql_memory"}
-# A box, the gaps between boxes and between rows, the margin, and the offset of every other row, so that fewer lines
-# cross boxes.
-WIDE, HIGH, BESIDE, BETWEEN, MARGIN, ASIDE = 118, 26, 14, 44, 12, 66
-# How often crates of a row are moved under their dependencies.
->>>>>>> b9b2a5f777ca50dd1ad79b75566fd2a7f4a4f77c
 TURNS = 8
 
 
@@ -48,50 +32,14 @@ def layer_of(crate):
 
 
 def uses():
-    """Returns the crates of the repository that each crate uses."""
+    """Of each crate, those of the repository that it uses."""
     lines = [it.split(":") for it in CRATES.read_text().splitlines() if it and not it.startswith("#")]
     of = {name.split()[0]: used.split() for name, used in lines}
-<<<<<<< HEAD
     return {name: [it for it in used if it in of] for name, used in of.items() if not name.startswith(FOR_TESTS)}
-=======
-    return {name: [it for it in used if it in of] for name, used in of.items() if name not in FOR_TESTS}
-
-
-def rows(below):
-    """Returns the crates by rows, lowest first: each right below the first that uses it, and near its dependencies."""
-
-    @functools.cache
-    def height(name):
-        return 1 + max(map(height, below[name]), default=-1)
-
-    highest = max(map(height, below))
-    above = {it: [other for other in below if it in below[other]] for it in below}
-
-    @functools.cache
-    def is_unused(name):
-        return height(name) < highest and all(map(is_unused, above[name]))
-
-    users = {it: [other for other in above[it] if not is_unused(other)] for it in below}
-
-    @functools.cache
-    def level(name):
-        if is_unused(name):
-            return max(map(level, below[name])) + 1
-        return min(map(level, users[name]), default=highest + 1) - 1
-
-    found = [[it for it in below if level(it) == at] for at in range(1 + highest)]
-    for _ in range(TURNS):
-        place = {it: at - len(row) / 2 for row in found for at, it in enumerate(row)}
-        for row in [*found[1:], *found[-2::-1]]:
-            near = {it: below[it] + users[it] for it in row}
-            row.sort(key=lambda it: sum(place[other] for other in near[it]) / len(near[it]))
-            place |= {it: at - len(row) / 2 for at, it in enumerate(row)}
-    return found
->>>>>>> b9b2a5f777ca50dd1ad79b75566fd2a7f4a4f77c
 
 
 def lines_of(below):
-    """Returns the pairs of a crate and one that it uses, to which no other path leads."""
+    """The pairs of a crate and one that it uses, to which no other way leads."""
 
     @functools.cache
     def all_below(name):
@@ -134,7 +82,7 @@ def path_of(above, low):
 
 
 def picture():
-    """Returns the text of the picture."""
+    """The text of the picture."""
     below = uses()
     row = rows(below)
     wide = MARGIN * 2 + len(COLUMNS) * (WIDE + BETWEEN) - BETWEEN

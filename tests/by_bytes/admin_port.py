@@ -92,15 +92,9 @@ def until_counted(started, name, number):
 
 
 def paths():
-<<<<<<< HEAD:tests/by_bytes/operators.py
-    """Each path by each method, and what is no request, also in pieces; a client that waits and one that is answered stay as they
-    are."""
-    no_path, no_method, no_request = b"no such path\n", b"method not allowed\n", b"invalid request\n"
-=======
     """Each route gets each method, and malformed requests, also in chunks. A waiting client and one that is being
     served are not disturbed."""
-    no_path, no_method, no_request = b"no such path\n", b"no such method\n", b"no such request\n"
->>>>>>> b9b2a5f777ca50dd1ad79b75566fd2a7f4a4f77c:tests/by_bytes/admin_port.py
+    no_path, no_method, no_request = b"no such path\n", b"method not allowed\n", b"invalid request\n"
     table = [
         ("health", HEALTH, said(200, SERVING)),
         ("health?", asks("GET", "/health?a=b"), said(200, SERVING)),

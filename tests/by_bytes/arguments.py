@@ -71,15 +71,9 @@ COMMAND_LINES = (
     (["nothing"], 2, ""),
     (["cell"], 2, ""),
     (["cell", "1", "3"], 2, ""),
-<<<<<<< HEAD:tests/by_bytes/words.py
-    # bytes that are no UTF-8
+    # Bytes that are not UTF-8.
     (["cell", "\udcff"], 2, "not valid UTF-8"),
     (["\udcc3("], 2, "not valid UTF-8"),
-=======
-    # Bytes that are not UTF-8.
-    (["cell", "\udcff"], 2, "not UTF-8"),
-    (["\udcc3("], 2, "not UTF-8"),
->>>>>>> b9b2a5f777ca50dd1ad79b75566fd2a7f4a4f77c:tests/by_bytes/arguments.py
     (["cell", "--now", "1", "3"], 2, ""),
     (["run"], 2, ""),
     (["run", "--now", "1", "r"], 2, "--tokens <FILE>"),
