@@ -6,7 +6,7 @@ use Rattle.admin_http.specs.Airspace.{AnswersAirspace}
 use Rattle.admin_http.specs.Answer.{text_of, type_of}
 
 pub refused : {T V E : Type 0} (items : V → List ℕ) (r : Result V E) (shown : Result T NoMirror) (s : T) → shown ≡ Ok s
-    → IfOk r (λ v. items v ≡ text_of 400 (type_of None) None (codes "no such query\n"))
+    → IfOk r (λ v. items v ≡ text_of 400 (type_of None) None (codes "invalid query\n"))
     → IfOk r (λ v. AnswersAirspace shown (items v))
 refused items (Ok v) shown s is h = subst (λ x. AnswersAirspace x (items v)) (sym is) (inr h)
 refused items (Err e) shown s is h = tt
