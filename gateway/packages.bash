@@ -1,8 +1,8 @@
-# Debian 12's packages of the gateway, for scripts that have set `top` to the folder of the repository.
+# Debian 12's packages of the gateway, for scripts that set `top` to the directory of the repository.
 
 packages=(g++ make libs2-dev libboost-dev nlohmann-json3-dev libtoml11-dev libssl-dev openssl curl)
 
-# Installs those of the packages given that are not here.
+# Installs the given packages that are missing.
 install_missing() {
     local name
     local -a missing=() as_root=()
@@ -13,11 +13,11 @@ install_missing() {
     [ "$(id -u)" = 0 ] || as_root=(sudo)
     "${as_root[@]}" apt-get update &&
         "${as_root[@]}" env DEBIAN_FRONTEND=noninteractive apt-get install -y --no-install-recommends "${missing[@]}" && return
-    printf 'gateway: the packages %s are not here and cannot be installed\n' "${missing[*]}"
+    printf 'gateway: packages %s are missing and apt-get cannot install them; install them by hand\n' "${missing[*]}"
     return 1
 } >&2
 
-# Builds the gateway in a folder, with what make takes besides.
+# Builds the gateway in a directory, with further arguments for make.
 build() {
     make --no-print-directory -C "$top/gateway" -j "${JOBS:-$(nproc)}" BUILD="$1" "${@:2}" >&2
 }

@@ -1,6 +1,6 @@
-# How the program is proved, built and kept, with the kit's command `rt`; for scripts that have read scripts/program.bash.
+# Functions that prove, build and store the program with the kit's command `rt`; for scripts that include scripts/program.bash.
 
-# Prints the crates that the program stands on, and itself.
+# Prints the program's crate and its dependencies.
 stands_on() {
     awk '
         /^[a-z]/ { name = $1; sub(/:$/, "", name); names[name]; sub(/[^:]*:/, ""); uses[name] = $0 }
@@ -16,9 +16,9 @@ stands_on() {
     ' "$top/crates.txt"
 }
 
-# Proves and builds the program by the gate's own command over a copy of its crates, without the edits that must fail, and
-# sets `made_here`. That proves them side by side, takes what earlier runs on this machine passed, and keeps what it passes
-# for the gate.
+# Proves and builds the program with the gate's command over a copy of its crates, without the mutants, and sets
+# `made_here`. The command proves crates in parallel, reuses what earlier runs on this machine passed, and stores its own
+# results for the gate.
 build_in_copy() {
     local name said status
     local -a crates
@@ -29,7 +29,7 @@ build_in_copy() {
     for name in "${crates[@]}"; do
         grep "^${name}[ :]" "$top/crates.txt"
     done >"$room/copy/crates.txt"
-    # in a group of its own, which can be stopped with all that it starts
+    # It has its own process group, which can be stopped with all its children.
     set -m
     (unset CDPATH && cd -- "$room/copy" && rt ci </dev/null) >"$said" 2>&1 &
     job=$!
@@ -43,13 +43,13 @@ build_in_copy() {
     [ "$status" = 0 ] || { cat -- "$said" && return 1; }
 }
 
-# Proves and builds the program over what `rt check` kept of the crates, and sets `made_here`.
+# Proves and builds the program incrementally, over the results of `rt check`, and sets `made_here`.
 build_in_place() {
     made_here=$top/crates/dss/out/dss
     (unset CDPATH && cd -- "$top/crates/dss" && rt run -- --help </dev/null >/dev/null)
 }
 
-# Keeps a program that was built from these sources, and sets `program`.
+# Stores a program that was built from these sources, and sets `program`.
 keep() {
     local kit
     kit=$(rt version) && make_place "$built" && cp -- "$1" "$place/dss" &&
@@ -57,12 +57,12 @@ keep() {
         put_in_place
 }
 
-# Proves and builds the program, if another run has not done so meanwhile, and sets `program`. All that it says goes to
+# Proves and builds the program, if another run has not done so meanwhile, and sets `program`. Its output goes to
 # standard error.
 build() {
     local made_here
     mkdir -p -- "$built" 2>/dev/null && exec 9<"$built" ||
-        { printf 'dss: %s cannot be written, so nothing can be built\n' "$built" && return 1; }
+        { printf 'dss: %s: cannot write there, so nothing is built\n' "$built" && return 1; }
     if ! flock -n 9; then
         printf 'dss: waiting for another run, which proves and builds the program\n'
         flock 9 || return 1
@@ -72,14 +72,14 @@ build() {
         exec 9<&-
         return
     fi
-    # over what was kept of an earlier check less is proved
+    # With the results of an earlier check less is proved.
     if [ -d "$top/crates/dss/out/incremental" ]; then
         build_in_place
     else
         build_in_copy
     fi || return 1
     [ "$(sum_of_sources)" = "$sources" ] ||
-        { printf 'dss: a source was changed while the program was built\n' && return 1; }
+        { printf 'dss: a source was changed while the program was built; run the command again\n' && return 1; }
     keep "$made_here" || return 1
     forget
     exec 9<&-

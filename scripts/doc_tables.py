@@ -3,7 +3,7 @@
 
   scripts/doc_tables.py
 
-Each table replaces what a document has between `<!-- NAME: made by scripts/doc_tables.py -->` and `<!-- end -->`."""
+Each table replaces a document's text between `<!-- NAME: made by scripts/doc_tables.py -->` and `<!-- end -->`."""
 import pathlib
 import re
 import sys
@@ -14,7 +14,7 @@ TOP = pathlib.Path(__file__).resolve().parent.parent
 SQL = [TOP / "crates" / "space_sql_schema" / "src" / it for it in ("make.rt", "upgrade.rt")]
 # The order in which the service checks, and the two failures.
 ORDER = (*(f"H{it}" for it in range(1, 6)), *(f"P{it}" for it in (*range(1, 14), 16, 17, 14, 15)), "fault", "stopped")
-# The schemas of bodies and their parts, and a name for what is no plain value.
+# The schemas of bodies and their parts, and a name for each that is no plain value.
 BODIES = {
     "Query": "a query", "IntentPut": "a put of an intent", "ConstraintPut": "a put of a constraint", "SubscriptionPut": "a put of a subscription",
     "AvailabilityPut": "a setting of an availability", "Volume": "a volume", "Area": "an area",
@@ -28,14 +28,14 @@ def document():
 
 
 def resolved(value, parts):
-    """A part of the document, or the part that it refers to."""
+    """Returns a part of the document, or the part that it refers to."""
     for name in value["$ref"].removeprefix("#/").split("/") if "$ref" in value else ():
         parts = parts[name]
     return parts if "$ref" in value else value
 
 
 def at(parts, path):
-    """The schema at a path below the schemas."""
+    """Returns the schema at a path below the schemas."""
     for name in ("components", "schemas", *path.split("/")):
         parts = parts[name]
     return parts
@@ -46,13 +46,13 @@ def table(head, rows):
 
 
 def value_of(schema):
-    """The bounds of a schema, in words."""
+    """Describes the bounds of a schema."""
     low, high = {"array": ("minItems", "maxItems"), "string": ("minLength", "maxLength"), "integer": ("minimum", "maximum")}[schema["type"]]
     return f"{schema.get(low, 0):,} to {schema[high]:,} {LETTERS.get(schema.get('pattern'), '')}".strip()
 
 
 def denials(parts):
-    """The status, the cause and the remedy of each message."""
+    """Returns the status, the cause and the remedy of each message."""
     found = {}
     holders = [it for path in parts["paths"].values() for it in path.values() if "responses" in it]
     responses = [(status, it) for holder in holders for status, it in holder["responses"].items()]
@@ -73,7 +73,7 @@ def table_of_denials(parts):
 
 
 def table_of_limits(parts, is_policy):
-    """All limits, or those beyond which a rule is broken."""
+    """Returns the table of all limits, or of those beyond which a rule is broken."""
     found, rows = denials(parts), []
     for limit in parts["x-limits"]:
         rule, beyond = limit["beyond"].split()[0], limit["beyond"]
@@ -84,7 +84,7 @@ def table_of_limits(parts, is_policy):
 
 
 def table_of_endpoints(parts):
-    """The methods of each path, with the scopes of which a token needs one."""
+    """Returns the table of the methods of each path, with the scopes of which a token needs one."""
     rows = []
     for path, item in parts["paths"].items():
         scopes = {}
@@ -95,7 +95,7 @@ def table_of_endpoints(parts):
 
 
 def form_of(schema, parts):
-    """The form of a member, in words and without bounds."""
+    """Describes the form of a member, without bounds."""
     if schema.get("$ref", "").split("/")[-1] in PARTS:
         return PARTS[schema["$ref"].split("/")[-1]]
     schema = resolved(schema, parts)
@@ -107,7 +107,7 @@ def form_of(schema, parts):
 
 
 def table_of_bodies(parts):
-    """The members of each body. Members that follow each other share a row if they are alike."""
+    """Returns the table of the members of each body. Members that follow each other share a row if they are alike."""
     rows = []
     for name, body in BODIES.items():
         schema, last = at(parts, name), None
@@ -122,7 +122,7 @@ def table_of_bodies(parts):
 
 
 def schema_in_sql(_parts):
-    """The statements that create the tables, a column or a rule on a line."""
+    """Returns the statements that create the tables, a column or a constraint on a line."""
     texts = [text for file in SQL for text in re.findall(r'"(CREATE (?:[^"\\]|\\\n)*)"', file.read_text())]
     lines = []
     for text in (re.sub(r"\\\n\s*", "", it) for it in texts):
@@ -140,7 +140,7 @@ TABLES = {
 
 
 def rewritten(name):
-    """The text of a document with its tables as they should be."""
+    """Returns the text of a document with its tables as they should be."""
     text, parts = (TOP / name).read_text(), document()
     for key, made in TABLES[name].items():
         before, begin, rest = text.partition(f"<!-- {key}: made by scripts/doc_tables.py -->\n")

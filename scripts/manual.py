@@ -1,5 +1,6 @@
-"""Prints the manual page of `dss`, its completions for bash, or the manual page of the gateway. They are made from the --help of
-the program, and the pages also from docs/OPERATE.md and gateway/README.md.
+"""Prints the manual page of `dss`, its completions for bash, or the manual page of the gateway.
+
+They are made from the --help of the program, and the pages also from docs/OPERATE.md and gateway/README.md.
 
   manual.py page|completions|gateway PROGRAM VERSION"""
 import pathlib
@@ -9,7 +10,7 @@ import sys
 
 TOP = pathlib.Path(__file__).resolve().parent.parent
 ABOUT = "discovery and synchronization service for drone traffic"
-# the parts of a document that repeat the --help of the program, and other comments
+# The parts of a document that repeat the --help of the program, and other comments.
 REPEATED, COMMENT = re.compile(r"(?s)<!-- (?:commands|options): .*?<!-- end -->\n"), re.compile(r"<!-- .*? -->\n")
 PICTURE, FENCED = re.compile(r"!\[[^\]]*\]\([^)]*\)\n"), re.compile(r"(?ms)^```\w*\n(.*?)^```\n")
 
@@ -19,30 +20,30 @@ def help_of(program, *words):
 
 
 def section(text, name):
-    """The lines of a section of a help text."""
+    """Returns the lines of a section of a help text."""
     found = re.search(rf"^{name}:\n((?:[ \t].*\n|\n(?=[ \t]))*)", text + "\n", re.M)
     return found[1].splitlines() if found else []
 
 
 def commands(program):
-    """The commands of the program except `help`."""
+    """Returns the commands of the program except `help`."""
     names = [it.split()[0] for it in section(help_of(program), "Commands") if re.match(r"  \w", it)]
     return [it for it in names if it != "help"]
 
 
 def options(text):
-    """The options of a help text, each with whether it takes a file or a directory."""
+    """Returns the options of a help text, each with whether it takes a file or a directory."""
     return {it[1]: it[2] in ("FILE", "DIR") for line in section(text, "Options") if (it := re.search(r"(--[\w-]+)(?: <(\w+)>)?", line))}
 
 
 def plain(text):
-    """Text of a document, with the signs escaped that have a meaning in a manual page."""
+    """Returns the text of a document with the special characters of manual pages escaped."""
     text = text.replace("\\", "\\e").replace("-", "\\-")
     return "\\&" + text if text.startswith((".", "'")) else text
 
 
 def words_of(text):
-    """A line of Markdown: code and strong text become bold, and a link becomes its text."""
+    """Converts a line of Markdown: code and strong text become bold, and a link becomes its text."""
     text = re.sub(r"\[([^\]]*)\]\([^)]*\)", r"\1", text)
     parts = re.split(r"\*\*|`", re.sub(r"\*\*(.*?)\*\*", lambda it: f"**{it[1].replace('`', '')}**", text))
     return "".join(rf"\fB{plain(it)}\fR" if at % 2 else plain(it) for at, it in enumerate(parts))
@@ -53,7 +54,7 @@ def as_it_is(lines):
 
 
 def page_of(document):
-    """A document in Markdown as sections of a manual page, without its title and the text above its first heading."""
+    """Converts a Markdown document to sections of a manual page, without its title and the text above its first heading."""
     page, block = [], []
     document = PICTURE.sub("", COMMENT.sub("", REPEATED.sub("", document)))
     document = FENCED.sub(lambda it: re.sub(r"(?m)^", "    ", it[1].rstrip("\n")) + "\n", document)
@@ -116,7 +117,7 @@ def completions(program, version):
     texts = {it: options(help_of(program, it)) for it in commands(program)}
     files = sorted({option for it in texts.values() for option, takes_file in it.items() if takes_file})
     cases = "\n".join(f"        {name}) words='{' '.join(it)}' ;;" for name, it in texts.items())
-    return f"""# completions for bash of dss {version}, made from what its --help says
+    return f"""# Completions for bash of dss {version}, made from its --help.
 _dss() {{
     local words='{' '.join([*texts, *options(help_of(program))])}' now=${{COMP_WORDS[COMP_CWORD]}}
     case ${{COMP_WORDS[COMP_CWORD-1]}} in

@@ -1,8 +1,8 @@
-// Command plain is a service of the same routes and rules as dss, written the plain way, over SQLite's own C library: what
-// bench/compare measures dss beside. It serves a database of format 2 (docs/DATABASE.md) by docs/POLICY.md.
+// Command plain is a plain service over SQLite's own C library, with the routes and rules of dss. bench/compare compares dss
+// with it. It serves a database of format 2 (docs/DATABASE.md) by docs/POLICY.md.
 //
-// Left out is what is not measured: the routes of constraints and subscriptions, constraints that a key needs, the making of
-// tables, and what no client of good will sends: the rules H1 to H5, escapes in paths, members of a wrong case, and wrong
+// It lacks what is not measured: the routes of constraints and subscriptions, constraints that a key needs, the creation of
+// tables, and the handling of malformed requests: the rules H1 to H5, escapes in paths, members of a wrong case, and wrong
 // members that are ignored.
 package main
 
@@ -28,20 +28,20 @@ const (
 
 const mostBody = 1 << 20
 
-// A caller is whom a token stands for.
+// A caller is the owner of a token.
 type caller struct {
 	uss    string
 	scopes map[string]bool
 }
 
-// A request is one whose route and caller are known.
+// A request has a known route and caller.
 type request struct {
 	caller caller
-	words  []string // those of the path that are no names of the route
+	words  []string // the path parameters
 	body   []byte
 }
 
-// An operation is what a method does on a route: who may ask for it, and what answers.
+// An operation is a method of a route: the scopes that permit it, and its handler.
 type operation struct {
 	scopes []string
 	serve  func(*service, request) (int, any, error)
@@ -74,7 +74,7 @@ var (
 	}
 )
 
-// A denial is an error that names the rule which was broken.
+// A denial is an error that names the broken rule.
 type denial struct {
 	status  int
 	Message string `json:"message"`
@@ -82,7 +82,7 @@ type denial struct {
 
 func (d *denial) Error() string { return d.Message }
 
-// A lack is a denial for want of a key.
+// A lack is a denial for an incomplete key.
 type lack struct {
 	Message     string      `json:"message"`
 	Constraints []reference `json:"missing_constraints"`
@@ -115,7 +115,7 @@ func (s *service) ServeHTTP(w http.ResponseWriter, r *http.Request) {
 	w.Write(text)
 }
 
-// answer judges the rules P1 to P4, and serves the request.
+// answer evaluates the rules P1 to P4, and serves the request.
 func (s *service) answer(r *http.Request) (int, any, error) {
 	path, _, _ := strings.Cut(r.RequestURI, "?")
 	for _, it := range routes {
@@ -145,7 +145,7 @@ func (s *service) answer(r *http.Request) (int, any, error) {
 	return 0, nil, &denial{http.StatusNotFound, "P1 ROUTE"}
 }
 
-// bearer gives the token in a field Authorization.
+// bearer returns the token in a field Authorization.
 func bearer(field string) string {
 	scheme, token, _ := strings.Cut(field, " ")
 	if !strings.EqualFold(scheme, "bearer") {
@@ -160,7 +160,7 @@ var (
 	scopeWord  = regexp.MustCompile(`"([^"]*)"`)
 )
 
-// readTokens reads the salt of a token file, and the callers by their tokens. Of TOML it knows what these files have.
+// readTokens reads the salt of a token file, and the callers by their tokens. It supports only the TOML of these files.
 func readTokens(file string) (string, map[string]caller, error) {
 	text, err := os.ReadFile(file)
 	if err != nil {

@@ -39,14 +39,14 @@ var (
 	errLimit       = &denial{http.StatusServiceUnavailable, "P15 LIMIT"}
 )
 
-// A service answers by its store.
+// A service executes requests over its store.
 type service struct {
 	store  *store
 	tokens map[string]caller
 	salt   string
 }
 
-// A reference is what a supplier sees of an intent.
+// A reference is a USS's view of an intent.
 type reference struct {
 	ID           string `json:"id"`
 	Manager      string `json:"manager"`
@@ -60,7 +60,7 @@ type reference struct {
 	Version      int64  `json:"version"`
 }
 
-// seenBy gives the reference of an intent that a supplier is shown.
+// seenBy returns the reference of an intent that a USS sees.
 func (i *intent) seenBy(uss string) reference {
 	seen := reference{i.id, i.manager, "", states[i.state], i.subscription, i.timeEnd, i.timeStart,
 		availabilities[i.availability], i.url, i.version}
@@ -70,7 +70,7 @@ func (i *intent) seenBy(uss string) reference {
 	return seen
 }
 
-// seenAll gives the references of intents by rising ids.
+// seenAll returns the references of intents in the order of their ids.
 func seenAll(intents []*intent, uss string) []reference {
 	sort.Slice(intents, func(a, b int) bool { return intents[a].id < intents[b].id })
 	references := make([]reference, len(intents))
@@ -92,7 +92,7 @@ type notified struct {
 	url   string
 }
 
-// A changed is what a change of an intent is answered.
+// A changed is the response to a change of an intent.
 type changed struct {
 	Reference   reference `json:"operational_intent_reference"`
 	Subscribers []notice  `json:"subscribers"`
@@ -113,7 +113,7 @@ func changedTo(i *intent, uss string, all []notified) changed {
 	return changed{i.seenBy(uss), notices}
 }
 
-// isVisible says whether a text has so many bytes, all of them visible.
+// isVisible returns whether a text has that many bytes, all of them visible.
 func isVisible(text string, least, most int) bool {
 	for at := 0; at < len(text); at++ {
 		if text[at] < '!' || text[at] > '~' {
@@ -153,7 +153,7 @@ func readCell(token string) (cell, bool) {
 	return cell{shortest, int64((id - last) >> 35), int64((id + last - 1) >> 35)}, true
 }
 
-// An extent is a volume or an area as it is sent.
+// An extent is a volume or an area in a request.
 type extent struct {
 	Cells    []string `json:"cells"`
 	AltLower *int64   `json:"altitude_lower"`
@@ -162,13 +162,13 @@ type extent struct {
 	End      *int64   `json:"time_end"`
 }
 
-// A volume is one or an area, which has the least or the greatest number where it has no bound.
+// A volume is a volume or an area, which has the min or max number for a missing bound.
 type volume struct {
 	cells                                  []cell
 	altLower, altUpper, timeStart, timeEnd int64
 }
 
-// read gives what is sent as a volume, or as an area, which may lack bounds.
+// read returns the volume of an extent; an area may lack bounds.
 func (e *extent) read(mayLack bool) (volume, bool) {
 	v := volume{nil, math.MinInt64, math.MaxInt64, math.MinInt64, math.MaxInt64}
 	if e == nil || len(e.Cells) < 1 || len(e.Cells) > 512 {
@@ -205,9 +205,9 @@ func (v volume) covers() (count int64) {
 	return count
 }
 
-// A put is what an intent is to be.
+// A put is the new content of an intent.
 type put struct {
-	id, ovn, url, subscription string // no OVN where it creates
+	id, ovn, url, subscription string // no OVN for a creation
 	volumes                    []volume
 	state                      int
 	key                        map[string]bool
@@ -256,7 +256,7 @@ func (s *service) ovn(serial int64) string {
 	return fmt.Sprintf("%x", sha256.Sum256([]byte(fmt.Sprintf("dss-ovn|%s|%d", s.salt, serial))))
 }
 
-// A setting is what a reading of an availability is answered.
+// A setting is the response to a read of an availability.
 type setting struct {
 	Status struct {
 		Availability string `json:"availability"`
@@ -409,7 +409,7 @@ func (s *service) deleteIntent(r request) (int, any, error) {
 	return http.StatusOK, answer, err
 }
 
-// own gives an intent and its volumes, where it is there, the caller's own, and of that OVN.
+// own returns an intent and its volumes, if it exists, is the caller's own, and has that OVN.
 func (s *service) own(id, ovn string, c caller) (*intent, []volume, error) {
 	found, err := s.store.intent(id)
 	switch {
@@ -426,7 +426,7 @@ func (s *service) own(id, ovn string, c caller) (*intent, []volume, error) {
 	return found, volumes, err
 }
 
-// keep makes an intent what it is to be: a new one, whose version is 0, or one that had these volumes.
+// keep stores an intent: a new one, whose version is 0, or one that had these volumes.
 func (s *service) keep(i *intent, p put, c caller, old []volume) (changed, error) {
 	if err := s.judge(i, p, c); err != nil {
 		return changed{}, err
@@ -456,7 +456,7 @@ func (s *service) keep(i *intent, p put, c caller, old []volume) (changed, error
 	return changedTo(i, c.uss, told), s.store.put(i, p.volumes)
 }
 
-// judge tests the rules from P11 on.
+// judge evaluates the rules from P11 on.
 func (s *service) judge(i *intent, p put, c caller) error {
 	role := strategic
 	if p.state >= nonconforming {
@@ -500,7 +500,7 @@ func mayBecome(old, new int) bool {
 	return new != accepted
 }
 
-// judgeKey tests P14: whether the key of a put has all that it needs.
+// judgeKey evaluates P14: whether the key of a put has all that it needs.
 func (s *service) judgeKey(p put, c caller) error {
 	met, err := s.store.meeting(p.volumes)
 	if err != nil {

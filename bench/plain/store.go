@@ -13,21 +13,21 @@ import (
 // The level at which cells are compared.
 const level = 13
 
-// A store is the tables, over the one connection that there is; its mutex is held while that is used.
+// A store is the tables, over a single connection. Its mutex is held while that is used.
 type store struct {
 	mutex      sync.Mutex
 	conn       *sql.Conn
 	statements map[string]*sql.Stmt
 }
 
-// An intent has the present availability of its manager with it, and the zero id where it names no subscription.
+// An intent includes the current availability of its manager, and the zero id if it references no subscription.
 type intent struct {
 	num, version, serial, timeStart, timeEnd int64
 	state, availability                      int
 	id, manager, ovn, url, subscription      string
 }
 
-// openStore opens a database for this process alone, as dss does: what was answered as done is on the disk.
+// openStore opens a database exclusively, as dss does: acknowledged changes are on the disk.
 func openStore(file string) (*store, error) {
 	const settings = "?mode=rw&_journal=WAL&_sync=FULL&_locking=EXCLUSIVE&_fk=1&_mutex=no&_cache_size=-65536"
 	db, err := sql.Open("sqlite3", "file:"+file+settings)
@@ -38,7 +38,7 @@ func openStore(file string) (*store, error) {
 	return &store{conn: conn, statements: make(map[string]*sql.Stmt)}, err
 }
 
-// prepared gives the statement of a text, which is prepared once.
+// prepared returns the statement of a text, which is prepared once.
 func (s *store) prepared(text string) (*sql.Stmt, error) {
 	if kept := s.statements[text]; kept != nil {
 		return kept, nil
@@ -58,7 +58,7 @@ func (s *store) exec(text string, values ...any) error {
 	return err
 }
 
-// one reads the one row of a statement, and says whether there is one.
+// one reads the only row of a statement, and returns whether it exists.
 func (s *store) one(text string, into []any, values ...any) (bool, error) {
 	statement, err := s.prepared(text)
 	if err != nil {
@@ -71,7 +71,7 @@ func (s *store) one(text string, into []any, values ...any) (bool, error) {
 	return err == nil, err
 }
 
-// each gives the rows of a statement to a function.
+// each calls a function with the rows of a statement.
 func (s *store) each(text string, row func(*sql.Rows) error, values ...any) error {
 	statement, err := s.prepared(text)
 	if err != nil {
@@ -90,7 +90,7 @@ func (s *store) each(text string, row func(*sql.Rows) error, values ...any) erro
 	return rows.Err()
 }
 
-// transaction makes a change in a transaction, which is taken back where that fails.
+// transaction makes a change in a transaction, which is rolled back if that fails.
 func (s *store) transaction(change func() error) error {
 	s.mutex.Lock()
 	defer s.mutex.Unlock()
@@ -125,7 +125,7 @@ func (s *store) setAvailability(uss string, state int, version string) error {
 	return s.exec("INSERT OR REPLACE INTO availability (uss, state, version) VALUES (?, ?, ?)", uss, state, version)
 }
 
-// subscriptionManager gives the manager of a subscription, or nothing.
+// subscriptionManager returns the manager of a subscription, or nothing.
 func (s *store) subscriptionManager(id string) (manager string, err error) {
 	_, err = s.one("SELECT manager FROM subscription WHERE id = ?", []any{&manager}, id)
 	return manager, err
@@ -144,7 +144,7 @@ func (i *intent) columns() []any {
 		&i.timeStart, &i.timeEnd}
 }
 
-// intent gives the intent of an id, or nil.
+// intent returns the intent of an id, or nil.
 func (s *store) intent(id string) (*intent, error) {
 	var i intent
 	found, err := s.one("SELECT"+columns+" FROM entity e"+besides+" WHERE e.kind = 0 AND e.id = ?", i.columns(), id)
@@ -154,7 +154,7 @@ func (s *store) intent(id string) (*intent, error) {
 	return &i, nil
 }
 
-// volumes gives the volumes of an intent.
+// volumes returns the volumes of an intent.
 func (s *store) volumes(i *intent) (volumes []volume, err error) {
 	const text = `
 		SELECT v.place, v.alt_lower, v.alt_upper, v.time_start, v.time_end, c.token, c.lo, c.hi
@@ -175,8 +175,8 @@ func (s *store) volumes(i *intent) (volumes []volume, err error) {
 	return volumes, err
 }
 
-// ranges gives where cells are looked for that a volume touches, as lists in JSON: the ranges in which such a cell begins, and
-// those of the cells around the volume's own, each once.
+// ranges returns where to search for the cells that a volume touches, as lists in JSON: the ranges in which such a cell begins,
+// and those of the cells around the volume's own, each once.
 func (v volume) ranges() (inside, around string) {
 	var begins, holds [][2]int64
 	seen := make(map[[2]int64]bool)
@@ -196,7 +196,7 @@ func (v volume) ranges() (inside, around string) {
 	return string(insideText), string(aroundText)
 }
 
-// meeting gives the intents that meet one of some volumes.
+// meeting returns the intents that meet one of some volumes.
 func (s *store) meeting(volumes []volume) (found []*intent, err error) {
 	const text = `
 		WITH touched (entity, volume) AS (
@@ -227,7 +227,7 @@ func (s *store) meeting(volumes []volume) (found []*intent, err error) {
 	return found, nil
 }
 
-// notify raises the indexes of the subscriptions for intents that meet one of some volumes, and gives them.
+// notify raises the indexes of the subscriptions for intents that meet one of some volumes, and returns them.
 func (s *store) notify(volumes []volume) (found []notified, err error) {
 	const text = `
 		WITH touched (subscription) AS (
@@ -262,12 +262,12 @@ func (s *store) notify(volumes []volume) (found []notified, err error) {
 	return found, nil
 }
 
-// remove takes an intent away; what goes with its row goes by the tables' own rules.
+// remove deletes an intent. The tables' own rules delete its rows in other tables.
 func (s *store) remove(i *intent) error {
 	return s.exec("DELETE FROM entity WHERE num = ?", i.num)
 }
 
-// put keeps an intent with its volumes: a new one, of version 1, or one that is there.
+// put stores an intent with its volumes: a new one, of version 1, or an existing one.
 func (s *store) put(i *intent, volumes []volume) (err error) {
 	if i.version == 1 {
 		i.num = i.serial

@@ -1,4 +1,4 @@
-"""What is kept and what is asked where `dss serve` is measured beside the plain service (bench/compare)."""
+"""The stored entities and the requests for comparing `dss serve` with the plain service (bench/compare)."""
 import time
 
 import tables
@@ -6,11 +6,12 @@ import wire
 from places import NARROW, cell, wide_cell
 from scene import id_of
 
-# as many of the intents that are kept lie in a cell alone as with 15 and with 127 others
+# As many of the stored intents are alone in a cell as with 15 and with 127 others.
 CROWDS = (1, 16, 128)
-# how many a creation meets
+# The number of intents that a creation meets.
 KEYS = (0, 1, 16, 128)
-# wide cells with those that a creation meets, one for each of KEYS; what else is kept ends below them
+# Wide cells with the intents that a creation meets, one for each of KEYS. All other stored intents are in cells below
+# them.
 WIDE = {count: at for at, count in enumerate(KEYS, 8)}
 ALTITUDES = (0, 1_000_000)
 NOW = int(time.time())
@@ -19,15 +20,15 @@ URL = "https://a.example"
 BEARER, OTHERS, ARBITER = "Bearer tok-a", "Bearer tok-b", "Bearer tok-v"
 
 
-class Kept:
-    """The rows of a database with so many intents, and what is known of them."""
+class Stored:
+    """The rows of a database with that many intents, and their properties."""
 
     def __init__(self, size):
         self.rows = {"entity": [], "volume": [], "cell": []}
         self.rows["availability"] = [("uss-b", 1, wire.ovn(1))]
-        # by how many a creation meets, the OVNs of these
+        # The OVNs of the intents that a creation meets, by their number.
         self.keys = {count: self.keep(count, wide_cell(wide), wide * NARROW, NARROW) for count, wide in WIDE.items()}
-        # by how many lie in them, the places of cells
+        # The positions of cells, by the number of their intents.
         self.places = {count: [] for count in CROWDS}
         place, share = 0, (size - self.serial()) // len(CROWDS)
         for count in reversed(CROWDS):
@@ -40,7 +41,7 @@ class Kept:
         return len(self.rows["entity"])
 
     def keep(self, count, token, lo, width):
-        """Keeps so many intents in a cell, at all altitudes; answers their OVNs."""
+        """Stores that many intents in a cell, at all altitudes; returns their OVNs."""
         ovns = []
         for _ in range(count):
             num = self.serial() + 1
@@ -56,7 +57,7 @@ class Kept:
 
 
 def request(method, target, by, body=None):
-    """A request as clients of Go's library have to send it: with a field Host."""
+    """Returns a request in the form that clients of Go's library must send: with a field Host."""
     text = None if body is None else wire.compact(body).encode()
     return wire.request(method, target, by, text, ("Host: 127.0.0.1",))
 
@@ -70,7 +71,7 @@ def query(body, by=BEARER):
 
 
 def put(target, token, altitudes=(0, 0), key=(), by=BEARER, **more):
-    """The request that puts an intent in a cell."""
+    """Returns the request that puts an intent in a cell."""
     names = ("altitude_lower", "altitude_upper", "time_start", "time_end")
     volume = {"cells": [token], **dict(zip(names, (*altitudes, *TIMES)))}
     body = {"extents": [volume], "state": "Accepted", "uss_base_url": URL, "key": list(key), **more}
@@ -90,15 +91,16 @@ def setting(uss, **body):
 
 
 def creation(kept, number, count):
-    """The creation of an intent of that number that meets so many: in a cell of its own among all NARROW numbers in turn."""
+    """Returns the creation of an intent of that number that meets that many: in a cell of its own among all NARROW
+    numbers in turn."""
     place = WIDE[count] * NARROW + number * 7919 % NARROW
     return put(id_of(number), cell(place), key=kept.keys[count])
 
 
 def to_compare():
-    """A small database, and requests that both services have to answer alike."""
-    kept = Kept(600)
-    # three that are told of intents in one cell
+    """Returns a small database, and requests to which both services must respond alike."""
+    kept = Stored(600)
+    # Three subscriptions to intents in one cell.
     told = ((1, "uss-a", URL), (2, "uss-b", "https://b.example"), (3, "uss-b", URL))
     place = WIDE[0] * NARROW - 1
     kept.rows["subscription"] = [
@@ -107,7 +109,7 @@ def to_compare():
     kept.rows["subscription_cell"] = [(it, 0, cell(place), place, place) for it, _, _ in told]
     few, free, watched = cell(kept.places[16][0]), cell(place - 1), cell(place)
     new, second = id_of(1_001), id_of(1_002)
-    # the OVNs of changes from the first on
+    # The OVNs of changes from the first on.
     first, next_, third, fourth, fifth = (wire.ovn(kept.serial() + it) for it in range(1, 6))
     return kept, [
         *(availability(uss, by) for uss in ("uss-b", "uss-z", "uss/z") for by in (BEARER, OTHERS, None)),

@@ -1,10 +1,10 @@
-// One client of a service on the loopback: sends requests one after the other, each once the last was answered, and prints the
-// nanoseconds that all took.
+// One client of a service on the loopback: it sends each request after the response to the previous one, and prints the
+// nanoseconds of all.
 //
 //   client PORT FILE
 //
-// FILE has for each request a line with its length, and its bytes. The connection is kept, and made anew after an answer with
-// `Connection: close`. An answer other than of success ends the run.
+// FILE has for each request a line with its length, and its bytes. The client stays connected, and reconnects after a response
+// with `Connection: close`. A response other than success ends the run.
 #include <arpa/inet.h>
 #include <netinet/tcp.h>
 #include <stdio.h>
@@ -43,7 +43,7 @@ static void send_all(const char *bytes, size_t length) {
     }
 }
 
-// Reads an answer; says whether the connection closes after it.
+// Reads a response; returns whether the connection closes after it.
 static int read_answer(void) {
     size_t have = 0, whole = 0;
     while (whole == 0 || have < whole) {

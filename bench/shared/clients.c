@@ -1,11 +1,11 @@
-// Many clients of a service on the loopback, each of which sends its next request once its last was answered. Prints how many requests
-// were answered, the nanoseconds that it took, and of the times of the answers, in microseconds, the middle one, that of 99 in 100 and
-// the greatest.
+// Many clients of a service on the loopback: each sends its next request after the response to the previous one.
+// The program prints the number of responses, the nanoseconds of all, and the median, 99th percentile and maximum of the times of
+// responses, in microseconds.
 //
 //   clients PORT CLIENTS SECONDS FILE
 //
-// FILE has for each request a line with its length, and its bytes; whoever is free takes the next one. A connection is kept, and made
-// anew after an answer with `Connection: close`. An answer other than of success ends the run, and so does the last request.
+// FILE has for each request a line with its length, and its bytes. The next free client takes the next one. Clients stay connected,
+// and reconnect after a response with `Connection: close`. A response other than success ends the run, and so does the last request.
 #include <arpa/inet.h>
 #include <netinet/tcp.h>
 #include <poll.h>
@@ -64,7 +64,7 @@ static int ask(int at) {
     return 1;
 }
 
-// Reads what has come; 1 once the answer is whole, 2 where the connection closes after it.
+// Reads the arrived bytes; returns 1 once the response is whole, 2 if the connection closes after it.
 static int take(int at) {
     struct client *it = &clients[at];
     ssize_t got = recv(sockets[at].fd, it->answer + it->have, MOST_ANSWER - it->have, 0);

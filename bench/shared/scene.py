@@ -1,5 +1,7 @@
-"""The calls that measure a service, and the program that answers them: bench/shared/service.rattle, which is proved and built as
-one crate more in a copy of the crates. Libraries that ./dss has built in crates/*/out are not proved anew."""
+"""The calls that measure a service, and the program that answers them.
+
+The program is bench/shared/service.rattle, which is proved and built as an additional crate in a copy of the crates.
+Libraries that ./dss has built in crates/*/out are not proved again."""
 import hashlib
 import json
 import pathlib
@@ -14,9 +16,9 @@ TOP = pathlib.Path(__file__).resolve().parents[2]
 NAME = "bench_service"
 USES = "entity_core policy_core space_core space_memory space_sql service_calls wire_body wire_reply"
 CALLS = 2_000
-# others may use the machine meanwhile, so the fastest round counts
+# Others may use the machine meanwhile, so the fastest round counts.
 ROUNDS = 5
-# intents in one cell
+# Intents in one cell.
 SHARING = 10
 NOW = 1_000
 URL = "https://uss-a.example/dss"
@@ -32,7 +34,7 @@ def ovn(serial):
 
 
 def id_of(number):
-    """Rising numbers are scattered, so that a new intent comes anywhere among those that are kept."""
+    """Scatters rising numbers, so that the id of a new intent is anywhere among the stored ones."""
     return f"{number * 0x9E3779B97F4A7C15 % 2**64 >> 32:08x}-0000-4000-8000-{number:012x}"
 
 
@@ -41,7 +43,7 @@ class Scene:
 
     def __init__(self, size):
         self.lines, self.serial, self.ids = [], 0, size
-        # the places of the lines that are measured
+        # The positions of the measured lines.
         self.measured = []
         self.places = [[] for _ in range(size // SHARING)]
         for number in range(size):
@@ -53,7 +55,7 @@ class Scene:
         self.lines.append(f"{asked} {first} {second} {json.dumps(body, separators=(',', ':'))}\n")
 
     def put(self, asked, id_, second, place, changes=True):
-        """A put, with a key that names all that it meets where it is to change something, and else none."""
+        """Adds a put, with a key of all that it meets if it is to change something, and otherwise without one."""
         volume = {"cells": [cell(place)], "altitude_lower": 0, "altitude_upper": 1_000}
         volume |= {"time_start": NOW, "time_end": NOW + 3_600}
         key = [ovn(serial) for _, serial in self.places[place]] if changes else []
@@ -62,7 +64,7 @@ class Scene:
 
     def measure(self, work, turn):
         place = turn % len(self.places)
-        # what is deleted was created by the line before
+        # The line before creates the entity that a deletion deletes.
         self.measured.append(len(self.lines) + (work == "delete"))
         if work == "query":
             self.line("query", "query", "-", {"area_of_interest": {"cells": [cell(place)]}})
@@ -75,18 +77,18 @@ class Scene:
             new = id_of(self.ids)
             self.put("create", new, "-", place, work != "denial")
             if work != "denial":
-                # it is deleted, so that as many are kept as before
+                # It is deleted, so that the number stored stays the same.
                 self.line("delete", new, ovn(self.serial), {})
                 self.serial += 1
 
     def measure_all(self, work):
-        """Each round of a kind of call."""
+        """Adds each round of a kind of call."""
         for turn in range(CALLS * ROUNDS):
             self.measure(work, turn)
 
 
 def answer_to(work):
-    """The status of a call, and the length of its body."""
+    """Returns the status of a call, and the length of its body."""
     one = {"id": id_of(0), "manager": "uss-a", "ovn": ovn(0), "state": "Accepted", "subscription_id": id_of(0)}
     one |= {"time_end": NOW + 3_600, "time_start": NOW, "uss_availability": "Unknown", "uss_base_url": URL, "version": 1}
     ten = [one] * SHARING
@@ -102,9 +104,9 @@ def answer_to(work):
 
 
 def answers(program, scene, place):
-    """The status, the length of the body and the nanoseconds of each call that is measured, over a space at this place:
+    """Returns the status, the length of the body and the nanoseconds of each measured call, over a space at this place:
     `list`, `memory` or a file."""
-    # a file, since the program would read a pipe byte by byte
+    # A file, because the program would read a pipe byte by byte.
     with tempfile.TemporaryFile("w+") as given:
         given.write(f"{place}\n")
         given.writelines(scene.lines)
@@ -117,16 +119,16 @@ def answers(program, scene, place):
 
 
 def nanoseconds(work, size, found):
-    """The time that the service took for the calls of a round, in the fastest of those that were answered so."""
+    """Returns the service's time for the calls of the fastest round of those with these responses."""
     status, length = answer_to(work)
-    # the version of what is updated has up to six digits, and not one
+    # The version in an update has up to six digits, and not one.
     if any(it[0] != status or not 0 <= it[1] - length <= 5 * SHARING for it in found):
         stop(f"{work} at {size}: a call was not answered as it should be")
     return max(min(sum(it[2] for it in found[at : at + CALLS]) for at in range(0, len(found), CALLS)), 1)
 
 
 def copy(folder):
-    """Copies the crates, with what is built of them where the folder has nothing yet, and adds one; answers its folder."""
+    """Copies the crates, with their builds if the directory has nothing yet, and adds one; returns its directory."""
     kept = shutil.ignore_patterns("out") if (folder / "crates").is_dir() else None
     shutil.copytree(TOP / "crates", folder / "crates", ignore=kept, dirs_exist_ok=True)
     shutil.copy2(TOP / "HANDLES", folder)
@@ -138,7 +140,7 @@ def copy(folder):
 
 
 def build(folder):
-    """Proves and builds the program in a folder; it answers an empty input with nothing."""
+    """Proves and builds the program in a directory. It answers an empty input with nothing."""
     if not shutil.which("rt"):
         stop("the command rt is not on PATH; it proves and builds the program")
     crate = copy(folder)
@@ -149,8 +151,8 @@ def build(folder):
 
 
 def in_folder(words, measure):
-    """Measures with a folder for the program: that of the one word, which is made where there is none and stays, so that
-    the next run there proves nothing; or one for this run alone."""
+    """Measures with a directory for the program: that of the one argument, which is made if it does not exist and
+    stays, so that the next run there proves nothing; or a temporary one."""
     if len(words) > 1:
         stop("one folder at most is given")
     if words:

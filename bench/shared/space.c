@@ -1,11 +1,11 @@
-// The statements of the space over tables, by SQLite's own library: how many changes and queries a second.
+// Measures changes and queries a second of SQLite's own library with the statements of the space over tables.
 //
 //   space FILE SIZE COUNT SCHEMA
 //
-// makes a database of SIZE intents, ten to a cell, in FILE (`:memory:` has none), and then COUNT creations, updates,
-// deletions and queries that find ten, and of what looks at more: a tenth as many queries of 512 cells and of 100 that find
-// 1,000, and creations that look first for the 1, 16 and 128 which they meet. SCHEMA is the text that makes the tables. A
-// statement is prepared once and kept.
+// makes a database of SIZE intents, ten to a cell, in FILE (`:memory:` has none). Then it makes COUNT creations, updates,
+// deletions and queries that find ten, a tenth as many queries of 512 cells and queries of 100 that find 1,000, and
+// creations that first search for the 1, 16 and 128 which they meet. SCHEMA is the SQL that makes the tables. Each
+// statement is prepared once.
 #include <inttypes.h>
 #include <sqlite3.h>
 #include <stdio.h>
@@ -30,7 +30,7 @@ struct value {
 static struct value number(int64_t number) { return (struct value){NULL, number}; }
 static struct value text(const char *text) { return (struct value){text, 0}; }
 
-// The compiled statement of a text, which is one literal of this file.
+// Returns the prepared statement of a text, which is one literal of this file.
 static sqlite3_stmt *prepared(const char *sql) {
     static struct { const char *sql; sqlite3_stmt *statement; } kept[KEPT_STATEMENTS];
     int at = 0;
@@ -44,7 +44,7 @@ static sqlite3_stmt *prepared(const char *sql) {
     return kept[at].statement;
 }
 
-// Runs a statement, and answers the numbers of its first column; the other columns are read.
+// Runs a statement, and returns the numbers of its first column; the other columns are read.
 static int run(const char *sql, const struct value *values, int count, int64_t *found, int most) {
     sqlite3_stmt *statement = prepared(sql);
     int rows = 0, step;
@@ -130,8 +130,8 @@ static void delete(int64_t which) {
     commit();
 }
 
-// The candidates by the intervals of cells of level 13, one after the other, and of each cell above them, once, and then the
-// rows of each.
+// Finds candidates by the intervals of cells of level 13, one after the other, and of each cell above them, once, and then
+// reads the rows of each.
 static int find(int64_t first, int64_t places) {
     static int64_t found[MOST_FOUND];
     int count = 0;
@@ -168,7 +168,7 @@ static double now(void) {
     return time.tv_sec + time.tv_nsec / 1e9;
 }
 
-// Creations, each of which first looks for those that it meets: so many in its cell.
+// Makes creations, each of which first searches for the intents that it meets: that many in its cell.
 static void creations(int meets, int64_t first, int64_t place, int64_t many) {
     begin();
     for (int64_t at = 1; at <= meets; at++)
@@ -178,13 +178,13 @@ static void creations(int meets, int64_t first, int64_t place, int64_t many) {
     for (int64_t at = 1; at <= many; at++) {
         int64_t which = first + meets + at;
         query(place, 1, meets);
-        // in a cell beside it, so that as many are met the next time
+        // In a cell beside it, so that the next creation meets as many.
         create(which, which, place + at % 500 + 1, 1000 + at);
     }
     printf("key-%d %.0f\n", meets, many / (now() - began));
 }
 
-// What looks at more cells or finds more, where so many cells have ten intents each.
+// Makes calls with more cells or more results, if that many cells have ten intents each.
 static void look_at_more(int64_t first, int64_t places, int64_t many) {
     double began = now();
     for (int64_t at = 1; at <= many; at++)

@@ -1,4 +1,4 @@
-"""What one client may take of the gateway: time, memory, connections; and what it reads to the letter."""
+"""Bounds on what one client can use of the gateway: time, memory, connections; and on the exact input that it accepts."""
 import contextlib
 import json
 import os
@@ -22,19 +22,19 @@ MEGABYTE = 1 << 20
 
 
 def tightly(teeth, height, width):
-    """A comb that is as hard to cover as one with vertices far enough apart can be."""
+    """Returns a comb that is as hard to cover as one with sufficiently separate vertices can be."""
     return polygon(*[(round(height * (k // 2 % 2), 7), round(width * (k // 2 + k % 2 / 2) / teeth, 7)) for k in range(2 * teeth)],
                    (-0.01, width / 2))
 
 
 def hard_put():
-    """A body whose covering takes longer than one may: combs, each within the bounds."""
+    """Returns a body that takes longer to cover than permitted: combs, each within the bounds."""
     one = extent(tightly(499, 0.009, 0.0004))
     return json.dumps(intent(*[one] * 24), separators=(",", ":"))
 
 
 def at_once(*jobs):
-    """What each job returns, all at once."""
+    """Runs jobs at once and returns their results."""
     found = [None] * len(jobs)
 
     def one(number):
@@ -52,7 +52,7 @@ def seconds_of(job):
 
 
 def of_process(gateway, name):
-    """A figure in kB of what the system says of the process."""
+    """Returns a value in kB of the system's record of the process."""
     line = next(it for it in pathlib.Path(f"/proc/{gateway.process.pid}/status").read_text().splitlines() if it.startswith(name + ":"))
     return int(line.split()[1])
 
@@ -63,7 +63,7 @@ def processor_seconds(gateway):
 
 
 def seconds_until_idle(gateway):
-    """What it takes of a processor from now on."""
+    """Returns the processor seconds that it uses from now on."""
     first = now = processor_seconds(gateway)
     for _ in range(60):
         time.sleep(1)
@@ -96,7 +96,8 @@ def request(files, method, path, body=b"", sub="uss-a", fields=b""):
 # ---- time
 
 def outlines_of_one_supplier_keep_nobody_out(files, program):
-    """At once 24 of the comb that took minutes, and 8 bodies as hard as the bounds let them be: they end soon, and others are answered."""
+    """24 requests with the comb that took minutes, and 8 bodies as hard as the bounds permit, at once: they end soon,
+    and others get responses."""
     with over_tables(files, program) as place:
         large = json.dumps(query_of(comb(4_999, 1e-7)))
         mine, other = files.token("uss-a", STRATEGIC), files.token("uss-b", STRATEGIC)
@@ -125,7 +126,7 @@ def vertices_that_are_too_close(files, program):
 
 
 def work_ends_with_its_client(files, program):
-    """What a client has asked that has reset its connection, or closed it, is not gone on with."""
+    """The gateway aborts the work of a client that has reset or closed its connection."""
     with over_tables(files, program) as place:
         data = request(files, "PUT", f"{INTENTS}/{new_id()}", hard_put().encode())
         for number in range(2):
@@ -135,10 +136,10 @@ def work_ends_with_its_client(files, program):
                 if number == 0:
                     it.setsockopt(socket.SOL_SOCKET, socket.SO_LINGER, struct.pack("ii", 1, 0))
                 it.close()
-            # each would take a second; what is gone is read, and no more
+            # Each would take a second. Those of closed connections are only read.
             assert seconds_until_idle(place.gateway) < 16, number
         expect(place.gateway.ask(files.token("uss-a", STRATEGIC), "GET", PATH), 200)
-    # before a slow service: what waits for others of its supplier is not asked any more
+    # With a slow service, waiting requests of the same USS are not sent any more.
     service = Counted(pause=2)
     gateway = Gateway(program, files, service.port)
     clients = [open_to(gateway, request(files, "GET", PATH)) for _ in range(20)]
@@ -146,7 +147,7 @@ def work_ends_with_its_client(files, program):
     [it.close() for it in clients]
     time.sleep(5)
     assert 4 <= len(service.asked) <= 8, service.asked
-    # one that has shut its side alone is told that it is waited for, and then answered
+    # A client that has only shut down its side is known to wait, and gets its response.
     got = gateway.raw(request(files, "GET", PATH), end=True)
     assert got.startswith(b"HTTP/1.1 100 Continue\r\n\r\nHTTP/1.1 200 OK\r\n"), got
     assert gateway.end(), gateway.lines()[-3000:]
@@ -154,7 +155,8 @@ def work_ends_with_its_client(files, program):
 
 
 def each_supplier_has_its_share(files, program):
-    """Before a slow service, 150 requests of one supplier: another is answered, and those beyond the share are told so."""
+    """With a slow service and 150 requests of one USS, another USS gets its response, and requests beyond the share are
+    denied."""
     service = Counted(pause=0.5)
     gateway = Gateway(program, files, service.port)
     mine, other = files.token("uss-a", STRATEGIC), files.token("uss-b", STRATEGIC)
@@ -175,7 +177,7 @@ def each_supplier_has_its_share(files, program):
 # ---- memory
 
 def fields_without_end(files, program):
-    """A head is read to 8,192 bytes and 100 fields."""
+    """A head is read up to 8,192 bytes and 100 fields."""
     with over_tables(files, program) as place:
         gateway = place.gateway
         before = of_process(gateway, "VmHWM")
@@ -190,13 +192,13 @@ def fields_without_end(files, program):
         for count, status in ((99, 200), (100, 400)):
             got = gateway.raw(request(files, "GET", PATH, fields=b"a: b\r\n" * count))
             assert got.startswith(b"HTTP/1.1 %d" % status), got[:200]
-        # a token is looked at before anything of a body is read
+        # The token is checked before any byte of a body is read.
         with open_to(gateway, b"PUT %s HTTP/1.1\r\nContent-Length: 1000000\r\n\r\n" % PATH.encode()) as it:
             assert all_of(it).startswith(b"HTTP/1.1 401")
 
 
 def bodies_of_many_values(files, program):
-    """32 bodies of a mebibyte of empty objects at once, of one supplier."""
+    """32 bodies of a mebibyte of empty objects at once, from one USS."""
     with over_tables(files, program) as place:
         body = '{"a":[' + ",".join(["{}"] * 349_000) + "]}"
         token = files.token("uss-a", STRATEGIC)
@@ -207,7 +209,7 @@ def bodies_of_many_values(files, program):
 
 
 def answers_that_are_large(files, program):
-    """16 at once of four suppliers, each of 12 megabytes; one beyond the bound is not read."""
+    """16 responses at once to four USSs, each of 12 megabytes; a response beyond the bound is not read."""
     service = Counted()
     gateway = Gateway(program, files, service.port)
     one = {"id": new_id(), "manager": "uss-a", "version": 1, "ovn": "a" * 64, "time_start": 1, "time_end": 2, "uss_base_url": "https://a.example"}
@@ -227,7 +229,8 @@ def answers_that_are_large(files, program):
 # ---- connections
 
 def slow_clients_keep_nobody_out(files, program):
-    """60 that send a byte a second: others are answered at once, and they themselves are given up after half a minute."""
+    """60 clients that send a byte a second: others get responses at once, and the slow connections are aborted after
+    half a minute."""
     with over_tables(files, program) as place:
         gateway, began = place.gateway, time.time()
         head = request(files, "PUT", f"{INTENTS}/{new_id()}", b"{" + b" " * 90)
@@ -249,7 +252,7 @@ def slow_clients_keep_nobody_out(files, program):
             spent = seconds_of(lambda: expect(gateway.ask(files.token("uss-b", STRATEGIC), "GET", PATH), 200))
             assert spent < 5, spent
             time.sleep(1)
-        # of one supplier's share only some bodies are read at once
+        # Of one USS's share only some bodies are read at once.
         heads = [gone[k] for k in range(0, 60, 2)]
         assert all(29 <= at < 45 and got.startswith(b"HTTP/1.1 408") for at, got in heads), heads
         assert sum(29 <= at < 45 and got.startswith(b"HTTP/1.1 400") for at, got in (gone[k] for k in range(1, 60, 2) if k in gone)) >= 4, gone
@@ -267,7 +270,7 @@ def connections_beyond_the_bound_wait(files, program):
         threading.Timer(1.5, lambda: [it.close() for it in silent]).start()
         spent = seconds_of(lambda: expect(place.gateway.ask(files.token("uss-a", STRATEGIC), "GET", PATH), 200))
         assert 1 < spent < 20, spent
-    # where few are left, silence is given less time
+    # If few connections are left, silent ones get less time.
     with over_tables(files, program, "--connections", "100") as place:
         silent = [open_to(place.gateway) for _ in range(110)]
         spent = seconds_of(lambda: expect(place.gateway.ask(files.token("uss-a", STRATEGIC), "GET", PATH), 200))
@@ -276,7 +279,7 @@ def connections_beyond_the_bound_wait(files, program):
 
 
 def descriptors_that_are_used_up(files, program):
-    """1,100 connections before a gateway that may have 256 descriptors: it lives, idles, and answers when they are closed."""
+    """1,100 connections to a gateway with at most 256 descriptors: it lives, idles, and answers when they are closed."""
     with over_tables(files, program, prepare=lambda: resource.setrlimit(resource.RLIMIT_NOFILE, (256, 256))) as place:
         silent = [open_to(place.gateway) for _ in range(1_100)]
         before = processor_seconds(place.gateway)
@@ -287,7 +290,7 @@ def descriptors_that_are_used_up(files, program):
 
 
 def a_socket_of_unix(files, program):
-    """For the user and the group alone, whatever the umask; the one of a gateway that was killed is no hindrance."""
+    """A Unix socket is only for the user and the group, whatever the umask. The socket of a killed gateway is replaced."""
     path = files.folder / "gateway.socket"
     token = files.token("uss-a", STRATEGIC)
     with over_tables(files, program) as place:
@@ -304,7 +307,7 @@ def a_socket_of_unix(files, program):
             other.process.wait()
             assert path.exists()
         other = Gateway(program, files, place.service.port, path=path)
-        # here one that has closed its connection is told from one that has shut its side
+        # Here a closed connection differs from one that has shut down its side.
         data = request(files, "PUT", f"{INTENTS}/{new_id()}", hard_put().encode())
         with contextlib.closing(socket.socket(socket.AF_UNIX)) as it:
             it.connect(str(path))
@@ -341,7 +344,7 @@ def half_closed_clients_are_answered(files, program):
                              (request(files, "GET", PATH)[:-2], 400), (request(files, "PUT", f"{INTENTS}/{new_id()}", body)[:-1], 400)):
             got = place.gateway.raw(data, end=True)
             assert got.startswith(b"HTTP/1.1 %d" % status), (data, got)
-        # one that waits for a word before it sends its body
+        # A client that waits for 100 Continue before it sends its body.
         head = request(files, "PUT", f"{INTENTS}/{new_id()}", json.dumps(intent(extent(MANHATTAN), state="Up")).encode(),
                        fields=b"Expect: 100-continue\r\n")
         end = head.index(b"\r\n\r\n") + 4
@@ -352,7 +355,7 @@ def half_closed_clients_are_answered(files, program):
 
 
 def requests_in_pieces(files, program):
-    """Wherever a request is cut, its answer is the same."""
+    """Wherever a request is cut, its response is the same."""
     body = json.dumps(query_of(MANHATTAN)).encode()
     data = request(files, "POST", f"{INTENTS}/query", body)
     end = len(data) - len(body)
@@ -373,7 +376,8 @@ def requests_in_pieces(files, program):
 # ---- connections to the service
 
 def connections_to_the_service_are_kept(files, program):
-    """As many as an option says, each with one request at a time; one that the service has closed is no hindrance."""
+    """As many connections to the service stay open as an option says, each with one request at a time. One that the
+    service has closed is replaced."""
     token = files.token("uss-a", STRATEGIC)
     for kept, opened in (("2", 1), ("0", 20)):
         service = Counted()
@@ -395,7 +399,8 @@ def connections_to_the_service_are_kept(files, program):
 
 
 def only_readings_are_asked_again(files, program):
-    """A connection that was kept is closed as a request comes: a reading is asked again, a change is told as lost and never sent twice."""
+    """If a persistent connection is closed when a request arrives, a read is sent again; a change is reported as lost
+    and never sent twice."""
     token = files.token("uss-a", STRATEGIC)
     put = json.dumps({"availability": "Down", "old_version": ""})
     service = Counted()
@@ -408,7 +413,7 @@ def only_readings_are_asked_again(files, program):
         answer = gateway.ask(token, method, path, body)
         expect(answer, status, None if status == 200 else "may be done or not")
         assert len(service.asked) - before == (2 if status == 200 else 1), service.asked[before:]
-    # a new connection that is closed so has no second try
+    # If a new connection is closed this way, there is no second try.
     service.close_all()
     time.sleep(0.2)
     service.drops, before = 1, len(service.asked)
@@ -421,21 +426,22 @@ def only_readings_are_asked_again(files, program):
 # ---- files
 
 def files_are_of_one_user(files, program):
-    """Whatever the umask: what `gateway tokens` prints into a file, and what ./dss makes."""
+    """Files are readable by one user only, whatever the umask: what `gateway tokens` prints into a file, and what ./dss
+    makes."""
     for umask in (0, 0o022, 0o077):
         made = files.folder / f"made-{umask}"
         subprocess.run(["sh", "-c", f'umask {umask:o}; exec "$0" tokens --secret "$1" --suppliers "$2" >"$3"', program, files.folder / "secret",
                         files.folder / "suppliers", made], check=True)
         assert stat.S_IMODE(made.stat().st_mode) == 0o600, oct(made.stat().st_mode)
         assert made.read_bytes() == (files.folder / "tokens.toml").read_bytes()
-        # and a database that ./dss makes
+        # The same for a database that ./dss makes.
         database = files.folder / f"made-{umask}.db"
         run = subprocess.run(["sh", "-c", f'umask {umask:o}; exec "$0" run --tokens "$1" --db "$2" --now 1000 /dev/null', TOP / "dss",
                               files.folder / "tokens.toml", database], capture_output=True)
         assert stat.S_IMODE(database.stat().st_mode) == 0o600, (run, oct(database.stat().st_mode))
 
 
-# What counts memory and processors, which sanitizers take more of.
+# Cases that measure memory and processors, of which sanitizers use more.
 PLAIN = [work_ends_with_its_client, fields_without_end, bodies_of_many_values, answers_that_are_large, outlines_of_one_supplier_keep_nobody_out]
 ALL = [slow_clients_keep_nobody_out, outlines_of_one_supplier_keep_nobody_out, vertices_that_are_too_close, work_ends_with_its_client,
        each_supplier_has_its_share, fields_without_end, bodies_of_many_values, answers_that_are_large, connections_beyond_the_bound_wait, descriptors_that_are_used_up,

@@ -17,14 +17,14 @@ def program():
 
 
 class Browser:
-    """One page. What it asked for, and what went wrong in it, is written down."""
+    """One page. Its requests and its errors are recorded."""
 
     def __init__(self, width=1200, height=800, *options):
         self.folder = tempfile.mkdtemp()
         (to_read, self.out), (self.into, to_write) = os.pipe(), os.pipe()
 
         def pipes():
-            # the browser reads 3 and writes 4; the ends are first moved out of the way
+            # The browser reads 3 and writes 4; the ends are first moved out of the way.
             ends = os.dup2(to_read, 100), os.dup2(to_write, 101)
             for end, number in zip(ends, (3, 4)):
                 os.dup2(end, number)
@@ -76,7 +76,7 @@ class Browser:
             data = data[os.write(self.out, data):]
 
     def take(self, seconds):
-        """Reads what has come, and notes it."""
+        """Reads the arrived messages, and records them."""
         ready, _, _ = select.select([self.into], [], [], max(0, seconds))
         assert ready or seconds > 0, "the browser does not answer"
         if not ready:
@@ -102,7 +102,7 @@ class Browser:
             self.faults.append(json.dumps(told["exceptionDetails"])[:500])
         if method == "Runtime.consoleAPICalled" and told["type"] in ("error", "warning", "assert"):
             self.faults.append(json.dumps(told["args"])[:500])
-        # what the network says is no fault of the page
+        # Messages of the network are no errors of the page.
         if method == "Log.entryAdded" and told["entry"]["level"] == "error" and told["entry"]["source"] != "network":
             self.faults.append(told["entry"]["text"])
 
@@ -131,7 +131,7 @@ class Browser:
             time.sleep(0.1)
 
     def processor_seconds(self):
-        """What all its processes have used."""
+        """Returns the processor seconds of all its processes."""
         used = 0
         for path in pathlib.Path("/proc").glob("[0-9]*/stat"):
             with contextlib.suppress(OSError):

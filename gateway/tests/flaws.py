@@ -1,5 +1,7 @@
-"""Builds a gateway that has each change of `flaws`, one at a time by its number in the environment, and looks that a
-property fails."""
+"""Checks that a changed gateway fails its properties.
+
+It builds a gateway that contains each change of `flaws`, enabled one at a time by a number in the environment, and
+checks that a property fails."""
 import os
 import pathlib
 import subprocess
@@ -10,7 +12,7 @@ from world import TOP
 SOURCES = TOP / "gateway" / "src"
 FLAWED = '#include <cstdlib>\n#include <string>\nstatic const std::string kFlaw = std::getenv("FLAW") ? std::getenv("FLAW") : "";\n'
 LIBRARIES = ["-ls2", "-lssl", "-lcrypto", "-labsl_strings", "-labsl_base", "-labsl_raw_logging_internal", "-pthread"]
-# a part of the cases is enough
+# A part of the cases suffices.
 COUNTS = {"points_inside_are_covered": 1000, "volumes_of_puts": 30}
 
 
@@ -20,7 +22,7 @@ def all_flaws():
 
 
 def build(built):
-    """The program, of the objects that are built here but for the sources with a change."""
+    """Builds the program, of the existing objects except the sources with a change."""
     folder = pathlib.Path(built, "flaws")
     folder.mkdir(exist_ok=True)
     texts = {}
@@ -38,7 +40,7 @@ def build(built):
 
 
 def cases(built):
-    """A case for each change, by its name."""
+    """Returns a case for each change, by its name."""
     program = []
 
     def is_noticed(number, name):
@@ -50,7 +52,7 @@ def cases(built):
             return
         finally:
             del os.environ["FLAW"]
-        raise AssertionError(f"{name} holds all the same")
+        raise AssertionError(f"{name} holds in spite of the change")
 
     return {
         f"{new} for {old} in {file} is noticed": lambda number=number, name=name: is_noticed(number, name)

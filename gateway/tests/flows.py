@@ -1,5 +1,6 @@
-"""Suppliers who speak the standard, by bytes over both programs: what is the gateway's own. What each service of the standard must do,
-`qualify/run --standard` holds it to."""
+"""USSs that speak the standard, byte-exact over both programs: the gateway's own behaviour.
+
+`qualify/run --standard` tests what each service of the standard must do."""
 import contextlib
 import json
 import random
@@ -16,7 +17,7 @@ URL = {"uss_base_url": "https://uss.example"}
 
 
 class Place:
-    """A gateway before a service, and what suppliers ask them."""
+    """A gateway before a service, and requests of USSs."""
 
     def __init__(self, files, gateway, service):
         self.files, self.gateway, self.service = files, gateway, service
@@ -82,7 +83,7 @@ def explicit_subscriptions(files, program):
         created = expect(place.a("PUT", f"{SUBSCRIPTIONS}/{name}", body), 200)
         version = created["subscription"]["version"]
         assert created["operational_intent_references"] == [] and created["subscription"]["implicit_subscription"] is False
-        # no bounds but the outline: from now on, for a day
+        # Only an outline as bound: from now on, for a day.
         open_ended = expect(place.a("PUT", f"{SUBSCRIPTIONS}/{new_id()}", {**body, "extents": {"volume": BESIDE}}), 200)
         assert open_ended["subscription"]["time_end"]["value"][:10] > open_ended["subscription"]["time_start"]["value"][:10]
         seen = place.service.asked[-1][2]["extents"]
@@ -111,7 +112,7 @@ def subscriptions_of(place):
 
 
 def implicit_subscriptions(files, program):
-    """A subscription is made for an intent, moves with it, and goes with it."""
+    """A subscription is made for an intent, moves with it, and is deleted with it."""
     with recorded(files, program) as place:
         name = new_id()
         first = reference(place.a("PUT", f"{INTENTS}/{name}", intent(extent(MANHATTAN), extent(BESIDE, 20, 500), **NEW)))
@@ -121,20 +122,20 @@ def implicit_subscriptions(files, program):
         assert made[first["subscription_id"]]["dependent_operational_intents"] == [name]
         hull = next(body for method, path, body in place.service.asked if "subscriptions/" in path and method == "PUT")["extents"]
         assert hull["altitude_upper"] == 5000 and hull["altitude_lower"] == 0
-        # an update that asks for one gets another, and the old one is gone
+        # An update that requests a subscription gets another one, and the old one is deleted.
         second = reference(place.a("PUT", f"{INTENTS}/{name}/{first['ovn']}", intent(extent(FAR), **NEW)))
         assert second["subscription_id"] != first["subscription_id"] and list(subscriptions_of(place)) == [second["subscription_id"]]
-        # so does one that names the one that it has
+        # So does an update that references its current one.
         third = reference(place.a(
             "PUT", f"{INTENTS}/{name}/{second['ovn']}", intent(extent(MANHATTAN), subscription_id=second["subscription_id"])))
         assert list(subscriptions_of(place)) == [third["subscription_id"]]
-        # a denied update leaves what was
+        # A denied update leaves the old state.
         expect(place.a("PUT", f"{INTENTS}/{name}/{second['ovn']}", intent(extent(FAR), **NEW)), 409, "P10 VERSION")
         assert list(subscriptions_of(place)) == [third["subscription_id"]]
-        # a denied creation leaves none
+        # A denied creation leaves none.
         expect(place.b("PUT", f"{INTENTS}/{new_id()}", intent(extent(MANHATTAN), **NEW)), 409, "P14 KEY")
         assert expect(place.b("POST", f"{SUBSCRIPTIONS}/query", EVERYWHERE), 200)["subscriptions"] == []
-        # one that names none ends it
+        # An update without a reference deletes it.
         fourth = reference(place.a("PUT", f"{INTENTS}/{name}/{third['ovn']}", intent(extent(MANHATTAN))))
         assert fourth["subscription_id"] == ZERO and subscriptions_of(place) == {}
         fifth = reference(place.a("PUT", f"{INTENTS}/{name}/{fourth['ovn']}", intent(extent(MANHATTAN), **NEW)))
@@ -147,7 +148,7 @@ def implicit_subscriptions(files, program):
 
 
 def shared_implicit_subscriptions(files, program):
-    """One that another intent names stays, and is never moved."""
+    """A subscription that another intent references stays, and is never moved."""
     with recorded(files, program) as place:
         one, two = new_id(), new_id()
         first = reference(place.a("PUT", f"{INTENTS}/{one}", intent(extent(MANHATTAN), **NEW)))
@@ -161,8 +162,8 @@ def shared_implicit_subscriptions(files, program):
 
 
 def answers_lost_on_the_way(files, program):
-    """Whichever answer of the service is lost, before or after it was done: an intent that names a subscription is within one, and
-    the same put again ends well."""
+    """Whichever response of the service is lost, before or after the call was done: an intent that references a
+    subscription is within it, and the same put again succeeds."""
     for is_done in (False, True):
         for lost in range(5):
             with recorded(files, program) as place:
@@ -185,7 +186,7 @@ def answers_lost_on_the_way(files, program):
 
 
 def check_covered(service, now, kept):
-    """The subscription that the intent names is there, and was last put over the volumes that the intent has."""
+    """Checks that the intent's subscription exists, and was last put over the intent's volumes."""
     assert now["subscription_id"] in kept
     puts = [it for it in service.asked if it[0] == "PUT"]
     volume = [body for _, path, body in puts if f"subscriptions/{now['subscription_id']}" in path][-1]["extents"]
@@ -195,7 +196,7 @@ def check_covered(service, now, kept):
 
 
 def new_subscription_over_tables(files, program):
-    """What is done with it is the operator's choice. What is made lasts, as the service starts anew."""
+    """The operator configures its handling. Stored entities remain when the service is started again."""
     with over_tables(files, program) as place:
         told = reference(place.a("PUT", f"{INTENTS}/{new_id()}", intent(extent(MANHATTAN), **NEW)))
         kept = subscriptions_of(place)
@@ -211,7 +212,7 @@ def new_subscription_over_tables(files, program):
 
 
 def drawn_outlines_meet(files, program, count=1000):
-    """Two outlines around one point are told to meet by the service itself."""
+    """The service itself reports that two outlines around one point meet."""
     draw = random.Random(11)
     with over_tables(files, program) as place:
         for _ in range(count):
@@ -229,7 +230,7 @@ def drawn_outlines_meet(files, program, count=1000):
 
 
 def body_of_the_document(files, program):
-    """The body of CLIENTS.md is translated to the one that it says."""
+    """The body in CLIENTS.md is translated to the one shown there."""
     document = (TOP / "docs" / "CLIENTS.md").read_text()
     usual, flat = (json.loads(it.split("```")[0]) for it in document.split("```json\n")[1:3])
     assert translate(program, [("intent", usual)]) == [flat]

@@ -1,4 +1,4 @@
-"""Tokens and bytes of whoever means ill, over a gateway that is built with the sanitizers; a service that is not there."""
+"""Tokens and bytes of attackers, over a gateway that is built with the sanitizers; and a service that does not run."""
 import base64
 import hashlib
 import hmac
@@ -25,7 +25,7 @@ def plain(value):
 
 
 def tokens(files, program):
-    """Only what the issuer signed by RS256 for this audience, and for now, is taken."""
+    """Only tokens that the issuer signed with RS256 for this audience, and for the current time, are accepted."""
     good = files.token("uss-a", STRATEGIC)
     head, claims, signature = good.split(".")
     now = int(time.time())
@@ -112,14 +112,14 @@ def bytes_that_are_no_requests(files, program):
             got = raw(data)
             assert got.startswith(b"HTTP/1.1 %d" % status) and b'{"message":"' in got, (data[:200], got[:300], status)
         assert time.time() - began < 60
-        # what follows a request, or is the body of a reading, is no second request
+        # Bytes after a request, or the body of a read, are no second request.
         reading = b"GET %s HTTP/1.1\r\nAuthorization: Bearer %s\r\n" % (PATH.encode(), token)
         for data in (reading + b"\r\n" + reading + b"\r\n", reading + b"Content-Length: 9\r\n\r\n" + reading + b"\r\n"):
             assert raw(data).count(b"HTTP/1.1 ") == 1
-        # one that stops in the middle is given up
+        # A client that stops in the middle is disconnected.
         began = time.time()
         assert b"400" in raw(put + b"Content-Length: 50\r\n\r\n{")[:20] and time.time() - began < 60
-        # the type of a form, as curl sends it, is as good as another
+        # The content type of a form, as curl sends it, is accepted like others.
         body = json.dumps(intent(extent(MANHATTAN), key=["0123456789abcdef"] * 1000))
         answer = place.gateway.ask(token.decode(), "PUT", f"{INTENTS}/{new_id()}", body, {"Content-Type": "application/x-www-form-urlencoded"})
         expect(check(answer), 201)
@@ -132,7 +132,8 @@ def bytes_that_are_no_requests(files, program):
 
 
 def bodies(files, program):
-    """Whatever a body has, the gateway answers and lives; the service never calls what it is sent malformed or too large."""
+    """Whatever a body contains, the gateway answers and lives. It never sends the service a malformed or too large
+    request."""
     draw = random.Random(13)
     token = files.token("uss-a", STRATEGIC)
     base = json.dumps(intent(extent(circle(1, 1, 5), start=1000, end=2000), key=["0123456789abcdef"]))
@@ -154,7 +155,7 @@ def comb(teeth, height):
 
 
 def hard_outlines_are_answered_soon(files, program):
-    """Combs, whose covering asks much: they are covered, or refused before it."""
+    """Combs that are hard to cover are covered, or rejected before that."""
     with over_tables(files, program) as place:
         for outline, status in ((comb(499, 0.9), 413), (comb(101, 0.9), 200), (comb(499, 0.017), 200), (comb(4_999, 0.017), 413)):
             began = time.time()
@@ -164,7 +165,7 @@ def hard_outlines_are_answered_soon(files, program):
 
 
 def a_service_that_is_not_there(files, program):
-    """503 where nothing was sent, 504 where the answer was lost; the service is started anew and all goes on."""
+    """503 if nothing was sent, 504 if the response was lost. Once the service is started again all continues."""
     service = Service(files, database=f"{new_id()}.db")
     gateway = Gateway(program, files, service.port)
     ask = lambda *words: check(gateway.ask(files.token("uss-a", STRATEGIC), *words))
@@ -178,7 +179,7 @@ def a_service_that_is_not_there(files, program):
     expect(gateway.ask(None, "GET", "/health"), 503, "not there")
     service.start()
     assert reference(ask("GET", f"{INTENTS}/{name}"))["ovn"] == told["ovn"]
-    # one that comes back within the time of a restart is waited for
+    # The gateway waits for a service that comes back within the time of a restart.
     service.end()
     began, back = time.time(), []
 
@@ -189,9 +190,9 @@ def a_service_that_is_not_there(files, program):
     restart.start()
     answer = ask("GET", f"{INTENTS}/{name}")
     restart.join()
-    # a machine that is busy may take longer to start it
+    # A busy machine may take longer to start it.
     expect(answer, 200) if back[0] < 1.5 else None
-    # killed among puts: what was answered as done is there, and what was not sent is not
+    # Killed among puts: what was acknowledged is there, and what was not sent is not.
     draw = random.Random(14)
     for number in range(8):
         name, answers = new_id(), []
@@ -209,7 +210,7 @@ def a_service_that_is_not_there(files, program):
         status = answers[0].status
         assert status in (201, 503, 504) and (status == 504 or there == (status == 201)), (answers, there)
     service.end()
-    # a service that takes a request and is gone
+    # A service that takes a request and exits.
     with socket.create_server(("127.0.0.1", service.port)) as listening:
         def take(sends):
             for _ in range(3):
@@ -255,7 +256,7 @@ def many_at_once(files, program):
 
 
 def starts_that_fail(files, program):
-    """One line and status 1, before it listens."""
+    """A start that fails gives one line and status 1, before the gateway listens."""
     folder, port, taken = files.folder, free_port(), socket.create_server(("127.0.0.1", 0))
     (folder / "empty").write_text("")
     (folder / "bad.toml").write_text('[[token]]\ntext = "secret-of-a-token"\nuss = 5\n')
@@ -273,7 +274,7 @@ def starts_that_fail(files, program):
     for words in (["serve"], ["serve", "--port"], ["serve", "--port", "1", "--port", "2"], ["tokens"], ["translate", "x"]):
         done = subprocess.run([program, *words], capture_output=True, text=True, timeout=20, stdin=subprocess.DEVNULL)
         assert done.returncode == 1 and done.stderr.count("\n") == 1, (words, done)
-    # a second one on the same port
+    # A second one on the same port.
     with over_tables(files, program) as place:
         words = [str(it) for name, value in (good | {"port": place.gateway.port}).items() for it in (f"--{name}", value)]
         done = subprocess.run([program, "serve", *words], capture_output=True, text=True, timeout=20)

@@ -1,4 +1,4 @@
-"""Each row of the tables of gateway/README.md: what maps how, and each refusal."""
+"""Each row of the tables of gateway/README.md: each mapping, and each rejection."""
 import json
 
 from properties import translate
@@ -17,7 +17,7 @@ def put(*extents, **more):
 
 
 def refused(program, rows):
-    """Rows of a kind, a body, a status and a part of the message."""
+    """Checks rows of a kind, a body, a status and a part of the message."""
     for (what, body, status, message), answer in zip(rows, translate(program, [row[:2] for row in rows])):
         assert answer.get("status") == status and message in answer["message"], (what, json.dumps(body)[:300], answer, status, message)
 

@@ -1,4 +1,4 @@
-"""The map: its data by bytes, and its page in Chromium without a window, where there is one."""
+"""The map: its data byte for byte, and its page in Chromium without a window, if that is installed."""
 import contextlib
 import json
 import random
@@ -21,11 +21,11 @@ SCREENS = [(1600, 900, "light", "wide"), (800, 900, "dark", "middle"), (360, 740
 
 
 class Skipped(Exception):
-    """Cannot be tried here."""
+    """The error that a case cannot run here."""
 
 
 def map_tokens(files, program):
-    """A file as `--map-token` takes it, and the token of viewers in it."""
+    """Returns a file as `--map-token` takes it, and the token of viewers in it."""
     with open(files.folder / "suppliers", "r+") as it:
         if "map\n" not in it.read():
             it.write("map\n")
@@ -40,7 +40,7 @@ def map_tokens(files, program):
 
 @contextlib.contextmanager
 def over_map(files, program, area=AREA):
-    """A place whose gateway has a map, and `read` of its paths by the token of viewers."""
+    """Makes a place whose gateway has a map, and `read` of its paths by the token of viewers."""
     file, viewer = map_tokens(files, program)
     service = Service(files, database=f"{new_id()}.db")
     gateway = Gateway(program, files, service.port, "--map-token", str(file), "--map-area", area)
@@ -64,7 +64,7 @@ def until(find, holds, seconds=40):
 
 
 def settled(place, count):
-    """The airspace as the page has it, once each of so many references was looked for to the end."""
+    """Returns the airspace as on the page, once the cells of each of that many references are fully known."""
     return until(lambda: expect(place.read("/map/airspace.json"), 200),
                  lambda it: len(it["references"]) == count and all(one["in"] and not one["perhaps"] for one in it["references"]))
 
@@ -88,7 +88,8 @@ def put_intent(place, *extents, **more):
 # ---- the data
 
 def who_may_look(files, program):
-    """Data is for the token of viewers alone, in a field; it opens nothing else, and no other opens the map."""
+    """Data needs the token of viewers, in a field. That token permits nothing else, and no other token gives access to
+    the map."""
     with over_map(files, program) as place:
         for path in ("/map/airspace.json", "/map/airspace.geojson", f"/map/cell.json?cell={AREA}"):
             for token in (None, "x", place.viewer[:-1], place.viewer[:-1] + "x", place.viewer + "x", files.token("uss-a", STRATEGIC)):
@@ -127,11 +128,11 @@ def without_the_option_there_is_no_map(files, program):
 
 
 def where_things_are(files, program):
-    """Each is found in just its cells, by time and altitude, as it changes, and shown without its OVN."""
+    """Each reference is found in exactly its cells, by time and altitude, as it changes, and shown without its OVN."""
     now = int(time.time())
     with over_map(files, program) as place:
         first, version = put_intent(place, extent(MANHATTAN, 0, 100, now, now + 3600))
-        # the first reading has it already, somewhere
+        # The first read has it already, somewhere.
         assert set(features(place)) == {first}
         other = put_constraint(place, circle(40.6, -74.1, 300), 200, 300, now + 1800, now + 7200)
         found = {it["id"]: it for it in settled(place, 2)["references"]}
@@ -146,13 +147,13 @@ def where_things_are(files, program):
         assert feature["properties"] == {**shown, "is_settled": True} and feature["geometry"]["type"] == "MultiPolygon"
         rings = [it[0] for it in feature["geometry"]["coordinates"]]
         assert len(rings) == 2 and all(len(it) == 5 and it[0] == it[4] for it in rings)
-        # against the clock, and over Manhattan
+        # Counterclockwise, and over Manhattan.
         turns = [sum((b[0] - a[0]) * (b[1] + a[1]) for a, b in zip(it, it[1:])) for it in rings]
         assert all(it < 0 for it in turns) and all(abs(lng + 73.98) < 0.03 and abs(lat - 40.745) < 0.03 for it in rings for lng, lat in it)
         listed = expect(place.read(f"/map/cell.json?cell={INSIDE[0]}&at={now + 60}&altitude=50"), 200)["references"]
         assert listed == [shown], listed
         assert expect(place.read(f"/map/cell.json?cell={INSIDE[0]}&at={now + 60}&altitude=101"), 200)["references"] == []
-        # it moves
+        # It moves.
         moved = expect(place.a("PUT", f"{INTENTS}/{first}/{version}", intent(extent(circle(40.6, -74.1, 10), 0, 100, now, now + 3600))), 200)
         until(lambda: features(place), lambda it: it[first]["properties"]["version"] == 2 and it[first]["properties"]["is_settled"])
         assert {tuple(it["in"]) for it in settled(place, 2)["references"]} >= {tuple(found[other]["in"])}
@@ -163,7 +164,7 @@ def where_things_are(files, program):
 
 
 def many_are_found_together(files, program):
-    """Flights that lie beside and over each other: each is in just the cells that the service was given."""
+    """Flights beside and above each other: each is in exactly the cells that the service received."""
     draw = random.Random(3)
     with over_map(files, program) as place:
         bodies = [intent(extent(circle(40.65 + draw.uniform(-0.1, 0.1), -74.05 + draw.uniform(-0.1, 0.1), draw.uniform(10, 3000)), 10 * k, 10 * k + 5))
@@ -178,13 +179,13 @@ def many_are_found_together(files, program):
 
 
 def fine(token):
-    """The cells of level 13 in a cell."""
+    """Returns the cells of level 13 in a cell."""
     low, high = (it >> 35 for it in shapes.span(token))
     return {f"{(it << 35) + (1 << 34):016x}".rstrip("0") for it in range(low, high + 1)}
 
 
 def a_wide_area_and_what_is_large(files, program):
-    """What has many cells stays in coarser ones that hold it, in an area of several pieces."""
+    """References with many cells stay in coarser ones that contain them, in an area of several parts."""
     with over_map(files, program, "89c24,89c3c,89e84") as place:
         put_constraint(place, circle(40.7, -74.0, 25_000), 0, 100)
         name, _ = put_intent(place, extent(MANHATTAN))
@@ -195,7 +196,7 @@ def a_wide_area_and_what_is_large(files, program):
 
 
 def queries_are_few(files, program):
-    """However many look, and none where nobody does."""
+    """The number of queries does not depend on the number of viewers, and is zero without viewers."""
     file, viewer = map_tokens(files, program)
     service = Counted()
     gateway = Gateway(program, files, service.port, "--map-token", str(file), "--map-area", AREA)
@@ -208,7 +209,7 @@ def queries_are_few(files, program):
         answer = expect(gateway.ask(viewer, "GET", "/map/airspace.json"), 200)
         spent = time.time() - began
         assert 2 <= len(service.asked) <= 8 * spent + 2 and set(service.asked) == {"POST"}, (service.asked, spent)
-        # `{}` is no answer to a query
+        # `{}` is no response to a query.
         assert answer["asked"] == 0 and answer["references"] == [] and answer["fault"], answer
     finally:
         lived = gateway.end()
@@ -230,11 +231,11 @@ def the_service_gone_and_back(files, program):
         assert back["asked"] > gone["asked"]
 
 
-# ---- the data as the operator's port has it
+# ---- the data of the admin port
 
 @contextlib.contextmanager
 def over_whole(files, program, *options):
-    """The same, whose gateway takes the airspace from the operator's port of the service."""
+    """Makes the same, with a gateway that reads the airspace from the admin port of the service."""
     file, viewer = map_tokens(files, program)
     admin = free_port()
     service = Service(files, database=f"{new_id()}.db", admin=admin)
@@ -251,13 +252,13 @@ def over_whole(files, program, *options):
 
 
 def later(place, holds):
-    """The airspace as the page has it, once it was read anew and is so."""
+    """Returns the airspace as on the page, once it was read again and the condition holds."""
     return until(lambda: expect(place.read("/map/airspace.json"), 200), holds, 10)
 
 
 def the_whole_airspace(files, program):
-    """All references with just the cells that they have at a moment, wherever they are, subscriptions, and all suppliers, also such as
-    manage nothing; without an OVN."""
+    """All references with exactly their cells at a time, wherever they are, subscriptions, and all USSs, also those
+    without references; without an OVN."""
     now = int(time.time())
     elsewhere = circle(-33.9, 18.4, 10)
     with over_whole(files, program) as place:
@@ -314,9 +315,9 @@ def what_is_no_airspace(files, program):
 
 @contextlib.contextmanager
 def opened(place, width=1200, height=800, scheme="light"):
-    """The page, let in; nothing must go wrong in it, and it must ask nobody but the gateway."""
+    """Opens the page with a token. Nothing may go wrong in it, and it may send requests only to the gateway."""
     if not browser.program():
-        raise Skipped("there is no chromium: apt-get install chromium")
+        raise Skipped("chromium is not installed: apt-get install chromium")
     page = browser.Browser(width, height)
     try:
         page.size(width, height, scheme)
@@ -346,7 +347,7 @@ def text(page, name):
 
 
 def drawn(page):
-    """A number for what is on the canvas."""
+    """Returns a number for the contents of the canvas."""
     return page.value("(() => { const c = document.getElementById('map'); const d = c.getContext('2d').getImageData(0, 0, c.width, c.height).data;"
                       "let h = 0; for (let k = 0; k < d.length; k += 4) h = (h * 31 + d[k] * 65536 + d[k + 1] * 256 + d[k + 2]) | 0; return h; })()")
 
@@ -357,7 +358,7 @@ def slide(page, name, expression):
 
 
 def the_page(files, program):
-    """The door, what appears, sliders, a click, the keyboard, the service gone and back, the gateway gone."""
+    """The door, what appears, sliders, a click, the keyboard, the service down and back, the gateway down."""
     now = int(time.time())
     with over_map(files, program) as place, opened(place) as page:
         let_in(page, "0" * 48)
@@ -378,7 +379,7 @@ def the_page(files, program):
 
 
 def middle(page):
-    """The middle of the canvas, once the map has gone to the cell that was found by the list."""
+    """Returns the middle of the canvas, once the map has moved to the cell that the list found."""
     return page.value("(() => { const b = document.getElementById('map').getBoundingClientRect(); return [b.x + b.width / 2, b.y + b.height / 2]; })()")
 
 
@@ -474,7 +475,7 @@ def shapes_of_the_page(files, program):
                 page.until("document.querySelector('#all button')")
                 page.value("document.querySelector('#all button').click()")
                 page.until("!document.getElementById('selected').hidden")
-                # what a supplier wrote is text
+                # Input of a USS is text.
                 assert "https://<b>www" in text(page, "selected-list")
                 wide = page.value("[document.documentElement.scrollWidth, ...[...document.querySelectorAll('body *')]"
                                   ".map((it) => Math.ceil(it.getBoundingClientRect().right))]")
@@ -485,7 +486,7 @@ def shapes_of_the_page(files, program):
 
 
 def many_references(count):
-    """An airspace as the gateway gives it to the page, each reference in two cells that lie side by side."""
+    """Returns an airspace as the gateway gives it to the page, each reference in two adjacent cells."""
     draw, now, cells, references = random.Random(5), int(time.time()), {}, []
     first = s2.S2CellId.FromToken("89c3").range_min().parent(13)
     numbers = [first.id() % 2**64 + k * 2**35 for k in range(4**7)]
@@ -506,14 +507,15 @@ def many_references(count):
 
 
 def frames(page, count, act):
-    """Seconds of processors that each of so many pictures takes, before which something is done with the number `k`."""
+    """Returns the processor seconds of each of that many frames. `act` is called with the number of each frame before
+    it."""
     before = page.processor_seconds()
     page.value(f"(async () => {{ for (let k = 0; k < {count}; k++) {{ {act}; await new Promise(requestAnimationFrame); }} }})()")
     return (page.processor_seconds() - before) / count
 
 
 def ten_thousand_in_view(files, program):
-    """The page draws them soon, by time of processors, without a graphics processor's help."""
+    """The page draws ten thousand references soon, by processor time, without a graphics processor."""
     with over_map(files, program) as place, opened(place, 1600, 900) as page:
         page.answer_with("*/map/airspace.json*", json.dumps(many_references(10_000)))
         enter(page, place.viewer)

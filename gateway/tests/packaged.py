@@ -1,4 +1,6 @@
-"""The Debian package of the gateway that scripts/package makes: its paths, its program, its page, and what its unit asks for."""
+"""The Debian package of the gateway that scripts/package makes.
+
+Cases check its paths, its program, its page, and the needs of its unit."""
 import gzip
 import re
 import subprocess
@@ -35,5 +37,5 @@ def the_package(files, built):
     assert "dss\\-gateway tokens" in page and ".SH \"TRANSLATION\"" in page, page[:1000]
 
 
-# It takes the folder with the programs.
+# It takes the directory with the programs.
 ALL = [the_package]

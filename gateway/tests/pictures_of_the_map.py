@@ -1,4 +1,6 @@
-"""Takes the pictures of the map that docs/ has, over flights that are drawn: pictures_of_the_map.py PROGRAM"""
+"""Takes the pictures of the map in docs/, over drawn flights.
+
+  pictures_of_the_map.py PROGRAM"""
 import math
 import random
 import sys

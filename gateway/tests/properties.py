@@ -1,4 +1,4 @@
-"""Properties of the translation over drawn bodies, by a seed: `gateway translate` is given lines and gives lines."""
+"""Properties of the translation over drawn bodies, by a seed: `gateway translate` reads and writes lines."""
 import datetime
 import decimal
 import json
@@ -13,7 +13,7 @@ OUTLINES, BENT, NUMBERS, TIMES, BODIES = 20_000, 150, 4_000, 4_000, 4_000
 
 
 def translate(program, lines):
-    """What each line, a word and a body, is translated to."""
+    """Returns the translation of each line, a kind and a body."""
     text = "".join(f"{what} {body if isinstance(body, str) else json.dumps(body)}\n" for what, body in lines)
     done = subprocess.run([program, "translate", "--now", "1000"], input=text, capture_output=True, text=True)
     assert done.returncode == 0, f"the gateway ended with {done.returncode}: {done.stderr[-2000:]}"
@@ -38,7 +38,7 @@ def check_limits(tokens):
 
 
 def points_inside_are_covered(program, count=OUTLINES):
-    """Points inside outlines, and on their edges, lie in a cell; two outlines around one point meet."""
+    """Points inside outlines, and on their edges, are in a cell. Two outlines around one point meet."""
     draw = random.Random(1)
     drawn = []
     for number in range(count // 2):
@@ -58,7 +58,7 @@ def points_inside_are_covered(program, count=OUTLINES):
 
 
 def edges_bend(program, count=BENT):
-    """Edges of 100 km beside lines between cells are covered as WGS84 has them."""
+    """Edges of 100 km beside lines between cells are covered as WGS84 defines them."""
     draw = random.Random(2)
     drawn = [shapes.draw_bent(draw) for _ in range(count)]
     for (volume, points), answer in zip(drawn, translate(program, [query(volume) for volume, _ in drawn])):
@@ -70,7 +70,7 @@ def edges_bend(program, count=BENT):
 
 
 def draw_strip(draw):
-    """A triangle of up to 900 km that is a strip, and points of its edges."""
+    """Draws a triangle of up to 900 km that is a strip, and points of its edges."""
     first, turn, length = shapes.draw_center(draw), draw.uniform(0, 360), draw.uniform(100_000, 900_000)
     ring = [first, shapes.away(first, turn, length), shapes.away(first, turn + draw.uniform(0.0001, 0.2), length)]
     inside = [shapes.between(ring[k], ring[(k + 1) % 3], part) for k in range(3) for part in (0.1, 0.3, 0.5, 0.8)]
@@ -78,7 +78,7 @@ def draw_strip(draw):
 
 
 def large_outlines(program, count=60):
-    """Outlines of up to 140 km across and strips of 900 km, coarser where they must be."""
+    """Outlines of up to 140 km across and strips of 900 km are covered, coarser if they must be."""
     draw = random.Random(3)
     drawn = [shapes.draw_outline(draw, shapes.draw_center(draw), 70_000) for _ in range(count)]
     drawn += [shapes.draw_outline(draw, shapes.draw_center(draw), 60_000, corners=1000) for _ in range(3)]
@@ -139,7 +139,7 @@ def altitudes_are_rounded_outwards(program, count=NUMBERS):
     lines = [
         ("query", '{"area_of_interest":{"volume":{%s,%s,%s}}}' % (volume, bound % ("altitude_lower", it), bound % ("altitude_upper", it)))
         for it in texts]
-    # as wide as an exponent is: its texts are judged by hand, so that nothing is multiplied out
+    # As wide as an exponent is: its texts are evaluated by hand, so that nothing is multiplied out.
     for text, answer in zip(texts, translate(program, lines)):
         mantissa, _, exponent = text.lower().partition("e")
         if exponent and abs(int(exponent)) > 300:
@@ -193,7 +193,7 @@ def times_of_answers_read_again_are_the_same(program, count=1000):
 
 
 def volumes_of_puts(program, count=120):
-    """Volumes are kept apart up to 32, and merged without loss beyond; the subscription over them holds them all."""
+    """Volumes stay separate up to 32, and are merged without loss beyond. The subscription over them contains them all."""
     draw = random.Random(9)
     lines, drawn = [], []
     for _ in range(count):
@@ -244,7 +244,7 @@ def draw_json(draw, depth=0):
 
 
 def mutate(draw, text):
-    """A body in which a value is exchanged, or some bytes are."""
+    """Returns a body in which a value is replaced, or some bytes are."""
     if draw.random() < 0.5:
         at = draw.randrange(len(text))
         return text[:at] + draw.choice(['"', "{", "}", "[", "]", ",", ":", "9", "-", "e", ".", "\\", "\x01", "é"]) + text[at + draw.randint(0, 3):]
@@ -255,7 +255,7 @@ def mutate(draw, text):
 
 
 def any_body_is_answered(program, count=BODIES):
-    """Whatever a body is, the translation gives one, or a refusal with a message."""
+    """Any body gets a translation, or a rejection with a message."""
     draw = random.Random(10)
     kinds = ["query", "intent", "constraint", "subscription", "availability", "new_subscription", "answer"]
     base = json.dumps(intent(extent(circle(1, 1, 5)), key=["0123456789abcdef"], new_subscription={"uss_base_url": "https://a"}))

@@ -1,4 +1,4 @@
-"""The nginx and the HAProxy of deploy/, as they are written there, before a service that counts and before the gateway."""
+"""The nginx and HAProxy configurations of deploy/, unchanged, before a service that counts and before the gateway."""
 import contextlib
 import datetime
 import http.client
@@ -22,7 +22,7 @@ PATH = f"{FRONT}uss_availability/uss-b"
 
 
 def program_of_nginx(built):
-    """Where it is installed, or unpacked by gateway/test."""
+    """Returns where nginx is installed, or unpacked by gateway/test."""
     found = shutil.which("nginx", path="/usr/sbin:/usr/bin") or f"{built}/nginx/usr/sbin/nginx"
     assert os.access(found, os.X_OK), "gateway/test has not unpacked nginx"
     return found
@@ -41,7 +41,7 @@ def certificate(folder):
 
 @contextlib.contextmanager
 def nginx(files, built, behind):
-    """Runs it before a server, and gives its port and its folder."""
+    """Runs it before a server, and gives its port and its directory."""
     folder, port = files.folder / new_id(), free_port()
     folder.mkdir()
     certificate(folder)
@@ -68,7 +68,7 @@ def ask(port, token, method, path, body=None):
 
 
 def ask_often(count, port, token, method, path, body=None):
-    """The statuses of so many requests on one connection."""
+    """Returns the statuses of that many requests on one connection."""
     context, statuses = ssl.create_default_context(), []
     context.check_hostname, context.verify_mode = False, ssl.CERT_NONE
     with contextlib.closing(http.client.HTTPSConnection("127.0.0.1", port, timeout=60, context=context)) as it:
@@ -81,7 +81,7 @@ def ask_often(count, port, token, method, path, body=None):
 
 
 def the_documented_nginx(files, built):
-    """Its connections to the service are kept, its logs have no OVN, it sends nothing twice, and it counts requests."""
+    """Its connections to the service stay open, its logs have no OVN, it sends nothing twice, and it limits requests."""
     token, name = files.token("uss-a", STRATEGIC), new_id()
     service = Counted()
     with nginx(files, built, f"127.0.0.1:{service.port}") as (port, folder):
@@ -106,7 +106,7 @@ def haproxy(files, behind):
     """Runs it before the service of a port, without its check of health, and gives its port and the lines of its log."""
     program = shutil.which("haproxy", path="/usr/sbin:/usr/bin")
     if not program:
-        raise Skipped("haproxy is not here")
+        raise Skipped("haproxy is not installed: apt-get install haproxy")
     folder, port = files.folder / new_id(), free_port()
     folder.mkdir()
     certificate(folder)
@@ -129,7 +129,7 @@ def haproxy(files, behind):
 
 
 class Log:
-    """A socket that takes the lines of a log, as /dev/log does."""
+    """A socket that receives the lines of a log, as /dev/log does."""
 
     def __init__(self, path):
         self.socket, self.lines = socket.socket(socket.AF_UNIX, socket.SOCK_DGRAM), []
@@ -142,7 +142,7 @@ class Log:
                 self.lines.append(self.socket.recv(1 << 16).decode())
 
     def has(self, count):
-        """All lines, once there are so many."""
+        """Returns all lines, once there are that many."""
         until = time.monotonic() + 10
         while len(self.lines) < count and time.monotonic() < until:
             time.sleep(0.05)
@@ -150,7 +150,7 @@ class Log:
 
 
 def the_documented_haproxy(files, built):
-    """Its connections to the service are kept, its log has no OVN, it sends nothing twice, and it counts requests."""
+    """Its connections to the service stay open, its log has no OVN, it sends nothing twice, and it limits requests."""
     token, name = files.token("uss-a", STRATEGIC), new_id()
     service = Counted()
     with haproxy(files, service.port) as (port, log):
@@ -172,7 +172,7 @@ def the_documented_haproxy(files, built):
 
 
 def nginx_before_the_gateway(files, built):
-    """By a socket of Unix."""
+    """nginx reaches the gateway by a Unix socket."""
     with over_tables(files, f"{built}/gateway") as place:
         gateway = Gateway(f"{built}/gateway", files, place.service.port, path=files.folder / "socket")
         with nginx(files, built, f"unix:{files.folder}/socket") as (port, _):
@@ -181,5 +181,5 @@ def nginx_before_the_gateway(files, built):
         assert gateway.end()
 
 
-# They take the folder with the programs.
+# They take the directory with the programs.
 ALL = [the_documented_nginx, the_documented_haproxy, nginx_before_the_gateway]

@@ -1,7 +1,7 @@
-"""Drawn outlines with points that lie inside them, by WGS84's own geodesics (GeographicLib), and cells by their numbers.
+"""Drawn outlines with points inside them, by WGS84's own geodesics (GeographicLib), and cells by their numbers.
 
-Points are inside by construction: on the line from an outline's centre to a point of its edge. So no second geometry says
-what is inside; S2 is asked for the number of a point's cell alone."""
+Points are inside by construction: on the line from an outline's centre to a point of its edge. So no second geometry
+decides what is inside. S2 gives only the number of a point's cell."""
 import bisect
 import math
 
@@ -37,8 +37,8 @@ def draw_center(random):
 
 
 def draw_outline(random, center, largest=40_000, corners=None):
-    """An outline around a point, and points inside it."""
-    # many corners are so far from each other that they are taken
+    """Draws an outline around a point, and points inside it."""
+    # Many corners are far enough from each other to be accepted.
     size = math.exp(random.uniform(math.log(100) if corners and corners > 100 else 0, math.log(largest)))
     if corners is None and random.random() < 0.3:
         inside = [center] + [away(center, random.uniform(0, 360), size * random.random() ** 0.5) for _ in range(2)]
@@ -61,7 +61,7 @@ def draw_outline(random, center, largest=40_000, corners=None):
 
 
 def span(token):
-    """The first and the last leaf of a cell."""
+    """Returns the first and the last leaf of a cell."""
     number = int(token.ljust(16, "0"), 16)
     half = number & -number
     return number - half + 1, number + half - 1
@@ -77,7 +77,7 @@ def leaf(point):
 
 
 class Held:
-    """What cells hold, as the service has it: compared at level 13."""
+    """Cells as the service compares them: at level 13."""
 
     def __init__(self, tokens):
         wide = [token if level(token) <= 13 else f"{int(token.ljust(16, '0'), 16):016x}" for token in tokens]
@@ -95,20 +95,20 @@ class Held:
 
 
 def corner_on_a_cells_edge(face, u, v):
-    """The point of a face at the coordinates u and v, along whose lines cells have their edges."""
+    """Returns the point of a face at the coordinates u and v, along whose lines cells have their edges."""
     x, y, z = ((1, u, v), (-u, 1, v), (-u, -v, 1), (-1, -v, -u), (v, -1, -u), (v, u, -1))[face]
     return math.degrees(math.atan2(z, math.hypot(x, y))), math.degrees(math.atan2(y, x))
 
 
 def edge_of_level_13(index):
-    """The coordinate u of a line between cells of level 13."""
+    """Returns the coordinate u of a line between cells of level 13."""
     s = index / 2**13
     return (4 * s * s - 1) / 3 if s >= 0.5 else (1 - 4 * (1 - s) ** 2) / 3
 
 
 def draw_bent(random):
-    """A polygon of some 100 km whose edge runs a centimetre beside a line between cells, on either side, and points of the edge
-    as WGS84 has it: it leaves the great circle, and on one of the two sides the line."""
+    """Draws a polygon of some 100 km whose edge runs a centimetre beside a line between cells, on either side, and
+    points of the edge by WGS84: the edge leaves the great circle, and on one of the two sides crosses the line."""
     face, side = random.randrange(6), random.choice((1, -1))
     u, v = edge_of_level_13(random.randrange(1200, 7000)), random.uniform(-0.8, 0.8)
     length, inner = random.choice((1, -1)) * random.uniform(0.012, 0.02), u - side * 3e-4

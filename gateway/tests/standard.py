@@ -1,4 +1,4 @@
-"""The standard's forms of answers, by the members that it names."""
+"""The standard's forms of responses, by the members that it names."""
 import jsonschema
 
 TIME = {
@@ -45,7 +45,7 @@ DENIED = [
 
 
 def check(answer):
-    """That an answer has one of the standard's forms."""
+    """Checks that a response has one of the standard's forms."""
     forms = FORMS if answer.status < 300 else DENIED
     fits = [it for it in forms if jsonschema.Draft7Validator(it).is_valid(answer.json)]
     assert len(fits) == 1, f"{answer} is of no form of the standard"

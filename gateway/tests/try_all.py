@@ -1,9 +1,10 @@
-"""Runs all cases over a gateway and one that is built with the sanitizers; the last line is 'N passed, N failed', with ', N skipped'
-after it where something cannot be tried here.
+"""Runs all cases over a gateway and one that is built with the sanitizers.
 
-    try_all.py FOLDER SANITIZED-FOLDER [NAME..]
+The last line is 'N passed, N failed', with ', N skipped' after it if a case cannot run here.
 
-Each case is told with its seconds. JOBS of them run side by side, as many as there are processors where it is not said."""
+    try_all.py DIRECTORY SANITIZED-DIRECTORY [NAME..]
+
+Each case is printed with its seconds. JOBS cases run in parallel [default: one for each processor]."""
 import concurrent.futures
 import os
 import sys
@@ -22,12 +23,12 @@ import proxies
 import walk
 import world
 
-# What is tried over the plain program, as it asks much of it.
+# Expensive cases, which run over the plain program.
 PLAIN = [flows.drawn_outlines_meet, hostile.hard_outlines_are_answered_soon, *bounds.PLAIN]
 
 
 def run(name, case):
-    """What became of a case, and why where it is not that it passed."""
+    """Returns the result of a case, and the reason if it did not pass."""
     began = time.time()
     try:
         case()
@@ -49,7 +50,7 @@ def over_files(case, program):
 
 
 def run_named(name, built, sanitized):
-    """The results of a name: one, and of the flaws one for each."""
+    """Returns the results of a name: one, or for the flaws one each."""
     plain, tried = f"{built}/gateway", f"{sanitized}/gateway"
     if name == "flaws":
         return [run(it, case) for it, case in flaws.cases(built).items()]

@@ -1,4 +1,4 @@
-"""The walk of gateway/README.md, as it is written, over what gateway/run starts."""
+"""The walk of gateway/README.md, unchanged, over the services that gateway/run starts."""
 import json
 import os
 import signal

@@ -1,4 +1,4 @@
-"""What the cases stand on: programs that are started and ended, tokens that are signed, requests, and what is expected."""
+"""The environment of the cases: processes, signed tokens, requests, and expected responses."""
 import contextlib
 import http.client
 import json
@@ -22,7 +22,7 @@ ISSUER, AUDIENCE = "auth.example", "dss.example"
 SUPPLIERS = ["uss-a", "uss-b", "uss-c", "uss-v", "uss-d client@example"]
 STRATEGIC, PROCESSING, MANAGEMENT = "utm.strategic_coordination", "utm.constraint_processing", "utm.constraint_management"
 MONITORING, ARBITRATION = "utm.conformance_monitoring_sa", "utm.availability_arbitration"
-# connections to the service that gateways keep, where a case does not say
+# Connections to the service that gateways keep open, unless a case says otherwise.
 KEPT = os.environ.get("KEPT", "16")
 ZERO = "00000000-0000-4000-8000-000000000000"
 FRONT = "/dss/v1/"
@@ -33,7 +33,7 @@ RUNNING = []
 
 
 def started(words, **more):
-    """A process that is ended with its case, also where that fails."""
+    """Starts a process that ends with its case, also if that fails."""
     RUNNING.append(subprocess.Popen(words, stdout=subprocess.DEVNULL, **more))
     return RUNNING[-1]
 
@@ -52,7 +52,7 @@ def free_port():
 
 
 def wait_for(place):
-    """Until something listens on a port, or at a path."""
+    """Waits until something listens on a port, or at a path."""
     for _ in range(4000):
         with contextlib.suppress(OSError), socket.socket(socket.AF_UNIX if isinstance(place, str) else socket.AF_INET) as it:
             it.connect(place if isinstance(place, str) else ("127.0.0.1", place))
@@ -62,13 +62,13 @@ def wait_for(place):
 
 
 def key_pair(bits=2048):
-    """A private key, and the public one in PEM."""
+    """Returns a private key, and the public one in PEM."""
     key = rsa.generate_private_key(65537, bits)
     return key, key.public_key().public_bytes(serialization.Encoding.PEM, serialization.PublicFormat.SubjectPublicKeyInfo)
 
 
 class Files:
-    """A folder with a key of the issuer, the gateway's secret, and the token file that is made of it."""
+    """A directory with a key of the issuer, the gateway's secret, and the token file made of it."""
 
     def __init__(self, gateway):
         shm = "/dev/shm" if os.access("/dev/shm", os.W_OK) else None
@@ -104,7 +104,7 @@ class Gateway:
     """A gateway in front of the service on a port."""
 
     def __init__(self, program, files, service, *options, path=None, prepare=None):
-        """On a port, or on a socket of Unix at a path; `prepare` is called in its process before it begins."""
+        """Starts it on a port, or on a Unix socket at a path; `prepare` is called in its process before it begins."""
         self.port, self.log = free_port(), tempfile.TemporaryFile(mode="w+")
         self.files = files
         words = {"socket": path} if path else {"port": self.port}
@@ -116,7 +116,7 @@ class Gateway:
         wait_for(str(path) if path else self.port)
 
     def end(self):
-        """Ends it in order, and says whether it lived until then."""
+        """Stops it normally, and returns whether it lived until then."""
         alive = self.process.poll() is None
         self.process.send_signal(signal.SIGTERM)
         self.process.wait(60)
@@ -137,7 +137,7 @@ class Gateway:
             return Answer(got.status, dict(got.getheaders()), got.read().decode())
 
     def raw(self, data, end=False):
-        """Sends bytes on a connection of their own, and returns all that comes."""
+        """Sends bytes on a separate connection, and returns all that arrives."""
         with socket.create_connection(("127.0.0.1", self.port), 30) as it:
             with contextlib.suppress(OSError):
                 it.sendall(data)
@@ -170,8 +170,8 @@ class Service:
 
 
 class Recorded:
-    """`dss run` over a database behind a port, for up to a hundred requests. It writes down what it is asked, and can lose an
-    answer: of the request with the number `lost`, counted from 0, before (`is_done` False) or after it is done."""
+    """`dss run` over a database behind a port, for up to a hundred requests. It records its requests, and can lose a
+    response: of the request with the number `lost`, counted from 0, before (`is_done` False) or after it is done."""
 
     def __init__(self, files):
         self.asked, self.lost, self.is_done = [], None, True
@@ -216,7 +216,8 @@ class Recorded:
 
 
 class Counted:
-    """A service that answers the same, `{}` at first, on each connection that is opened, and counts: connections, requests, and those at once."""
+    """A service that gives the same response, `{}` at first, on each connection, and counts: connections, requests, and
+    simultaneous requests."""
 
     def __init__(self, pause=0):
         self.pause, self.opened, self.asked, self.now, self.at_once = pause, 0, [], 0, 0
@@ -262,7 +263,7 @@ class Counted:
         self.open.clear()
 
     def end(self):
-        # the one that waits for connections would take one more
+        # The thread that accepts connections would accept one more.
         self.socket.shutdown(socket.SHUT_RDWR)
         self.socket.close()
         self.close_all()

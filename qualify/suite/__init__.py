@@ -1,1 +1,1 @@
-"""A suite that holds a discovery and synchronization service to its interface, from outside, over HTTP."""
+"""A suite that tests a discovery and synchronization service against its interface, from outside, over HTTP."""

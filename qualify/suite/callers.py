@@ -1,4 +1,4 @@
-"""Who asks: suppliers with tokens of a file, or of a command that mints them."""
+"""Callers: USSs with tokens of a file, or of a command that makes them."""
 import dataclasses
 import subprocess
 import tomllib
@@ -8,7 +8,7 @@ PROCESSING, MANAGEMENT = "utm.constraint_processing", "utm.constraint_management
 ARBITRATION = "utm.availability_arbitration"
 KNOWN = {STRATEGIC, MONITORING, PROCESSING, MANAGEMENT, ARBITRATION}
 
-# What is needed: a name, which supplier (0 and 1 are two that meet, None any), and exactly which scopes.
+# The required callers: a name, the USS (0 and 1 are two that conflict, None any), and the exact scopes.
 ROLES = {
     "A": (0, {STRATEGIC}),
     "A monitoring": (0, {STRATEGIC, MONITORING}),
@@ -22,7 +22,7 @@ ROLES = {
 
 
 class Lacking(Exception):
-    """The tokens that are needed cannot be had."""
+    """The error that required tokens are missing."""
 
 
 @dataclasses.dataclass(frozen=True)
@@ -34,13 +34,13 @@ class Caller:
 
 
 def read_tokens(file):
-    """The callers, by their names, with the tokens of a file of the form of the service's own."""
+    """Returns the callers, by their names, with the tokens of a file in the service's format."""
     try:
         with open(file, "rb") as it:
             rows = tomllib.load(it).get("token", [])
         tokens = {(it["uss"], frozenset(it["scopes"]) & KNOWN): it["text"] for it in reversed(rows)}
     except (OSError, ValueError, TypeError, KeyError, AttributeError) as fault:
-        raise Lacking(f"{file} is no token file: {fault}") from fault
+        raise Lacking(f"{file}: no token file: {fault}") from fault
     suppliers = sorted({uss for uss, _ in tokens})
 
     def token_of(which, scopes, pair):
@@ -54,17 +54,18 @@ def read_tokens(file):
         if not lacking:
             return {name: Caller(name, uss, frozenset(ROLES[name][1]), text) for name, (uss, text) in found.items()}
         best = lacking if best is None or len(lacking) < len(best) else best
-    raise Lacking(f"{file} lacks tokens: {', '.join(said_of(it) for it in best or ROLES)}")
+    raise Lacking(f"{file}: lacks tokens: {', '.join(said_of(it) for it in best or ROLES)}")
 
 
 def said_of(name):
     which, scopes = ROLES[name]
-    of = "any supplier" if which is None else "one supplier" if which == 0 else "another supplier"
+    of = "any USS" if which is None else "one USS" if which == 0 else "another USS"
     return f"of {of} with exactly the scopes {' '.join(sorted(scopes)) or 'none'}"
 
 
 def mint_tokens(command, suppliers):
-    """The callers, by their names, with tokens that a command prints: its words are a supplier and scopes in one text."""
+    """Returns the callers, by their names, with tokens that a command prints. Its arguments are a USS and scopes in one
+    text."""
     callers = {}
     for name, (which, scopes) in ROLES.items():
         if scopes:
@@ -77,7 +78,7 @@ def minted(command, uss, scopes):
     try:
         done = subprocess.run([*command, uss, " ".join(sorted(scopes))], capture_output=True, text=True, timeout=60)
     except (OSError, subprocess.TimeoutExpired) as fault:
-        raise Lacking(f"{command[0]} gives no token: {fault}") from fault
+        raise Lacking(f"{command[0]}: gives no token: {fault}") from fault
     if done.returncode or len(done.stdout.split()) != 1:
-        raise Lacking(f"{command[0]} gives no token of {uss} for {' '.join(sorted(scopes))}: {done.stderr.strip()[:300]}")
+        raise Lacking(f"{command[0]}: gives no token of {uss} for {' '.join(sorted(scopes))}: {done.stderr.strip()[:300]}")
     return done.stdout.strip()

@@ -1,4 +1,6 @@
-"""The list of checks: each has a sentence, the rules of docs/POLICY.md and the operations of the standard that it holds to."""
+"""The list of checks.
+
+Each has a sentence, and the rules of docs/POLICY.md and the operations of the standard that it tests."""
 import dataclasses
 
 
@@ -9,7 +11,7 @@ class Check:
     sentence: str
     rules: tuple
     operations: tuple
-    # 'profile' or 'standard', or None where both promise it
+    # 'profile' or 'standard', or None if both promise it.
     only: str
     body: object
 
@@ -25,7 +27,7 @@ AVAILABILITY = {"get": "getUssAvailability", "set": "setUssAvailability"}
 
 
 def check(sentence, rules, operations=(), only=None):
-    """Takes a function of a trial into the list."""
+    """Adds a function of a trial to the list."""
     def take(body):
         group = body.__module__.rpartition(".")[2]
         CHECKS.append(Check(body.__name__, group, sentence, split(rules), tuple(operations), only, body))

@@ -1,5 +1,6 @@
-"""How volumes, times and bodies are written: as this project's profile has them, or as the standard has them. And the places of a
-run, far out at sea."""
+"""Volumes, times and bodies, in the form of this project's profile or of the standard.
+
+Also the places of a run, far out at sea."""
 import calendar
 import math
 import random
@@ -8,17 +9,18 @@ import time
 
 ZERO = "00000000-0000-4000-8000-000000000000"
 URL = "https://uss-{}.qualify.example"
-# seconds from the run's moment: when what is put begins and ends, where a check does not say otherwise
+# Seconds from the run's time: when an entity begins and ends, unless a check says otherwise.
 STARTS, ENDS = 900, 4500
 
-# Level 13 of the profile's grid is that at which cells are compared.
+# The level of the profile's grid at which cells are compared.
 LEVEL = 13
-# Of the South Pacific, from 41 to 47 degrees south and from 112 to 123 degrees west: no land is nearer than 1,500 km.
+# Part of the South Pacific, from 41 to 47 degrees south and from 112 to 123 degrees west: no land is nearer than 1,500
+# km.
 SEA = 0xA1F0000000000000
 
 
 def cell(parent, *digits):
-    """The number of a cell below another."""
+    """Returns the number of a cell below another."""
     for digit in digits:
         half = (parent & -parent) >> 2
         parent = parent - (parent & -parent) + (2 * digit + 1) * half
@@ -26,7 +28,7 @@ def cell(parent, *digits):
 
 
 def parent(number):
-    """The number of the cell that holds another."""
+    """Returns the number of the cell that holds another."""
     lowest = (number & -number) << 2
     return number & -lowest | lowest
 
@@ -40,17 +42,17 @@ def number_of(text):
 
 
 class Profile:
-    """Cells, whole decimetres, whole seconds."""
+    """Cells, integer decimetres, integer seconds."""
 
     name, is_standard = "profile", False
-    # whether answers may have members beyond those that are named
+    # Whether responses may have further members.
     is_open = False
 
     def __init__(self, moment):
         self.moment = moment
 
     def volume(self, places, low=0, high=100, start=STARTS, end=ENDS):
-        """The volume over places, between metres, and between seconds from the run's moment."""
+        """Returns the volume over places, between metres, and between seconds from the run's time."""
         return {
             "cells": list(places), "altitude_lower": 10 * low, "altitude_upper": 10 * high,
             "time_start": self.moment + start, "time_end": self.moment + end}
@@ -62,14 +64,14 @@ class Profile:
         return {"cells": list(places)}
 
     def second(self, value):
-        """The seconds of a time in an answer, or None."""
+        """Returns the seconds of a time in a response, or None."""
         return value if type(value) is int else None
 
     def needs_subscription(self, state):
         return False
 
     def homes(self, seed):
-        """Places to begin from, one after the other: cells of level 9, of 256 places each."""
+        """Yields places to begin from: cells of level 9, of 256 places each."""
         draw = random.Random(f"profile {seed}")
         while True:
             yield cell(SEA, *(draw.randrange(4) for _ in range(5)))
@@ -83,7 +85,7 @@ class Profile:
         return places
 
     def too_large(self, home):
-        """An area of five cells of level 7, each of 4,096 places."""
+        """Returns an area of five cells of level 7, each of 4,096 places."""
         wide = cell(SEA, 0)
         return self.area([token(cell(wide, a, b)) for a, b in ((0, 0), (0, 1), (0, 2), (0, 3), (1, 0))])
 
@@ -112,7 +114,7 @@ class Standard:
         self.moment = moment
 
     def volume(self, places, low=0, high=100, start=STARTS, end=ENDS):
-        """The volume over one place, or the least circle over those that are given."""
+        """Returns the volume over one place, or the smallest circle over the given ones."""
         return {
             "volume": {**self.outline(places), "altitude_lower": metres(low), "altitude_upper": metres(high)},
             "time_start": stamp(self.moment + start), "time_end": stamp(self.moment + end)}
@@ -137,7 +139,7 @@ class Standard:
         return state != "Accepted"
 
     def homes(self, seed):
-        """Places to begin from: circles of 25 km."""
+        """Yields places to begin from: circles of 25 km."""
         draw = random.Random(f"standard {seed}")
         while True:
             yield round(draw.uniform(-46, -38), 5), round(draw.uniform(-126, -113), 5)
@@ -146,7 +148,7 @@ class Standard:
         return {"volume": circle(home, 25_000)}
 
     def sites(self, home, seed):
-        """Places 4 km from each other at least."""
+        """Yields places that are at least 4 km apart."""
         found = []
         for north in range(-6, 7):
             for east in range(-6, 7):
@@ -164,6 +166,6 @@ class Standard:
 
 
 def distance(one, other):
-    """Metres between places that are near each other, and not too few."""
+    """Returns the metres between places near each other, or slightly more."""
     north, east = one[0] - other[0], (one[1] - other[1]) * math.cos(math.radians(one[0]))
     return 112_000 * math.hypot(north, east)

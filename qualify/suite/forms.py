@@ -1,4 +1,6 @@
-"""The forms of answers: which members each has, and of what kind. Of the profile they are exact; the standard lets an answer have more."""
+"""The forms of responses: which members each has, and of what kind.
+
+Those of the profile are exact; the standard permits further members."""
 import re
 
 ID = re.compile(r"[0-9a-f]{8}-[0-9a-f]{4}-[0-9a-f]{4}-[0-9a-f]{4}-[0-9a-f]{12}")
@@ -38,13 +40,13 @@ def many(form):
 
 
 class Form:
-    """An object: members that it must have, and members that it may have."""
+    """An object: required and optional members."""
 
     def __init__(self, needed, **optional):
         self.needed, self.optional = needed, optional
 
     def fault(self, value, dialect, at=""):
-        """What is wrong with a value, in words, or None."""
+        """Returns what is wrong with a value, or None."""
         if not isinstance(value, dict):
             return f"{at or 'the body'} is no object"
         for name in self.needed:
@@ -81,7 +83,8 @@ STATUS = Form({"uss": text, "availability": AVAILABILITY})
 
 
 def forms_of(kind, word, dialect):
-    """The form of an answer of success to a request, by the kind of the path and whether its last word is `query`."""
+    """Returns the form of a successful response to a request, by the kind of the path and whether its last part is
+    `query`."""
     is_standard = dialect.is_standard
     subscription = Form(SUBSCRIPTION, **FLAGS) if is_standard else Form({**SUBSCRIPTION, **FLAGS})
     if kind == "uss_availability":
@@ -98,6 +101,6 @@ def forms_of(kind, word, dialect):
 
 
 def denial(is_for_key):
-    """The form of a denial."""
+    """Returns the form of a denial."""
     missing = {"missing_operational_intents": many(INTENT), "missing_constraints": many(CONSTRAINT)}
     return Form({"message": text}, **(missing if is_for_key else {}))

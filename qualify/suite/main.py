@@ -14,43 +14,43 @@ from suite.dialect import Profile, Standard
 from suite.run import NoPlace, Run, chosen
 
 EPILOG = """
-It puts intents, constraints and subscriptions of its own far out in the South Pacific, in a place that it first finds empty, and deletes
-them; it sets the availability of one of its suppliers, and sets it back. Of a service of the standard it needs tokens of two suppliers at
-least. Exit status: 0 where all held, 1 where something did not, 2 where it could not begin.
+The suite puts intents, constraints and subscriptions of its own far out in the South Pacific, in a place that it first finds empty, and
+deletes them. It sets the availability of one of its USSs, and resets it. For a service of the standard it needs tokens of at least two
+USSs. Exit status: 0 if all checks held, 1 if a check broke, 2 if the run could not begin.
 """
 
 
 def arguments(words):
     parser = argparse.ArgumentParser(
-        "qualify/run", description="Holds a discovery and synchronization service to the rules of this interface, or of the standard's.",
+        "qualify/run", description="Tests a discovery and synchronization service against the rules of this interface, or of the standard's.",
         epilog=EPILOG)
-    parser.add_argument("--url", help="the service, up to where /dss/v1 begins: http://127.0.0.1:8080")
-    parser.add_argument("--tokens", metavar="FILE", help="the tokens of its suppliers, in the form of the service's own token file")
-    parser.add_argument("--standard", action="store_true", help="hold it to the DSS interface of ASTM F3548-21 in place of the profile")
-    parser.add_argument("--mint", metavar="COMMAND", help="prints a token; two words are added to it, a supplier and its scopes")
-    parser.add_argument("--suppliers", default="uss-a,uss-b,uss-c,uss-v", help="for whom tokens are minted: two that meet, one that "
-                        "manages constraints, one that sets availabilities (default: %(default)s)")
-    parser.add_argument("--behind-proxy", action="store_true", help="leave out paths, methods and connections, where what stands before the "
-                        "service has rules of its own")
-    parser.add_argument("--seed", help="chooses the place and all that is drawn (default: another each time)")
-    parser.add_argument("--rate", type=float, default=50, metavar="N", help="never more requests a second (default: %(default)s)")
-    parser.add_argument("--requests", type=int, default=4000, metavar="N", help="never more requests (default: %(default)s)")
-    parser.add_argument("--seconds", type=float, default=600, metavar="N", help="begin nothing after so many (default: %(default)s)")
-    parser.add_argument("--ca", metavar="FILE", help="certificates that sign the service's, where the machine does not know them")
-    parser.add_argument("--result", default="qualify-result", metavar="FOLDER",
-                        help="where result.html and result.xml go (default: %(default)s)")
-    parser.add_argument("--list", action="store_true", help="list the checks, and ask nothing")
-    parser.add_argument("names", nargs="*", metavar="CHECK", help="checks or groups of them, in place of all")
+    parser.add_argument("--url", help="base URL of the service, without /dss/v1: http://127.0.0.1:8080")
+    parser.add_argument("--tokens", metavar="FILE", help="file with tokens of its USSs, in the format of the service's token file")
+    parser.add_argument("--standard", action="store_true", help="test the DSS interface of ASTM F3548-21 instead of the profile")
+    parser.add_argument("--mint", metavar="COMMAND", help="command that prints a token, called with two more arguments: a USS and its scopes")
+    parser.add_argument("--suppliers", default="uss-a,uss-b,uss-c,uss-v", help="USSs to request tokens for: two in conflict, one that "
+                        "manages constraints, one that sets availabilities [default: %(default)s]")
+    parser.add_argument("--behind-proxy", action="store_true", help="skip the checks of paths, methods and connections, because a proxy in front of the "
+                        "service has its own rules")
+    parser.add_argument("--seed", help="seed of the place and of all drawn values [default: a new one in each run]")
+    parser.add_argument("--rate", type=float, default=50, metavar="N", help="max requests a second [default: %(default)s]")
+    parser.add_argument("--requests", type=int, default=4000, metavar="N", help="max requests [default: %(default)s]")
+    parser.add_argument("--seconds", type=float, default=600, metavar="N", help="max seconds before the last check begins [default: %(default)s]")
+    parser.add_argument("--ca", metavar="FILE", help="CA certificates of the service, if the machine does not trust them")
+    parser.add_argument("--result", default="qualify-result", metavar="DIR",
+                        help="directory for result.html and result.xml [default: %(default)s]")
+    parser.add_argument("--list", action="store_true", help="list the checks and send no request")
+    parser.add_argument("names", nargs="*", metavar="CHECK", help="checks or groups to run [default: all]")
     given = parser.parse_args(words)
     if given.list:
         return given
     if not given.url or not (given.mint if given.standard else given.tokens):
-        parser.error("--url and " + ("--mint are" if given.standard else "--tokens are") + " needed")
+        parser.error("--url and " + ("--mint are" if given.standard else "--tokens are") + " required")
     if given.rate <= 0 or given.requests < 1 or given.seconds <= 0:
-        parser.error("--rate, --requests and --seconds are above 0")
+        parser.error("--rate, --requests and --seconds must be above 0")
     unknown = [it for it in given.names if not any(it in (check.name, check.group) for check in CHECKS)]
     if unknown:
-        parser.error(f"no check is named {' '.join(unknown)}: --list names them")
+        parser.error(f"no such check: {' '.join(unknown)}; --list prints their names")
     return given
 
 
@@ -58,7 +58,7 @@ def callers_of(given):
     if given.standard:
         suppliers = [it for it in given.suppliers.split(",") if it]
         if len(set(suppliers)) < 2:
-            raise Lacking("--suppliers must name two suppliers at least")
+            raise Lacking("--suppliers: at least two USSs are required")
         return mint_tokens(shlex.split(given.mint), suppliers)
     return read_tokens(given.tokens)
 
@@ -71,7 +71,7 @@ def main(words):
         for check in checks:
             print(f"{check.group} {check.name}: {check.sentence}. ({report.sources(check, given.standard)})")
         return 0
-    # told to end, it cleans up as it does after an interrupt
+    # On SIGTERM it cleans up as after an interrupt.
     signal.signal(signal.SIGTERM, signal.default_int_handler)
     try:
         bounds = given.rate, given.requests, given.seconds
@@ -81,7 +81,7 @@ def main(words):
         print(f"qualify: {fault}", file=sys.stderr)
         return 2
     except KeyboardInterrupt:
-        print("qualify: interrupted before anything was put", file=sys.stderr)
+        print("qualify: interrupted before the first put", file=sys.stderr)
         return 2
     results = []
     for result in run.results(checks):
@@ -93,7 +93,7 @@ def main(words):
 
 
 def told(given, run, results):
-    """Writes what was found, and says whether all held."""
+    """Writes the results, and returns whether all checks held."""
     folder = pathlib.Path(given.result)
     try:
         folder.mkdir(parents=True, exist_ok=True)

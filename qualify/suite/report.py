@@ -1,4 +1,4 @@
-"""What a run found, as a page that stands alone and as JUnit XML."""
+"""The results of a run, as a self-contained page and as JUnit XML."""
 import html
 import json
 import time
@@ -10,7 +10,7 @@ GROUPS = {
     "intents": "Operational intents", "keys": "Keys", "constraints": "Constraints", "subscriptions": "Subscriptions",
     "availability": "Availability", "callers": "Who may what", "repeats": "Lost answers, and two at once",
     "bodies": "Bodies and limits", "connections": "Paths, methods and connections"}
-MOST_SHOWN = 800
+MAX_SHOWN = 800
 
 STYLE = """
 :root { color-scheme: light dark; --line: #8886; --held: #1a7f37; --broken: #c62828; --soft: #8882; }
@@ -27,7 +27,7 @@ details { border-top: 1px solid var(--line); padding: .35rem 0; } summary { curs
 
 
 def cut(text):
-    return text if len(text) <= MOST_SHOWN else f"{text[:MOST_SHOWN]} .. ({len(text)} characters)"
+    return text if len(text) <= MAX_SHOWN else f"{text[:MAX_SHOWN]} .. ({len(text)} characters)"
 
 
 def shown(body):
@@ -40,7 +40,7 @@ def mark(holds):
 
 
 def sources(check, is_standard):
-    """The rules or the operations that a check holds to."""
+    """Returns the rules or the operations that a check tests."""
     rules = f"docs/POLICY.md: {', '.join(check.rules)}" if any(check.rules) else ""
     operations = f"ASTM F3548-21: {', '.join(check.operations)}" if check.operations else ""
     return "; ".join(it for it in ((operations, rules) if is_standard else (rules, operations)) if it)
@@ -57,28 +57,28 @@ def row(exchange):
 
 def block(result, is_standard):
     holds = result.why is None
-    why = "" if holds else f'<p class="why">Expected and not so: {html.escape(result.why)}</p>'
+    why = "" if holds else f'<p class="why">Expected, but false: {html.escape(result.why)}</p>'
     left = f'<p class="why">Left behind: {html.escape(", ".join(result.left))}</p>' if result.left else ""
     rows = "".join(map(row, result.exchanges))
     return (f'<details{"" if holds else " open"} id="{result.check.name}"><summary>{mark(holds)}{html.escape(result.check.sentence)}.'
             f'<span class="rule">{html.escape(sources(result.check, is_standard))}</span></summary>{why}{left}'
-            f'<div class="scroll"><table><tr><th>asked</th><th>came</th><th>expected</th></tr>{rows}</table></div></details>')
+            f'<div class="scroll"><table><tr><th>request</th><th>response</th><th>expected</th></tr>{rows}</table></div></details>')
 
 
 def page(run, results):
-    """The page as a text."""
+    """Returns the page as a text."""
     is_standard = run.dialect.is_standard
     broken = sum(it.why is not None for it in results)
-    what = "the DSS interface of ASTM F3548-21, as far as this suite looks" if is_standard else "the profile of dss, docs/POLICY.md"
+    what = "the DSS interface of ASTM F3548-21, as far as this suite tests it" if is_standard else "the profile of dss, docs/POLICY.md"
     when = time.strftime("%Y-%m-%d %H:%M:%S UTC", time.gmtime(run.began))
     parts = [
-        f"<p>{html.escape(run.url)} was held to {what}, on {when}, with the seed {html.escape(str(run.seed))}: "
+        f"<p>{html.escape(run.url)} was tested against {what}, on {when}, with the seed {html.escape(str(run.seed))}: "
         f"{len(results) - broken} checks held, {broken} broken; {run.pace.sent} requests. Each check has, below its sentence, the rules "
-        "and operations that it holds to, and inside what was asked, what came and what was expected. Of each answer it is expected, too, "
-        "that there is one, that it has its form and shows no OVN of another supplier, and that no OVN is given twice; that is told only "
-        "where it is not so. Requests that clean up are not shown.</p>"]
+        "and operations that it tests, and inside its requests, responses and expectations. Further expectations hold for every response: "
+        "it arrives, has its form and no OVN of another USS, and no OVN is returned twice. They are shown only if they fail. "
+        "Requests that clean up are not shown.</p>"]
     left_out = sum(it.only in (None, run.dialect.name) for it in CHECKS) - len(results)
-    parts += [f"<p>{left_out} checks were left out, as was asked.</p>"] if left_out else []
+    parts += [f"<p>{left_out} checks were not selected.</p>"] if left_out else []
     links = "".join(f'<li><a href="#{it.check.name}">{html.escape(it.check.sentence)}</a></li>' for it in results if it.why is not None)
     parts += [f"<h2>Broken</h2><ul>{links}</ul>"] if links else []
     for group, title in GROUPS.items():
@@ -93,12 +93,12 @@ def page(run, results):
 
 
 def plain(text):
-    """The text without what XML does not take."""
+    """Returns the text without characters that XML forbids."""
     return "".join(it if it in "\t\n" or " " <= it <= "\ud7ff" or "\ue000" <= it <= "\ufffd" or it > "\uffff" else "?" for it in text)
 
 
 def junit(run, results):
-    """JUnit XML as bytes."""
+    """Returns JUnit XML as bytes."""
     broken = sum(it.why is not None for it in results)
     suite = tree.Element("testsuite", {
         "name": f"qualify {run.dialect.name}", "tests": str(len(results)), "failures": str(broken), "errors": "0", "skipped": "0",
@@ -111,7 +111,7 @@ def junit(run, results):
         lines = [f"{it.check.sentence}.", sources(it.check, run.dialect.is_standard)]
         if it.why is not None:
             if last:
-                lines += [f"asked: {last.who}: {last.method} {last.path} {shown(last.body)}", f"came: {last.status} {cut(last.text)}"]
+                lines += [f"request: {last.who}: {last.method} {last.path} {shown(last.body)}", f"response: {last.status} {cut(last.text)}"]
             failure = tree.SubElement(case, "failure", {"message": plain(f"expected: {it.why}")})
             failure.text = plain("\n".join([*lines, f"expected: {it.why}"]))
         else:

@@ -1,4 +1,4 @@
-"""A run of the checks over a service: the place that it is at, what came of each check, and that it leaves nothing behind."""
+"""A run of the checks over a service: its place, the result of each check, and its cleanup."""
 import dataclasses
 import random
 import time
@@ -9,26 +9,26 @@ from suite.check import CHECKS
 from suite.trial import CONSTRAINTS, INTENTS, SUBSCRIPTIONS, Broken, Knowledge, Trial
 from suite.wire import Client, OutOfBounds, Pace
 
-# how many places are tried before the run gives up
-MOST_HOMES = 20
+# How many places are tried before the run fails.
+MAX_HOMES = 20
 
 
 class NoPlace(Exception):
-    """There is no empty place, or the service does not say so."""
+    """The error that no empty place exists, or that the service does not answer the search."""
 
 
 @dataclasses.dataclass
 class Result:
     check: object
     exchanges: list
-    # what does not hold, in words, or None
+    # What does not hold, or None.
     why: str
     left: list
     seconds: float
 
 
 def chosen(dialect, names=()):
-    """The checks of a dialect, or those named, in their order."""
+    """Returns the checks of a dialect, or the named ones, in their order."""
     groups = [it.__name__.rpartition(".")[2] for it in checks.GROUPS]
     fitting = [it for it in CHECKS if it.only in (None, dialect.name) and (not names or it.name in names or it.group in names)]
     return sorted(fitting, key=lambda it: groups.index(it.group))
@@ -37,8 +37,8 @@ def chosen(dialect, names=()):
 class Run:
     """One run, by a seed."""
 
-    def __init__(self, url, callers, dialect, seed, rate=50, most_requests=4000, most_seconds=600, ca=None):
-        self.pace = Pace(rate, most_requests, most_seconds)
+    def __init__(self, url, callers, dialect, seed, rate=50, max_requests=4000, max_seconds=600, ca=None):
+        self.pace = Pace(rate, max_requests, max_seconds)
         self.client = Client(url, self.pace, ca)
         self.url, self.callers, self.dialect, self.seed = url, callers, dialect, seed
         self.knowledge, self.draw = Knowledge(), random.Random(f"run {seed}")
@@ -46,16 +46,16 @@ class Run:
         self.began = time.time()
 
     def site(self):
-        """A place that was not given yet in this check."""
+        """Returns a place that this check has not used yet."""
         self.used += 1
         return self.places[(self.used - 1) % len(self.places)]
 
     def settle(self):
-        """Finds a place where nothing is."""
+        """Finds an empty place."""
         homes, trial = self.dialect.homes(self.seed), Trial(self)
-        # the forms of answers are for the checks
+        # Forms of responses are tested by the checks.
         trial.is_watched = False
-        for _ in range(MOST_HOMES):
+        for _ in range(MAX_HOMES):
             home = next(homes)
             area = self.dialect.everywhere(home)
             asked = [(trial.a, INTENTS), (trial.b_processing, CONSTRAINTS), (trial.a, SUBSCRIPTIONS), (trial.b, SUBSCRIPTIONS)]
@@ -64,15 +64,15 @@ class Run:
                 is_empty = all(answer.ids == [] for answer in answers)
             except (Broken, OutOfBounds, TypeError, KeyError) as fault:
                 last = trial.exchanges[-1] if trial.exchanges else None
-                came = f": {last.method} {last.path} was answered {last.status} {' '.join(last.text.split())[:300]}" if last else ""
-                raise NoPlace(f"{fault} was expected of a query of its place{came}") from fault
+                came = f": response to {last.method} {last.path}: {last.status} {' '.join(last.text.split())[:300]}" if last else ""
+                raise NoPlace(f"the search for an empty place failed: expected {fault}{came}") from fault
             if is_empty:
                 self.home, self.places = home, self.dialect.sites(home, self.seed)
                 return
-        raise NoPlace(f"none of {MOST_HOMES} places by the seed {self.seed} is empty: take another seed")
+        raise NoPlace(f"none of {MAX_HOMES} places by the seed {self.seed} is empty; use another --seed")
 
     def results(self, chosen):
-        """What comes of each check, as it comes."""
+        """Yields the result of each check, when it is done."""
         for check in chosen:
             began, trial = time.monotonic(), Trial(self)
             is_interrupted, why = False, None
@@ -90,7 +90,7 @@ class Run:
         self.client.close()
 
     def hide_tokens(self, exchanges):
-        """Takes tokens out of what is shown."""
+        """Redacts tokens in the exchanges that are shown."""
         for text in sorted({it.token for it in self.callers.values()}, key=len, reverse=True):
             for it in exchanges:
                 it.text = it.text.replace(text, "(a token)")
@@ -99,13 +99,13 @@ class Run:
 
 
 def broken_in(check, trial):
-    """What does not hold, in words, or None."""
+    """Returns what does not hold, or None."""
     try:
         check.body(trial)
     except (Broken, OutOfBounds) as fault:
         return str(fault) or "it does not hold"
     except Exception as fault:
-        # a body of another form than the one that was looked at
+        # A body of another form than the check expects.
         where = traceback.extract_tb(fault.__traceback__)[-1]
-        return f"an answer that can be read ({type(fault).__name__}: {fault}, {where.name})"
+        return f"a readable response ({type(fault).__name__}: {fault}, {where.name})"
     return None

@@ -1,4 +1,4 @@
-"""What a check has in hand: suppliers that ask, places of its own, and what it says must hold. It takes away what it has put."""
+"""The environment of a check: callers, places of its own, and expectations. It deletes what the check has put."""
 import contextlib
 import json
 import uuid
@@ -14,25 +14,25 @@ REFERENCE = {INTENTS: "operational_intent_reference", CONSTRAINTS: "constraint_r
 
 
 class Broken(Exception):
-    """Something that must hold does not."""
+    """The error that an expectation does not hold."""
 
 
 class Knowledge:
-    """What the suite knows over a whole run: each OVN that a supplier was given, and whose name each supplier has."""
+    """Knowledge over a whole run: each OVN and the USS that received it, and the name of each USS."""
 
     def __init__(self):
         self.given, self.names = {}, {}
 
 
 class Answer:
-    """An exchange, and what is asked of it."""
+    """An exchange with expectations."""
 
     def __init__(self, trial, exchange):
         self.trial, self.exchange = trial, exchange
         self.status, self.value = exchange.status, exchange.value
 
     def must(self, status, message=None, standard=None):
-        """The status that must have come, and of the profile the message of a denial. The standard may leave a choice."""
+        """Expects a status, and in the profile the message of a denial. The standard may permit several."""
         is_standard = self.trial.dialect.is_standard
         allowed = (standard or (status,)) if is_standard else (status,)
         said = " or ".join(map(str, allowed)) + (f" {message}" if message and not is_standard else "")
@@ -43,34 +43,34 @@ class Answer:
         return self
 
     def need(self, holds, what):
-        """Notes what is expected of the answer; where it does not hold, the check is broken."""
+        """Records an expectation. If it does not hold, the check is broken."""
         self.exchange.expected.append((what, bool(holds)))
         if not holds:
             raise Broken(what)
         return self
 
     def always(self, holds, what):
-        """The same of what is expected of each answer, which is told only where it does not hold."""
+        """Expects something of every response; it is reported only if it does not hold."""
         return self if holds else self.need(False, what)
 
     def part(self, name):
-        self.need(isinstance(self.value, dict) and name in self.value, f"the answer has {name}")
+        self.need(isinstance(self.value, dict) and name in self.value, f"the response has {name}")
         return self.value[name]
 
     @property
     def reference(self):
-        """The reference or the subscription that the answer has."""
+        """Returns the reference or the subscription of the response."""
         return self.part(next((it for it in REFERENCE.values() if it in (self.value or {})), "a reference"))
 
     @property
     def ids(self):
-        """The ids of what a query found."""
+        """Returns the ids that a query found."""
         names = [it for it in (f"{name}s" for name in REFERENCE.values()) if it in (self.value or {})]
         return [it["id"] for it in self.part(names[0] if names else "references")]
 
     @property
     def indexes(self):
-        """The new index of each subscription that is to be told."""
+        """Returns the new index of each subscription to notify."""
         told = [it for by_url in self.part("subscribers") for it in by_url["subscriptions"]]
         return {it["subscription_id"]: it["notification_index"] for it in told}
 
@@ -80,7 +80,7 @@ class Answer:
 
 
 class Supplier:
-    """Who asks, with one token."""
+    """A caller, with one token."""
 
     def __init__(self, trial, caller):
         self.trial, self.caller, self.uss = trial, caller, caller.uss if caller else None
@@ -125,11 +125,11 @@ class Supplier:
 
 
 class Trial:
-    """One check as it runs."""
+    """A running check."""
 
     def __init__(self, run):
         self.run, self.client, self.dialect, self.knowledge = run, run.client, run.dialect, run.knowledge
-        # what may be there to take away, and the availabilities that were set and what they were when first seen
+        # Entities to delete, and the availabilities that were set and their first values.
         self.exchanges, self.kept, self.settings, self.seen = [], {}, {}, {}
         self.is_watched = True
         self.suppliers = {name: Supplier(self, it) for name, it in run.callers.items()}
@@ -137,14 +137,14 @@ class Trial:
         self.a, self.b, self.b_processing, self.a_monitoring, self.b_monitoring, self.manager, self.arbiter = (
             self.suppliers[it] for it in ("A", "B", "B processing", "A monitoring", "B monitoring", "constraint manager", "arbiter"))
 
-    # ---- what is put
+    # ---- puts
 
     def id(self):
-        """A new id, by the seed of the run."""
+        """Returns a new id, by the seed of the run."""
         return str(uuid.UUID(int=self.run.draw.getrandbits(128), version=4))
 
     def site(self):
-        """A place where no other check puts anything."""
+        """Returns a place where no other check puts anything."""
         return self.run.site()
 
     def volume(self, *places, **bounds):
@@ -163,14 +163,14 @@ class Trial:
             "extents": volume, "uss_base_url": URL.format(url), "notify_for_operational_intents": intents,
             "notify_for_constraints": constraints}
 
-    # ---- what comes
+    # ---- responses
 
     def taken(self, supplier, exchange):
-        """The answer, after what holds of each."""
+        """Returns the response, after the expectations on every response."""
         self.exchanges.append(exchange)
         answer = Answer(self, exchange)
         if self.is_watched:
-            answer.always(exchange.status is not None, "an answer")
+            answer.always(exchange.status is not None, "a response")
             self.has_form(answer)
             self.hides_ovns(supplier, answer)
         self.learn(supplier, answer)
@@ -186,19 +186,19 @@ class Trial:
         else:
             form = forms.denial(exchange.status == 409 and kind == "operational_intent_references")
         why = form.fault(exchange.value, self.dialect)
-        answer.always(why is None, "the answer's form" + (f": {why}" if why else ""))
+        answer.always(why is None, "the response's form" + (f": {why}" if why else ""))
         if not self.dialect.is_standard:
             compact = json.dumps(exchange.value, separators=(",", ":"), sort_keys=True, ensure_ascii=False)
             answer.always(compact == exchange.text, "compact JSON, members in the order of their names")
 
     def hides_ovns(self, supplier, answer):
-        """No answer has an OVN that another supplier was given."""
+        """Expects that no response has an OVN that another USS received."""
         text, uss = answer.exchange.text, supplier.uss
         shown = [it for it, (owner, _) in self.knowledge.given.items() if owner != uss and it in text]
-        answer.always(not shown, "no OVN or version of another supplier")
+        answer.always(not shown, "no OVN or version of another USS")
 
     def learn(self, supplier, answer):
-        """Keeps in mind which OVN or version a put gave, and that none is given twice."""
+        """Records the OVN or version that a put returned, and expects that none is returned twice."""
         exchange = answer.exchange
         if exchange.method != "PUT" or exchange.status not in (200, 201) or not isinstance(exchange.value, dict):
             return
@@ -208,11 +208,11 @@ class Trial:
                 ovn = given.get("version" if name == "subscription" else "ovn")
                 if self.is_watched:
                     answer.always(isinstance(ovn, str) and len(ovn) >= 1, "the new OVN or version")
-                    answer.always(ovn not in self.knowledge.given, "an OVN or version that was never given before")
+                    answer.always(ovn not in self.knowledge.given, "an OVN or version that was never returned before")
                 if isinstance(ovn, str) and len(ovn) >= 16:
                     self.knowledge.given[ovn] = supplier.uss, exchange.path
 
-    # ---- what is taken away
+    # ---- cleanup
 
     def may_be_kept(self, supplier, path):
         kind = next((it for it in (INTENTS, CONSTRAINTS, SUBSCRIPTIONS) if path.startswith(f"{it}/")), None)
@@ -222,9 +222,9 @@ class Trial:
             self.client.pace.reserve = 3 * len(self.kept) + 9
 
     def clean(self):
-        """Deletes what the check has put, and sets availabilities back. What cannot be taken away is told."""
+        """Deletes what the check has put, and resets availabilities. Reports what cannot be deleted."""
         self.is_watched, self.client.is_cleaning, shown = False, True, len(self.exchanges)
-        # intents first, as they may name subscriptions
+        # Intents first, as they may reference subscriptions.
         order = [INTENTS, CONSTRAINTS, SUBSCRIPTIONS]
         left = dict.fromkeys(sorted(self.kept, key=lambda it: order.index(it[0])))
         with contextlib.suppress(OutOfBounds):
@@ -236,12 +236,12 @@ class Trial:
             for uss, before in self.settings.items():
                 self.put_back(uss, before)
         self.client.is_cleaning, self.client.pace.reserve = False, 0
-        # requests that clean up are no part of what the check tells
+        # Requests that clean up are not shown with the check.
         del self.exchanges[shown:]
         return [f"{kind.removeprefix(FRONT)}/{id_}" for kind, id_ in left]
 
     def take_away(self, kind, id_, names):
-        """Whether a thing is gone."""
+        """Deletes an entity or a subscription; returns whether it is gone."""
         for _ in range(2):
             for name in self.by_scope(kind, names):
                 supplier = self.suppliers[name]
@@ -257,7 +257,7 @@ class Trial:
         return False
 
     def by_scope(self, kind, names):
-        """Who may delete it: whoever put it, by a token that may."""
+        """Returns the callers that may delete it: the USS that put it, with a token whose scopes permit that."""
         may = {
             INTENTS: ["A", "B", "A monitoring", "B monitoring"], CONSTRAINTS: ["constraint manager"],
             SUBSCRIPTIONS: ["A", "B", "B processing"]}

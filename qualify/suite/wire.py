@@ -1,5 +1,6 @@
-"""Requests to the service that is held to its rules, and what came: one connection at a time, never more requests a second, in
-all, or for longer than was allowed."""
+"""Requests to the service under test, and its responses.
+
+It uses one connection at a time, and never exceeds the permitted rate, number and duration."""
 import contextlib
 import dataclasses
 import http.client
@@ -10,21 +11,21 @@ import threading
 import time
 import urllib.parse
 
-# The requests, the idle seconds and the seconds after which a connection is closed. The service closes one later, so that no request
-# is sent as it does.
-MOST_ON_ONE, MOST_IDLE, MOST_OPEN = 90, 1.0, 30.0
+# The requests, the idle seconds and the seconds after which a connection is closed. The service closes one later, so
+# that no request is sent while it closes.
+MAX_ON_ONE, MAX_IDLE, MAX_OPEN = 90, 1.0, 30.0
 PATIENCE = 30.0
-# seconds for cleaning up, beyond those that were allowed
+# Seconds for cleaning up, in addition to the permitted ones.
 GRACE = 60.0
 
 
 class OutOfBounds(Exception):
-    """As many requests, or as much time, as was allowed."""
+    """The error that the permitted number of requests, or the permitted time, is used up."""
 
 
 @dataclasses.dataclass
 class Exchange:
-    """What was asked and by whom, what came, and what was expected of it."""
+    """A request and its caller, the response, and what was expected of it."""
 
     who: str
     method: str
@@ -34,9 +35,9 @@ class Exchange:
     fields: dict = dataclasses.field(default_factory=dict)
     text: str = ""
     value: object = None
-    # sentences, each with whether it held
+    # Sentences, each with whether it held.
     expected: list = dataclasses.field(default_factory=list)
-    # which request it was on its connection, where that matters
+    # The number of the request on its connection, if that matters.
     number: int = None
 
     def take(self, status, fields, text):
@@ -46,43 +47,44 @@ class Exchange:
             self.value = json.loads(text) if text else None
 
     def fail(self, why):
-        self.text = f"no answer: {why}"
+        self.text = f"no response: {why}"
 
 
 class Pace:
     """When the next request may be sent, and whether one may be."""
 
-    def __init__(self, rate, most_requests, most_seconds):
-        self.step, self.left, self.until = 1 / rate, most_requests, time.monotonic() + most_seconds
+    def __init__(self, rate, max_requests, max_seconds):
+        self.step, self.left, self.until = 1 / rate, max_requests, time.monotonic() + max_seconds
         self.next, self.lock, self.sent = 0.0, threading.Lock(), 0
-        # requests that are kept for what has to be cleaned up
+        # Requests that are reserved for cleaning up.
         self.reserve = 0
 
     def wait(self, is_cleaning=False):
         with self.lock:
             reserve = 0 if is_cleaning else self.reserve
             if self.left <= reserve:
-                raise OutOfBounds("no more requests are allowed")
+                raise OutOfBounds("the limit of --requests is reached")
             if time.monotonic() > self.until + (GRACE if is_cleaning else 0):
-                raise OutOfBounds("no more time is allowed")
+                raise OutOfBounds("the limit of --seconds is reached")
             self.left, self.sent = self.left - 1, self.sent + 1
             now = time.monotonic()
             at = self.next = max(now, self.next + self.step)
         time.sleep(max(0.0, at - now))
 
     def hold(self, steps):
-        """Sends nothing for so many steps, after requests that were sent at once."""
+        """Sends nothing for that many steps, after requests that were sent at once."""
         with self.lock:
             self.next = time.monotonic() + steps * self.step
 
 
 class Client:
-    """Asks a service. A connection is kept for what comes next, and closed before another is opened."""
+    """Sends requests to a service. A connection stays open for the next request, and is closed before another is
+    opened."""
 
     def __init__(self, url, pace, ca=None):
         parts = urllib.parse.urlsplit(url)
         if parts.scheme not in ("http", "https") or not parts.hostname:
-            raise ValueError(f"{url} is no URL of HTTP")
+            raise ValueError(f"--url {url}: no URL of HTTP or HTTPS")
         self.is_tls, self.host, self.port = parts.scheme == "https", parts.hostname, parts.port
         self.front = parts.path.rstrip("/")
         self.context = ssl.create_default_context(cafile=ca) if self.is_tls else None
@@ -100,9 +102,9 @@ class Client:
         self.kept = None
 
     def connection(self):
-        """The connection that is kept, or a new one."""
+        """Returns the open connection, or a new one."""
         now = time.monotonic()
-        is_old = self.count >= MOST_ON_ONE or now - self.used > MOST_IDLE or now - self.opened > MOST_OPEN
+        is_old = self.count >= MAX_ON_ONE or now - self.used > MAX_IDLE or now - self.opened > MAX_OPEN
         if self.kept and is_old:
             self.close()
         if not self.kept:
@@ -121,7 +123,7 @@ class Client:
         connection.request(exchange.method, self.front + exchange.path, data, named | (fields or {}))
 
     def ask(self, caller, method, path, body=None, fields=None):
-        """The exchange of one request."""
+        """Sends one request and returns the exchange."""
         self.pace.wait(self.is_cleaning)
         exchange = Exchange(caller.name if caller else "nobody", method, path, body)
         try:
@@ -135,13 +137,13 @@ class Client:
             self.close()
             exchange.fail(f"{type(fault).__name__}: {fault}")
         except KeyboardInterrupt:
-            # the answer is still to come on it
+            # Its response has not arrived yet.
             self.close()
             raise
         return exchange
 
     def lose(self, caller, method, path, body=None):
-        """Asks, waits until an answer begins to come, and goes without it."""
+        """Sends a request, waits until a response begins to arrive, and disconnects."""
         self.close()
         self.pace.wait(self.is_cleaning)
         exchange = Exchange(caller.name, method, path, body)
@@ -157,7 +159,8 @@ class Client:
         return exchange
 
     def at_once(self, asked):
-        """The exchanges of requests that are sent at once, each (caller, method, path, body) on a connection of its own."""
+        """Returns the exchanges of requests that are sent at once, each (caller, method, path, body) on a connection of
+        its own."""
         self.close()
         for _ in asked:
             self.pace.wait(self.is_cleaning)
@@ -179,7 +182,7 @@ class Client:
             for it in threads:
                 it.start()
         finally:
-            # also where the run is interrupted, so that what was sent is done before it cleans up
+            # Also if the run is interrupted, so that sent requests are done before it cleans up.
             for it in threads:
                 if it.ident:
                     it.join()
@@ -187,7 +190,7 @@ class Client:
         return exchanges
 
     def many(self, caller, method, path, count):
-        """The exchanges of so many requests on one new connection, up to the answer that closes it."""
+        """Returns the exchanges of that many requests on one new connection, up to the response that closes it."""
         self.close()
         with contextlib.closing(self.open()) as connection:
             for number in range(1, count + 1):
@@ -206,7 +209,7 @@ class Client:
                     return
 
     def raw(self, caller, head, body=b""):
-        """The exchange of a head as it is written, line by line, and the bytes after it, on a connection of their own."""
+        """Returns the exchange of a raw head, line by line, and the bytes after it, on a separate connection."""
         self.close()
         self.pace.wait(self.is_cleaning)
         method, path, *_ = [*head[0].split(" "), ""]

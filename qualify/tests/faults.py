@@ -1,7 +1,8 @@
-"""The faults that a proxy plants, each with the checks that must name it.
+"""The faults that a proxy plants, each with the checks that must report it.
 
-A fault takes what the proxy has seen, a request, and what passes a request on to the service; it gives the answer. One is planted
-in front of the service with its own profile and in front of the gateway, or where it says so in front of the service alone."""
+A fault takes what the proxy has seen, a request, and the function that forwards a request to the service; it returns
+the response. It is planted in front of the service with its own profile and in front of the gateway, or only in
+front of the service if it says so."""
 import json
 import time
 
@@ -24,7 +25,7 @@ def fault(*checks, only=None):
 
 
 def references(value):
-    """All references and subscriptions of an answer, each with the name of what it stands in."""
+    """Returns all references and subscriptions of a response, each with the name of its container."""
     for name, it in (value or {}).items():
         kind = name.removeprefix("missing_")
         if name in ONE.values():
@@ -34,7 +35,7 @@ def references(value):
 
 
 def changed(answer, change):
-    """The answer with each of its references changed."""
+    """Returns the response with each of its references changed."""
     value = answer and answer.value
     if isinstance(value, dict):
         found = list(references(value))
@@ -63,7 +64,7 @@ def show(world, it):
             it["ovn"] = world.now[kind, it["id"]]
 
 
-# ---- what is shown
+# ---- what responses show
 
 
 @fault("an_ovn_is_shown_to_the_manager_alone", "a_constraint_is_created_and_read")
@@ -131,7 +132,7 @@ def dependents_hidden(world, asked, pass_on):
     return changed(pass_on(asked), lambda _, it: it.update({name: []}) if name in it else None)
 
 
-# ---- what is found and what is missing
+# ---- what queries find and denials list
 
 
 @fault("all_that_is_missing_is_told", "each_volume_needs_a_key")
@@ -181,7 +182,7 @@ def a_query_that_finds_too_much(world, asked, pass_on):
     value = answer and answer.value
     name = "operational_intent_references"
     if is_query(asked) and answer.status == 200 and name in value and world.references:
-        # what was put last is found everywhere
+        # The last put is found everywhere.
         last = [it for (kind, _), it in world.references.items() if kind == name][-1:]
         value[name] += [it for it in last if it["id"] not in [found["id"] for found in value[name]]]
         answer.put(value)
@@ -194,7 +195,7 @@ def a_stale_reading(world, asked, pass_on):
     if is_reading(asked) and answer.status == 200:
         return world.first.setdefault((asked.path, tuple(asked.all("authorization"))), answer)
     if asked.method == "PUT" and answer.status == 201:
-        # a reading that is answered from what the creation was
+        # A read returns the response to the creation.
         kept = answer.value
         kept.pop("subscribers", None)
         first = type(answer)("HTTP/1.1 200 OK", list(answer.fields), b"")
@@ -211,7 +212,7 @@ def a_stale_availability(world, asked, pass_on):
     return answer
 
 
-# ---- who is told
+# ---- notifications
 
 
 def told(answer):
@@ -267,7 +268,7 @@ def an_update_that_moves_nothing(world, asked, pass_on):
     return pass_on(asked)
 
 
-# ---- what is denied
+# ---- denials
 
 
 @fault("only_the_manager_changes_an_intent", "constraints_have_scopes", "only_an_arbiter_sets", "a_state_takes_its_scope",
@@ -353,7 +354,7 @@ def scopes_that_are_not_asked_for(world, asked, pass_on):
 
 
 def soon(holds):
-    """Waits until it holds, but not for ever: the answer to a change that is made may still be on its way."""
+    """Waits until it holds, for a limited time: the response to a change may still be on its way."""
     until = time.monotonic() + 2
     while not holds() and time.monotonic() < until:
         time.sleep(0.005)
@@ -381,7 +382,7 @@ def an_old_setting_that_is_taken(world, asked, pass_on):
 
 
 def with_key(asked, ovns):
-    """The put of an intent, with more in its key."""
+    """Returns the put of an intent, with more OVNs in its key."""
     body = asked.value
     is_put = asked.method == "PUT" and asked.words[0] == "operational_intent_references"
     if is_put and isinstance(body, dict) and isinstance(body.get("key"), list):
@@ -448,7 +449,7 @@ def an_old_ovn_in_an_answer(world, asked, pass_on):
 
 
 def denied(answer):
-    """The answer as one that denies for a key."""
+    """Returns the response as a denial for a key."""
     answer.with_status(409).put({"message": "P14 KEY", "missing_constraints": [], "missing_operational_intents": []})
     return answer
 

@@ -1,4 +1,4 @@
-"""What the cases stand on: a service, a gateway before one, and runs of the suite."""
+"""The environment of the cases: a service, a gateway before one, and runs of the suite."""
 import contextlib
 import json
 import os
@@ -17,7 +17,7 @@ from proxy import Proxy
 
 TOP = pathlib.Path(__file__).resolve().parents[2]
 PATIENCE = 60
-# a token that stands for all scopes, for the fault that does not ask for them
+# A token with all scopes, for the fault that ignores scopes.
 MORE = '\n[[token]]\ntext = "tok-of-all"\nuss = "uss-a"\nscopes = ["utm.strategic_coordination", "utm.conformance_monitoring_sa", ' \
     '"utm.constraint_processing", "utm.constraint_management", "utm.availability_arbitration"]\n'
 
@@ -38,7 +38,7 @@ def wait_for(port):
 
 
 class Held:
-    """A run that has ended: its status, what it said, and what its JUnit XML has."""
+    """A finished run: its status, its output, and its JUnit XML."""
 
     def __init__(self, status, text, errors, folder):
         self.status, self.text, self.errors = status, text, errors
@@ -55,7 +55,7 @@ class Held:
 
 
 class Place:
-    """A service on a port, with whatever stands before it."""
+    """A service on a port, with whatever is in front of it."""
 
     def __init__(self):
         self.room = tempfile.TemporaryDirectory(dir="/dev/shm" if os.access("/dev/shm", os.W_OK) else None)
@@ -80,7 +80,7 @@ class Place:
                    "--port", str(self.service), "--count", "1000000")
 
     def run(self, *words, port=None, seed="1", rate="100000"):
-        """A run of the suite over a port, or over the one that this place has."""
+        """Runs the suite over a port, or over the one of this place."""
         folder = pathlib.Path(tempfile.mkdtemp(dir=self.folder))
         url = ["--url", f"http://127.0.0.1:{port or self.port}"]
         words = [*url, *self.tokens, "--seed", seed, "--rate", rate, "--result", folder, *words]
@@ -91,7 +91,7 @@ class Place:
         return Held(self.suite.returncode, *said, folder)
 
     def over(self, fault, *words, **how):
-        """A run over a proxy that plants a fault, and the proxy."""
+        """Runs it over a proxy that plants a fault; returns the run and the proxy."""
         proxy = Proxy(self.port, fault)
         try:
             return self.run(*words, port=proxy.port, **how), proxy
@@ -99,7 +99,7 @@ class Place:
             proxy.end()
 
     def ask(self, token, method, path, body=None):
-        """What the service itself answers."""
+        """Returns the response of the service itself."""
         data = None if body is None else json.dumps(body).encode()
         fields = {"Authorization": f"Bearer {token}"}
         request = urllib.request.Request(f"http://127.0.0.1:{self.port}/dss/v1/{path}", data, fields, method=method)
@@ -107,7 +107,8 @@ class Place:
             return json.load(answer)
 
     def left(self):
-        """What the service keeps once it is ended: lines of references without the serial, and ids of subscriptions."""
+        """Returns what the service stores once it has exited: lines of references without the serial, and ids of
+        subscriptions."""
         for it in reversed(self.programs):
             it.kill()
             it.wait(PATIENCE)

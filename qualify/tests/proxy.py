@@ -1,4 +1,4 @@
-"""A proxy that passes on bytes between a client and a service, and plants one fault in what it passes."""
+"""A proxy that forwards bytes between a client and a service, and plants one fault in them."""
 import contextlib
 import json
 import socket
@@ -10,14 +10,14 @@ ONE = {it: it.removesuffix("s") for it in KINDS[:3]}
 
 
 class Message:
-    """A request or an answer: its first line, its fields as they came, and its body."""
+    """A request or a response: its first line, its fields in order, and its body."""
 
     def __init__(self, line, fields, body):
         self.line, self.fields, self.body = line, fields, body
 
     @classmethod
     def read(cls, reader):
-        """The next one, or None where there is no more."""
+        """Reads the next one; None at the end."""
         lines = []
         while line := reader.readline():
             if line == b"\r\n":
@@ -50,11 +50,11 @@ class Message:
         return None
 
     def put(self, value):
-        """Gives it another body, as compact as the service's own."""
+        """Replaces the body, as compact as the service's own."""
         self.body = json.dumps(value, separators=(",", ":"), sort_keys=True, ensure_ascii=False).encode()
         self.set("Content-Length", len(self.body))
 
-    # ---- of a request
+    # ---- requests
 
     @property
     def method(self):
@@ -66,7 +66,7 @@ class Message:
 
     @property
     def words(self):
-        """The kind, the id and the version of the path, each '' where there is none."""
+        """Returns the kind, the id and the version of the path, each '' if it is missing."""
         words = self.path.removeprefix("/dss/v1/").split("/")
         return tuple((words + ["", "", ""])[:3]) if words[0] in KINDS else ("", "", "")
 
@@ -79,7 +79,7 @@ class Message:
         other.set("Authorization", field)
         return other
 
-    # ---- of an answer
+    # ---- responses
 
     @property
     def status(self):
@@ -91,7 +91,7 @@ class Message:
 
 
 class World:
-    """What the proxy has seen: of each thing its present OVN or version, all that it had, and the token that made it."""
+    """What the proxy has seen of each entity: its current OVN or version, all that it had, and the token that made it."""
 
     def __init__(self):
         self.now, self.all, self.token, self.first, self.references, self.bodies = {}, {}, {}, {}, {}, {}
@@ -112,13 +112,14 @@ class World:
 
 
 class Proxy:
-    """Listens on a port of its own. `fault` takes the world, the request and what passes it on, and gives the answer."""
+    """Listens on a port of its own. `fault` takes the world, the request and the function that forwards it, and returns
+    the response."""
 
     def __init__(self, port, fault=None, context=None):
         self.upstream, self.fault, self.world, self.lock = port, fault, World(), threading.Lock()
-        # of TLS, where it takes that
+        # The TLS context, if it uses TLS.
         self.context = context
-        # when requests came
+        # The times of requests.
         self.times = []
         self.listening = socket.create_server(("127.0.0.1", 0))
         self.port = self.listening.getsockname()[1]
@@ -162,7 +163,7 @@ class Proxy:
 
 
 class Upstream:
-    """A connection to the service, opened anew where the service has closed it."""
+    """A connection to the service, opened again if the service has closed it."""
 
     def __init__(self, port):
         self.port, self.connection = port, None

@@ -2,7 +2,7 @@
 
     try_all.py GATEWAY [CASE..]
 
-JOBS of them run side by side, as many as there are processors where it is not said."""
+JOBS cases run in parallel [default: one for each processor]."""
 import concurrent.futures
 import os
 import pathlib
@@ -17,12 +17,12 @@ import whole
 from faults import FAULTS
 from place import Before, Plain
 
-# how many faults are tried over one service
+# How many faults are tried over one service.
 AT_ONCE = 8
 
 
 def try_case(name, case, *given):
-    """The name, the seconds, and what went wrong or None."""
+    """Returns the name, the seconds, and the fault or None."""
     began = time.monotonic()
     try:
         case(*given)
@@ -33,7 +33,7 @@ def try_case(name, case, *given):
 
 
 def is_named(place, name, checks):
-    """That each check that a fault has beside it is broken by it, and that the run says so."""
+    """Checks that a fault breaks each of its checks, and that the run reports it."""
     held, _ = place.over(FAULTS[name].plant, *checks, seed=name)
     assert held.status == 1 and held.broken == set(checks), f"broken: {sorted(held.broken)}, and not all of {checks}\n{held}"
     for check in checks:
@@ -47,7 +47,7 @@ def try_faults(dialect, gateway, names):
 
 
 def jobs(gateway, wanted):
-    """What is done side by side: a function and its words each, which give results."""
+    """Returns the work to do in parallel: a function and its arguments each, which return results."""
     for name, case in whole.CASES.items():
         if not wanted or name in wanted:
             yield try_one, name, gateway
@@ -64,9 +64,9 @@ def try_one(name, gateway):
 def main(gateway, *wanted):
     unknown = [it for it in wanted if it not in whole.CASES and it not in FAULTS]
     if unknown:
-        print(f"no case is named {' '.join(unknown)}\n0 passed, 1 failed")
+        print(f"no such case: {' '.join(unknown)}\n0 passed, 1 failed")
         return False
-    # what is started in the background ignores it, and what that starts does, too
+    # A background process ignores SIGINT, and so do its children.
     signal.signal(signal.SIGINT, signal.default_int_handler)
     passed = failed = 0
     with concurrent.futures.ProcessPoolExecutor(int(os.environ.get("JOBS") or os.cpu_count())) as pool:

@@ -1,4 +1,4 @@
-"""Cases of whole runs: all holds where nothing is wrong, nothing is left behind, and bounds are kept."""
+"""Cases of whole runs: all checks hold without faults, nothing is left behind, and bounds are kept."""
 import html
 import re
 import signal
@@ -14,21 +14,21 @@ from suite import forms
 from suite.dialect import Standard
 
 AREA = "operational_intent_references/query"
-LEAST = {"profile": 75, "standard": 60}
+MIN = {"profile": 75, "standard": 60}
 
 
 def suite_checks(*words):
-    """The names of the checks that the suite lists."""
+    """Returns the names of the checks that the suite lists."""
     done = subprocess.run([TOP / "qualify" / "run", "--list", *words], capture_output=True, text=True, check=True)
     return [it.split(" ")[1].rstrip(":") for it in done.stdout.splitlines()]
 
 
 def all_holds(gateway):
-    """The service holds to the profile, by four seeds, and keeps nothing after."""
+    """The service passes all checks of the profile, by four seeds, and stores nothing afterwards."""
     with Plain() as place:
         for seed in "1234":
             held = place.run(seed=seed)
-            held.must_hold(LEAST["profile"])
+            held.must_hold(MIN["profile"])
             assert sorted(it.get("name") for it in held.cases) == sorted(suite_checks())
         for uss in ("uss-a", "uss-b"):
             assert place.ask("tok-a", "GET", f"uss_availability/{uss}")["status"]["availability"] == "Unknown"
@@ -36,32 +36,32 @@ def all_holds(gateway):
 
 
 def all_holds_to_the_standard(gateway):
-    """The gateway holds to what both promise, by two seeds, and the service before which it stands keeps nothing after."""
+    """The gateway passes all checks that both promise, by two seeds, and its service stores nothing afterwards."""
     with Before(gateway) as place:
         for seed in "12":
             held = place.run(seed=seed)
-            held.must_hold(LEAST["standard"])
+            held.must_hold(MIN["standard"])
             assert sorted(it.get("name") for it in held.cases) == sorted(suite_checks("--standard"))
         assert place.left() == []
 
 
 def each_check_can_break(gateway):
-    """Of each check there is a fault that it must name."""
+    """For each check there is a fault that it must report."""
     for dialect, words in (("profile", []), ("standard", ["--standard"])):
         named = {check for fault in FAULTS.values() if fault.only in (None, dialect) for check in fault.checks}
         assert set(suite_checks(*words)) <= named, set(suite_checks(*words)) - named
 
 
 def all_holds_through_the_proxy(gateway):
-    """What breaks a check is the fault, and not the proxy that plants it."""
+    """A proxy without a fault breaks no check."""
     with Plain() as place:
-        place.over(None)[0].must_hold(LEAST["profile"])
+        place.over(None)[0].must_hold(MIN["profile"])
     with Before(gateway) as place:
-        place.over(None)[0].must_hold(LEAST["standard"])
+        place.over(None)[0].must_hold(MIN["standard"])
 
 
 def all_holds_over_tls(gateway):
-    """Over TLS all holds where the certificate is known, and nothing is asked where it is not."""
+    """Over TLS all checks hold if the certificate is trusted, and no request is sent otherwise."""
     with Plain() as place:
         key, certificate = place.folder / "tls.key", place.folder / "tls.crt"
         subprocess.run(["openssl", "req", "-x509", "-newkey", "rsa:2048", "-nodes", "-days", "2", "-subj", "/CN=127.0.0.1", "-addext",
@@ -69,9 +69,9 @@ def all_holds_over_tls(gateway):
         context = ssl.SSLContext(ssl.PROTOCOL_TLS_SERVER)
         context.load_cert_chain(certificate, key)
         proxy = Proxy(place.port, context=context)
-        # the last of words that are given twice counts
+        # Of arguments that are given twice the last one counts.
         url = ["--url", f"https://127.0.0.1:{proxy.port}"]
-        place.run(*url, "--ca", certificate).must_hold(LEAST["profile"])
+        place.run(*url, "--ca", certificate).must_hold(MIN["profile"])
         seen = len(proxy.times)
         held = place.run(*url)
         assert held.status == 2 and "CERTIFICATE_VERIFY_FAILED" in held.errors and len(proxy.times) == seen, held
@@ -79,7 +79,7 @@ def all_holds_over_tls(gateway):
 
 
 def the_gateway_adds_no_member(gateway):
-    """The standard lets an answer have more than it names; the gateway's have not, whatever a run asks it."""
+    """The standard permits further members in responses; the gateway's have none, whatever a run requests."""
     dialect, faults, asked_of = Standard(0), [], set()
     dialect.is_open = False
 
@@ -92,12 +92,12 @@ def the_gateway_adds_no_member(gateway):
             asked_of.add((kind, asked.method, answer.status < 300))
         return answer
     with Before(gateway) as place:
-        place.over(noted)[0].must_hold(LEAST["standard"])
+        place.over(noted)[0].must_hold(MIN["standard"])
     assert len(asked_of) >= 26 and set(faults) == {None}, (set(faults), len(asked_of))
 
 
 def nothing_is_left_where_checks_break(gateway):
-    """A broken check stops in its middle, and what it has put is deleted all the same."""
+    """A broken check stops in its middle, and what it has put is deleted nevertheless."""
     def denied(world, asked, pass_on):
         answer = pass_on(asked)
         return answer.with_status(418) if answer.status in (403, 404, 409) and asked.method in ("PUT", "DELETE") else answer
@@ -108,7 +108,7 @@ def nothing_is_left_where_checks_break(gateway):
 
 
 def what_is_there_is_left_alone(gateway):
-    """A place that is not empty is passed over."""
+    """A place that is not empty is skipped."""
     with Plain() as place:
         now, taken = int(time.time()), home_of(place)
         body = {"extents": [{"cells": [taken], "altitude_lower": 0, "altitude_upper": 10, "time_start": now, "time_end": now + 9000}],
@@ -116,12 +116,12 @@ def what_is_there_is_left_alone(gateway):
         path = "operational_intent_references/00000000-0000-4000-8000-0000000000a1"
         told = place.ask("tok-a", "PUT", path, body)["operational_intent_reference"]
         assert home_of(place) != taken
-        place.run().must_hold(LEAST["profile"])
+        place.run().must_hold(MIN["profile"])
         assert place.ask("tok-a", "GET", path)["operational_intent_reference"] == told
 
 
 def home_of(place):
-    """The cell in which a run by the first seed settles."""
+    """Returns the cell that a run with the first seed uses."""
     homes = []
 
     def noted(world, asked, pass_on):
@@ -133,28 +133,28 @@ def home_of(place):
 
 
 def bounds_are_kept(gateway):
-    """Never more requests, never more a second, never longer than was said; what was put until then is deleted."""
+    """A run never exceeds its number of requests, its rate and its duration. It deletes what was put until then."""
     with Plain() as place:
         held, proxy = place.over(None, "--requests", "150")
-        assert held.status == 1 and len(proxy.times) <= 150 and "no more requests are allowed" in held.text, (held, len(proxy.times))
+        assert held.status == 1 and len(proxy.times) <= 150 and "the limit of --requests is reached" in held.text, (held, len(proxy.times))
         held, proxy = place.over(None, "intents", "repeats", rate="60")
         held.must_hold(10)
         seconds = [sum(first <= it < first + 1 for it in proxy.times) for first in proxy.times]
-        # those that came late by a little fall into the next second
+        # Requests that arrive slightly late fall into the next second.
         assert max(seconds) <= 70, max(seconds)
         began = time.monotonic()
         held, proxy = place.over(None, "--seconds", "1", rate="30")
-        assert held.status == 1 and "no more time is allowed" in held.text and time.monotonic() - began < 30, held
+        assert held.status == 1 and "the limit of --seconds is reached" in held.text and time.monotonic() - began < 30, held
         assert place.left() == []
 
 
 def one_that_is_ended_cleans_up(gateway):
-    """A run that is interrupted, or told to end, deletes what it has put, and says that not all held."""
+    """A run that is interrupted or terminated deletes what it has put, and reports that not all checks held."""
     for how in (signal.SIGINT, signal.SIGTERM):
         with Plain() as place:
             def told(world, asked, pass_on, how=how, place=place):
                 answer = pass_on(asked)
-                # in the middle of a check that has put three intents
+                # In the middle of a check that has put three intents.
                 if asked.method == "PUT" and len(world.references) == 3:
                     world.references[None] = None
                     place.suite.send_signal(how)
@@ -165,18 +165,18 @@ def one_that_is_ended_cleans_up(gateway):
 
 
 def a_service_that_goes(gateway):
-    """One that is gone in the middle breaks what is left, and the run ends."""
+    """If the service exits in the middle, the remaining checks break, and the run ends."""
     def gone(world, asked, pass_on):
         world.asked = getattr(world, "asked", 0) + 1
         return pass_on(asked) if world.asked < 100 else None
     with Plain() as place:
         held, _ = place.over(gone)
-        assert held.status == 1 and len(held.broken) > 50 and len(held.cases) >= LEAST["profile"], held
-        assert "no answer" in held.page
+        assert held.status == 1 and len(held.broken) > 50 and len(held.cases) >= MIN["profile"], held
+        assert "no response" in held.page
 
 
 def runs_that_cannot_begin(gateway):
-    """One line, and status 2."""
+    """A run that cannot begin prints one line, and has status 2."""
     with Plain() as place:
         few = place.folder / "few.toml"
         few.write_text('salt = "x"\n[[token]]\ntext = "tok-a"\nuss = "uss-a"\nscopes = ["utm.strategic_coordination"]\n')
@@ -184,22 +184,23 @@ def runs_that_cannot_begin(gateway):
         other.write_text((TOP / "examples" / "tokens.toml").read_text().replace('text = "', 'text = "other-'))
         good = place.tokens[1]
         for words, port, why in (
-                (["--tokens", few], None, "lacks tokens"), (["--tokens", place.folder / "none"], None, "is no token file"),
-                (["--tokens", other], None, "was answered 401"), (["--tokens", good], free_port(), "no answer"),
+                (["--tokens", few], None, "lacks tokens"), (["--tokens", place.folder / "none"], None, "no token file"),
+                (["--tokens", other], None, ": 401"), (["--tokens", good], free_port(), "no response"),
                 (["--standard", "--mint", "false"], None, "gives no token"),
                 (["--standard", "--mint", "/nonesuch"], None, "gives no token"),
-                (["--standard", "--mint", "echo", "--suppliers", "one"], None, "two suppliers")):
+                (["--standard", "--mint", "echo", "--suppliers", "one"], None, "at least two USSs")):
             place.tokens = words
             held = place.run(port=port)
             assert held.status == 2 and why in held.errors and held.errors.count("\n") == 1 and not held.page, (words, held)
         place.tokens = ["--tokens", good]
-        for words, why in ((["nonesuch"], "no check is named"), (["--rate", "0"], "above 0"), (["--requests", "x"], "invalid")):
+        for words, why in ((["nonesuch"], "no such check"), (["--rate", "0"], "above 0"), (["--requests", "x"], "invalid")):
             held = place.run(*words)
             assert held.status == 2 and why in held.errors, held
 
 
 def pages_stand_alone(gateway):
-    """The page asks for nothing, shows what was asked, came and was expected of each check with its rules, and no token."""
+    """The page loads nothing. It shows the requests, responses and expectations of each check with its rules, and no
+    token."""
     with Plain() as place, Before(gateway) as before:
         for held, names in ((place.run(), suite_checks()), (before.run(), suite_checks("--standard"))):
             assert not re.search(r'<(script|link|img|iframe)|src=|href="[^#]|url\(|@import', held.page)
@@ -208,11 +209,11 @@ def pages_stand_alone(gateway):
                 assert f'id="{name}"' in held.page
             texts = [it.findtext("system-out") for it in held.cases]
             assert all(("docs/POLICY.md: " in it or "ASTM F3548-21: " in it) for it in texts)
-            assert held.page.count("<th>asked</th><th>came</th><th>expected</th>") == len(names)
+            assert held.page.count("<th>request</th><th>response</th><th>expected</th>") == len(names)
 
 
 def answers_are_shown_as_text(gateway):
-    """What a service answers is text on the page, whatever it has."""
+    """A service's responses are text on the page, whatever they contain."""
     def wrote(world, asked, pass_on):
         answer = pass_on(asked)
         if answer.status == 404:
@@ -222,11 +223,11 @@ def answers_are_shown_as_text(gateway):
         held, _ = place.over(wrote, "a_deleted_intent_is_gone")
         assert held.status == 1 and "<script" not in held.page and html.escape("<script>alert(1)") in held.page, held
         failure = held.cases[0].find("failure")
-        assert "P7 FOUND" in failure.get("message") and "came: 404" in failure.text and "asked: " in failure.text, failure.text
+        assert "P7 FOUND" in failure.get("message") and "response: 404" in failure.text and "request: " in failure.text, failure.text
 
 
 def a_token_that_is_not_ours(gateway):
-    """The run asks its own URL alone."""
+    """The run sends requests only to its own URL."""
     with Plain() as place, socket.create_server(("127.0.0.1", 0)) as other:
         other.settimeout(0.2)
 

@@ -1,4 +1,4 @@
-"""Backups that are made while the service runs: whole, beside clients that change all the time, or not there."""
+"""Backups made while the service runs are whole beside clients that change all the time, or do not exist."""
 import contextlib
 import errno
 import json
@@ -14,15 +14,15 @@ import time
 
 import wire
 from devices import WRITES, Page, library
-from operators import METRICS, Operated, asks, said
+from admin_port import METRICS, AdminService, asks, said
 from program import BUILT, SECONDS, run
 from serving import until_closed
 from sockets import difference
 
 CHANGERS = 6
-# a table of another's, so that the file is copied in many pieces: so many rows, and the bytes of each
+# A table of another program, so that the file is copied in many chunks: the number of rows, and the bytes of each.
 ROWS, BYTES = 64, 100_000
-# the seconds that a client waits at most beside a backup: it is seldom more than 0.01, and the machine does other work
+# The most seconds that a client waits during a backup. It is seldom more than 0.01, but the machine does other work.
 PATIENCE = 1.0
 SERIALS = {wire.ovn(it): it for it in range(1, 20_000)}
 TOKENS = {**wire.TOKENS, "tok-w": ("uss-w", {wire.ARBITRATION})}
@@ -41,8 +41,8 @@ def row(number):
     return bytes([number]) * BYTES
 
 
-class Backed(Operated):
-    """`dss serve` with a folder of backups, in memory, where a sync takes no time."""
+class Backed(AdminService):
+    """`dss serve` with a backup directory on a file system in memory, where a sync takes no time."""
 
     def __init__(self, **more):
         super().__init__(**{"disk": "/dev/shm", "tokens": TOKENS, **more})
@@ -56,7 +56,7 @@ class Backed(Operated):
             opened.executemany("INSERT INTO other VALUES (?)", [(row(it),) for it in range(ROWS)])
 
     def checkpoints(self):
-        """The number in the log's salt, which each checkpoint counts up."""
+        """Returns the checkpoint counter in the log's salt."""
         with (self.folder / "dss.db-wal").open("rb") as log:
             return struct.unpack(">I", log.read(32)[16:20])[0]
 
@@ -65,7 +65,7 @@ class Backed(Operated):
 
 
 class Changer(threading.Thread):
-    """A client that sets the availability of a supplier of its own again and again, until it is told to end."""
+    """A client that sets the availability of its own USS again and again, until it is stopped."""
 
     def __init__(self, service, supplier):
         super().__init__()
@@ -84,9 +84,9 @@ class Changer(threading.Thread):
 
     def run(self):
         try:
-            for start in range(0, 1 << 20, wire.MOST_REQUESTS):
+            for start in range(0, 1 << 20, wire.MAX_REQUESTS):
                 with self.service.connect() as connection:
-                    for turn in range(start, start + wire.MOST_REQUESTS):
+                    for turn in range(start, start + wire.MAX_REQUESTS):
                         if self.ends:
                             return
                         self.change(connection, turn)
@@ -96,7 +96,7 @@ class Changer(threading.Thread):
 
 @contextlib.contextmanager
 def changing(service):
-    """Clients that change all the time."""
+    """Runs clients that change all the time."""
     changers = [Changer(service, f"uss-{it}") for it in range(CHANGERS)]
     for it in changers:
         it.start()
@@ -114,7 +114,8 @@ def last_serial(changers):
 
 
 def content(backup):
-    """What SQLite finds in a backup: whether it is whole, its serial, the rows of the other table, and the availabilities."""
+    """Returns what SQLite reads in a backup: its integrity, its serial, the rows of the other table, and the
+    availabilities."""
     with contextlib.closing(sqlite3.connect(f"file:{backup}/dss.db?mode=ro", uri=True)) as database:
         ask = lambda text: database.execute(text).fetchall()
         states = {uss: (state, version) for uss, state, version in ask("SELECT uss, state, version FROM availability")}
@@ -123,7 +124,7 @@ def content(backup):
 
 
 def states_at(changers, serial):
-    """The availabilities after the change of that serial."""
+    """Returns the availabilities after the change with that serial."""
     of = {}
     for it in changers:
         for at, state, version in it.told:
@@ -132,8 +133,9 @@ def states_at(changers, serial):
     return of
 
 
-def judged(backup, changers, least, most):
-    """What is wrong with a backup that was asked for after one change was answered, and was there as another was made."""
+def checked(backup, changers, least, most):
+    """Returns what is wrong with a backup that was requested after change `least` was answered, and was complete when
+    change `most` was made."""
     whole, [(serial,)], others, states = content(backup)
     found = difference("whole", whole, [("ok",)]) + difference("the other table", others, True)
     found += [] if least <= serial <= most else [f"serial {serial}, which is not from {least} to {most}"]
@@ -145,8 +147,8 @@ def judged(backup, changers, least, most):
 
 
 def beside_changes():
-    """Backups beside clients that change all the time, and while the log is copied into the file, hold an airspace that was there
-    between two changes, with all that was answered before; nobody waits long."""
+    """Backups made beside clients that change all the time, and during checkpoints, contain an airspace between two
+    changes. They contain all changes that were answered before. No client waits long."""
     with Backed() as started:
         before, taken, found = started.checkpoints(), [], []
         with changing(started) as changers:
@@ -167,12 +169,12 @@ def beside_changes():
             backup = started.backups / f"b{at}"
             size = sum(it.stat().st_size for it in backup.iterdir())
             found += difference(f"b{at}", answer, said(200, b"made: %d bytes\n" % size))
-            found += judged(backup, changers, least, most)
+            found += checked(backup, changers, least, most)
         return found
 
 
 def refusals():
-    """Each refusal with its status, and that nothing is made then."""
+    """Each refused backup has its status, and makes no file."""
     with Backed() as started:
         table = [
             ("no name", "/backup", 400, NAMES),
@@ -198,13 +200,14 @@ def refusals():
         (started.backups / "file").write_text("")
         found += difference("a file of that name", started.asked(backs_up("file")), said(409, EXISTS))
         found += difference("all", started.all(), sorted(["Az-09_", longest, "file"]))
-    with Operated() as plain:
+    with AdminService() as plain:
         found += difference("without a folder", plain.asked(backs_up("a")), said(404, b"no such path\n"))
     return found
 
 
 def folders():
-    """A folder that is not there, or cannot be written, ends the start with a line, and the database is closed."""
+    """If the backup directory does not exist or cannot be written, `serve` does not start: it prints one line and
+    closes the database."""
     found = []
     with tempfile.TemporaryDirectory() as room:
         folder = pathlib.Path(room)
@@ -218,7 +221,8 @@ def folders():
 
 
 def one_at_a_time():
-    """While one is being made another is refused, clients and operators are answered, and one who goes away ends nothing."""
+    """While a backup is made, another one is refused, and clients and operators get responses. An operator who
+    disconnects aborts nothing."""
     with Backed() as started:
         found = []
         os.kill(started.program.pid, signal.SIGSTOP)
@@ -243,7 +247,7 @@ def one_at_a_time():
 
 
 def killed():
-    """Killed while one is being made: the next start removes what was begun, and what was made stays."""
+    """If `serve` is killed during a backup, the next start removes the incomplete file. Complete backups stay."""
     with Backed() as started:
         found = difference("one before", started.asked(backs_up("before"))[:12], b"HTTP/1.1 200")
         halves = 0
@@ -263,8 +267,8 @@ def killed():
 
 
 def full_disk():
-    """A disk that is full, from the first write of a backup on or a later one: one answer tells it, nothing is left, and once there is
-    room a backup is made again."""
+    """If the disk fills up at the first or a later write of a backup, the response says so and no file is left. Once
+    there is room, a backup succeeds."""
     with tempfile.TemporaryDirectory() as room:
         page = Page(room)
         with Backed(more=page.environment(library("fail_files", room))) as started:
@@ -279,9 +283,9 @@ def full_disk():
 
 
 CASES = {
-    "backups-beside-changes": beside_changes,
+    "backups-during-changes": beside_changes,
     "backups-refused": refusals,
-    "backups-in-no-folder": folders,
+    "backups-in-no-directory": folders,
     "backups-one-at-a-time": one_at_a_time,
     "backups-killed": killed,
     "backups-on-a-full-disk": full_disk,

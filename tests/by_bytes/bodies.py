@@ -1,4 +1,4 @@
-"""Which bodies are taken, at their limits, and which are refused, beyond them: each with what is wanted of it."""
+"""Bodies at their limits are accepted, and bodies beyond them are rejected: each with its expected response."""
 import json
 
 import wire
@@ -27,7 +27,7 @@ def members_of_puts():
         (scene.created(put(url=url), url=url) if is_read else scene.refused(put(url=url)))
     constraint = put(more=',"key":"no list","state":1')
     scene.created(constraint, CONSTRAINTS, "tok-c")
-    # what reads is judged by the rules after it: there is no such constraint
+    # A body that parses is checked by the later rules: no such constraint exists.
     scene.ask(NOT_FOUND, "PUT", f"{CONSTRAINTS}/{ID}/{OVN}", "tok-c", constraint)
     scene.ask(MALFORMED, "PUT", f"{CONSTRAINTS}/{ID}/query", "tok-c", constraint)
     scene.ask(MALFORMED, "PUT", f"{CONSTRAINTS}/{ID}0/{OVN}", "tok-c", constraint)
@@ -37,7 +37,7 @@ def members_of_puts():
 
 
 def limits_of_lists():
-    """Lists of volumes, of cells and of a key."""
+    """Lists of volumes, of cells and of OVNs in a key, at and beyond their limits."""
     scene = Scene("limits of lists", [], [])
     for count, is_read in ((0, False), (1, True), (32, True), (33, False)):
         body = put(",".join([V1] * count))
@@ -62,7 +62,7 @@ def limits_of_lists():
     ):
         body = put(",".join(volume(cells(count)) for count in counts))
         (scene.created(body) if is_read else scene.refused(body))
-        # whole faces read as well, and cover too much
+        # Whole faces parse as well, and cover too much.
         body = put(",".join(volume(cells(count, "1")) for count in counts))
         scene.refused(body, wanted=TOO_LARGE if is_read else MALFORMED)
     for count in 1, 512:
@@ -73,7 +73,7 @@ def limits_of_lists():
 
 
 def bounds_of_extents():
-    """Altitudes and times of volumes and of areas."""
+    """Altitudes and times of volumes and of areas, at and beyond their limits."""
     scene = Scene("bounds of extents", [], [])
     least, greatest = -100_000, 1_000_000
     for low, high, is_read in (
@@ -111,7 +111,7 @@ def bounds_of_extents():
 
 
 def areas():
-    """Bodies of queries: a bound may be absent, and is a whole number where it is there."""
+    """Bodies of queries: a bound may be absent; otherwise it must be an integer."""
     scene = Scene("areas", [], [])
     for bounds, is_read in (
         ({"altitude_lower": -100_000}, True),
@@ -159,7 +159,7 @@ def settings():
         scene.serial += 1
         status = {"status": {"availability": "Down", "uss": f"uss-{place}"}, "version": wire.ovn(scene.serial)}
         scene.ask((200, wire.compact(status)), "PUT", f"{wire.AVAILABILITY}/uss-{place}", "tok-v", body)
-    # a version that fits no setting reads, at up to 128 bytes
+    # A version of up to 128 bytes parses, even if it matches no availability.
     other = (409, '{"message":"P10 VERSION"}')
     for count, wanted in ((1, other), (128, other), (129, MALFORMED)):
         body = json.dumps({"availability": "Down", "old_version": "v" * count})
@@ -178,11 +178,11 @@ def of_subscription(extents=V1, flags=',"notify_for_operational_intents":true', 
 
 
 def puts_of_subscriptions():
-    """What a subscription's put may be: one that reads is judged by the rules after it, and there is no such
-    subscription. The zero id is none."""
+    """Puts of subscriptions: one that parses is checked by the later rules, and no such subscription exists. The zero
+    id is no id."""
     scene = Scene("puts of subscriptions", [], [])
 
-    def judged(body, is_read):
+    def checked(body, is_read):
         scene.ask(NOT_FOUND if is_read else MALFORMED, "PUT", f"{SUBSCRIPTIONS}/{ID}/{OVN}", "tok-bc", body)
 
     intents, constraints = ',"notify_for_operational_intents":', ',"notify_for_constraints":'
@@ -204,7 +204,7 @@ def puts_of_subscriptions():
         (f"{intents}false{intents}true", True),
         (f"{intents}true,\"more\":[1e3]", True),
     ):
-        judged(of_subscription(flags=flags), is_read)
+        checked(of_subscription(flags=flags), is_read)
     low, high, last = -100_000, 1_000_000, 253_402_300_799
     for extents, is_read in (
         (f"[{V1}]", False),
@@ -224,11 +224,11 @@ def puts_of_subscriptions():
         (volume(times=(8, 7)), False),
         (V1.replace(',"time_end":2000', ""), False),
     ):
-        judged(of_subscription(extents), is_read)
+        checked(of_subscription(extents), is_read)
     for url, is_read in (("", False), ("a b", False), ("u" * 255, True), ("u" * 256, False)):
-        judged(of_subscription(url=url), is_read)
-    judged(of_subscription().replace(',"uss_base_url":"u"', ""), False)
-    judged("", False)
+        checked(of_subscription(url=url), is_read)
+    checked(of_subscription().replace(',"uss_base_url":"u"', ""), False)
+    checked("", False)
     for method, path, body, wanted in (
         ("PUT", NO_SUBSCRIPTION, of_subscription(), MALFORMED),
         ("PUT", f"{NO_SUBSCRIPTION}/{OVN}", of_subscription(), MALFORMED),
@@ -244,7 +244,7 @@ def puts_of_subscriptions():
 
 
 def names_of_subscriptions():
-    """What the put of an intent may name, and what it names so. A constraint's is not looked at."""
+    """References to subscriptions in the put of an intent, and how they are read. Those of a constraint are ignored."""
     scene = Scene("names of subscriptions", [], [])
     absent = (400, '{"message":"P16 SUBSCRIPTION"}')
 
@@ -262,6 +262,6 @@ def names_of_subscriptions():
 
 
 def scenes():
-    """All streams of the table."""
+    """Returns all streams of the table."""
     made = members_of_puts(), limits_of_lists(), bounds_of_extents(), areas(), settings()
     return [*made, puts_of_subscriptions(), names_of_subscriptions()]

@@ -1,14 +1,13 @@
-"""Databases of both formats that were changed by SQLite's own statements, and what opening says of each: a file that is
-refused stays as it was."""
+"""Databases of both formats are changed by SQLite statements and then opened. A file that is rejected stays as it was."""
 import itertools
 import pathlib
 
 import tables
 from databases import NOT_A_DSS, ROWS, VERSION, Room
 
-# What is done to a filled database, its checks and references off, and the fault that is due; None where it is taken.
-# Rows that break a rule of their own table (a check, a reference) are no database to the library, and so of no airspace.
-# These are of tables that both formats have, and so for both.
+# Statements for a filled database, run without checks and references, and the expected fault, or None if the file is
+# accepted. SQLite itself reports rows that break a rule of their own table (a check, a reference): the file then holds
+# no airspace. These statements concern tables that both formats have, and so run on both.
 OF_BOTH = [
     ("DELETE FROM meta", NOT_A_DSS),
     ("UPDATE meta SET format = 7", VERSION),
@@ -22,29 +21,29 @@ OF_BOTH = [
     ("ALTER TABLE meta DROP COLUMN format", NOT_A_DSS),
     ("ALTER TABLE availability RENAME TO others", NOT_A_DSS),
     ("CREATE TABLE more (x)", None),
-    # another format is told before what is lacking, as long as meta is there
+    # Another format is reported before missing tables, as long as meta exists.
     ("UPDATE meta SET format = 7; DROP TABLE cell", VERSION),
     ("UPDATE meta SET format = 7; ALTER TABLE volume RENAME COLUMN place TO number", VERSION),
     ("UPDATE meta SET format = 7; ALTER TABLE meta DROP COLUMN serial", NOT_A_DSS),
     ("DELETE FROM meta; DROP TABLE cell", NOT_A_DSS),
-    # a kind that is none, a state of no intent, an intent as a constraint
+    # An unknown kind, a state that no intent has, an intent as a constraint.
     ("UPDATE entity SET kind = 2 WHERE num = 1", NOT_A_DSS),
     ("UPDATE entity SET state = 4 WHERE num = 1", NOT_A_DSS),
     ("UPDATE entity SET kind = 1 WHERE num = 1", NOT_A_DSS),
     ("UPDATE entity SET kind = 1, state = 4 WHERE num = 1", None),
     ("UPDATE entity SET state = 0 WHERE num = 3", NOT_A_DSS),
-    # versions from 1 to 2,147,483,647
+    # Versions are from 1 to 2,147,483,647.
     ("UPDATE entity SET version = 0 WHERE num = 1", NOT_A_DSS),
     ("UPDATE entity SET version = 2147483647 WHERE num = 1", None),
     ("UPDATE entity SET version = 2147483648 WHERE num = 1", NOT_A_DSS),
-    # a create from 1 to the last put, and that to the serial of meta
+    # The serial of creation is from 1 to that of the last put, which is at most that of meta.
     ("UPDATE entity SET serial = 1 WHERE num = 1", None),
     ("UPDATE entity SET serial = 8 WHERE num = 1", None),
     ("UPDATE entity SET serial = 9 WHERE num = 1", NOT_A_DSS),
     ("UPDATE entity SET serial = 0 WHERE num = 1", NOT_A_DSS),
     ("UPDATE entity SET serial = -7 WHERE num = 1", NOT_A_DSS),
     ("UPDATE entity SET num = 4 WHERE num = 3", NOT_A_DSS),
-    # texts
+    # Texts.
     ("UPDATE entity SET id = upper(id) WHERE num = 1", NOT_A_DSS),
     ("UPDATE entity SET id = 'a1' WHERE num = 1", NOT_A_DSS),
     ("UPDATE entity SET manager = 'uss a' WHERE num = 1", NOT_A_DSS),
@@ -55,7 +54,7 @@ OF_BOTH = [
     ("UPDATE availability SET uss = 'uss b'", NOT_A_DSS),
     ("UPDATE availability SET version = '0123'", NOT_A_DSS),
     ("UPDATE availability SET state = 3", NOT_A_DSS),
-    # volumes: a gap, another entity, none at all
+    # Volumes: a gap, a missing entity, no volume at all.
     ("UPDATE volume SET place = 2 WHERE entity = 1 AND place = 1", NOT_A_DSS),
     ("UPDATE volume SET place = 1 WHERE entity = 3", NOT_A_DSS),
     ("UPDATE volume SET entity = 4 WHERE entity = 1 AND place = 1", NOT_A_DSS),
@@ -67,47 +66,47 @@ OF_BOTH = [
     ("UPDATE entity SET num = 4 WHERE num = 3; UPDATE volume SET entity = 4 WHERE entity = 3;"
      " UPDATE cell SET entity = 4 WHERE entity = 3", NOT_A_DSS),
     ("DELETE FROM entity WHERE num = 3", NOT_A_DSS),
-    # beyond a limit, and bounds that are turned
+    # Values beyond a limit, and bounds in the wrong order.
     ("UPDATE volume SET alt_lower = -100001 WHERE entity = 1 AND place = 0", NOT_A_DSS),
     ("UPDATE volume SET alt_upper = 1000001 WHERE entity = 1 AND place = 1", NOT_A_DSS),
     ("UPDATE volume SET alt_lower = 1200, alt_upper = -100 WHERE entity = 1", NOT_A_DSS),
     ("UPDATE volume SET time_start = -1 WHERE entity = 1 AND place = 0", NOT_A_DSS),
     ("UPDATE volume SET time_end = 253402300800 WHERE entity = 1 AND place = 1", NOT_A_DSS),
     ("UPDATE volume SET time_start = 2000, time_end = 900 WHERE entity = 1 AND place = 0", NOT_A_DSS),
-    # cells: a gap, a volume that is none, another entity, a volume without a cell
+    # Cells: a gap, a missing volume, a missing entity, a volume without cells.
     ("UPDATE cell SET place = 2 WHERE entity = 1 AND volume = 0 AND place = 1", NOT_A_DSS),
     ("UPDATE cell SET volume = 2 WHERE entity = 1 AND volume = 1", NOT_A_DSS),
     ("UPDATE cell SET entity = 4 WHERE entity = 1 AND volume = 1", NOT_A_DSS),
     ("UPDATE cell SET volume = 0, place = 2 WHERE entity = 1 AND volume = 1", NOT_A_DSS),
     ("DELETE FROM cell WHERE volume = 1", NOT_A_DSS),
     ("DELETE FROM cell WHERE entity = 3", NOT_A_DSS),
-    # a token that is printed otherwise, of another cell, and none
+    # A token in another spelling, of another cell, and an invalid one.
     ("UPDATE cell SET token = '89C25904' WHERE place = 0 AND volume = 0 AND entity = 1", NOT_A_DSS),
     ("UPDATE cell SET token = '89c259040' WHERE volume = 1", NOT_A_DSS),
     ("UPDATE cell SET token = '0' WHERE volume = 1", NOT_A_DSS),
     ("UPDATE cell SET token = '89c5' WHERE entity = 3", NOT_A_DSS),
-    # a range that is not the cell's
+    # A range that is not the cell's.
     ("UPDATE cell SET lo = 288901919 WHERE place = 1", NOT_A_DSS),
     ("UPDATE cell SET hi = 288901924 WHERE place = 1", NOT_A_DSS),
 ]
 
 LATER_GONE = "DROP TABLE naming; DROP TABLE subscription_cell; DROP TABLE subscription"
-# so many cells of one subscription
+# The cells of one subscription, as many as it may have.
 MANY = (
     "WITH RECURSIVE more (place) AS (VALUES (1) UNION ALL SELECT place + 1 FROM more WHERE place < {})"
     " INSERT INTO subscription_cell SELECT 6, place, '89c2590c', 288901921, 288901921 FROM more"
 )
 
-# The same of what came with format 2.
+# The same for tables that format 2 added.
 OF_LATER = [
-    # each format beside the tables of the other
+    # Each format with the tables of the other one.
     ("UPDATE meta SET format = 1", NOT_A_DSS),
     ("UPDATE meta SET format = 1; DROP TABLE naming", NOT_A_DSS),
     (LATER_GONE, NOT_A_DSS),
     (f"UPDATE meta SET format = 1; {LATER_GONE}", None),
     (f"UPDATE meta SET format = 7; {LATER_GONE}", VERSION),
     ("UPDATE meta SET format = 7; DROP TABLE naming", VERSION),
-    # a create from 1 to the last put, and that and the index to the serial of meta
+    # The serial of creation is from 1 to that of the last put. That one and the index are at most the serial of meta.
     ("UPDATE subscription SET serial = 8 WHERE num = 5", None),
     ("UPDATE subscription SET serial = 9 WHERE num = 5", NOT_A_DSS),
     ("UPDATE subscription SET serial = 5 WHERE num = 6", NOT_A_DSS),
@@ -123,7 +122,7 @@ OF_LATER = [
     ("UPDATE subscription SET num = 0 WHERE num = 6; UPDATE subscription_cell SET subscription = 0 WHERE subscription = 6",
      NOT_A_DSS),
     ("UPDATE subscription SET num = 4 WHERE num = 6", NOT_A_DSS),
-    # texts; an id may be that of an entity, too
+    # Texts. A subscription's id may equal an entity's.
     ("UPDATE subscription SET id = upper(id) WHERE num = 5", NOT_A_DSS),
     ("UPDATE subscription SET id = 'd1' WHERE num = 5", NOT_A_DSS),
     ("UPDATE subscription SET id = (SELECT id FROM entity WHERE num = 1) WHERE num = 5", None),
@@ -132,12 +131,12 @@ OF_LATER = [
     ("UPDATE subscription SET version = '0123456789abcde!' WHERE num = 5", None),
     ("UPDATE subscription SET url = '' WHERE num = 5", NOT_A_DSS),
     ("UPDATE subscription SET url = CAST(x'ff' AS TEXT) WHERE num = 5", NOT_A_DSS),
-    # what it is for
+    # The kinds of entities that a subscription is for.
     ("UPDATE subscription SET for_intents = 0 WHERE num = 5", None),
     ("UPDATE subscription SET for_intents = 0 WHERE num = 6", NOT_A_DSS),
     ("UPDATE subscription SET for_intents = 2 WHERE num = 5", NOT_A_DSS),
     ("UPDATE subscription SET for_constraints = 2 WHERE num = 5", NOT_A_DSS),
-    # beyond a limit, and bounds that are turned
+    # Values beyond a limit, and bounds in the wrong order.
     ("UPDATE subscription SET alt_lower = -100000, alt_upper = 1000000 WHERE num = 5", None),
     ("UPDATE subscription SET alt_lower = -100001 WHERE num = 5", NOT_A_DSS),
     ("UPDATE subscription SET alt_upper = 1000001 WHERE num = 5", NOT_A_DSS),
@@ -146,7 +145,7 @@ OF_LATER = [
     ("UPDATE subscription SET time_start = -1 WHERE num = 5", NOT_A_DSS),
     ("UPDATE subscription SET time_end = 253402300800 WHERE num = 5", NOT_A_DSS),
     ("UPDATE subscription SET time_end = 899 WHERE num = 5", NOT_A_DSS),
-    # cells: a gap, another subscription, one that is none, none at all, as many as there may be and one more
+    # Cells: a gap, another subscription, a missing one, none at all, the maximum and one more.
     ("UPDATE subscription_cell SET place = 2 WHERE subscription = 5 AND place = 1", NOT_A_DSS),
     ("UPDATE subscription_cell SET place = 1 WHERE subscription = 6", NOT_A_DSS),
     ("UPDATE subscription_cell SET subscription = 6, place = 1 WHERE subscription = 5 AND place = 1", None),
@@ -155,14 +154,15 @@ OF_LATER = [
     ("DELETE FROM subscription_cell WHERE subscription = 6", NOT_A_DSS),
     (MANY.format(511), None),
     (MANY.format(512), NOT_A_DSS),
-    # a token that is printed otherwise, of another cell, and none; a range that is not the cell's
+    # A token in another spelling, of another cell, and an invalid one; a range that is not the cell's.
     ("UPDATE subscription_cell SET token = '89C2590c' WHERE subscription = 6", NOT_A_DSS),
     ("UPDATE subscription_cell SET token = '89c2590c0' WHERE subscription = 6", NOT_A_DSS),
     ("UPDATE subscription_cell SET token = '0' WHERE subscription = 6", NOT_A_DSS),
     ("UPDATE subscription_cell SET token = '89c25904' WHERE subscription = 6", NOT_A_DSS),
     ("UPDATE subscription_cell SET lo = 288901919 WHERE place = 1", NOT_A_DSS),
     ("UPDATE subscription_cell SET hi = 288901924 WHERE place = 1", NOT_A_DSS),
-    # what is named: of the intent nothing, another supplier's; what is not there; what names it is a constraint, or none
+    # References: an intent without one, one to another USS's subscription, one to a missing subscription, one from a
+    # constraint, one from nothing.
     ("DELETE FROM naming", None),
     ("UPDATE naming SET subscription = 6", None),
     ("INSERT INTO naming VALUES (1, 5)", None),
@@ -170,7 +170,7 @@ OF_LATER = [
     ("INSERT INTO naming VALUES (3, 5)", NOT_A_DSS),
     ("UPDATE entity SET kind = 1, state = 4 WHERE num = 8", NOT_A_DSS),
     ("UPDATE naming SET entity = 7", NOT_A_DSS),
-    # a subscription that goes alone, with its cells, and with its naming
+    # A subscription is removed alone, with its cells, and with its references.
     ("DELETE FROM subscription WHERE num = 6", NOT_A_DSS),
     ("DELETE FROM subscription WHERE num = 6; DELETE FROM subscription_cell WHERE subscription = 6", None),
     ("DELETE FROM subscription WHERE num = 5; DELETE FROM subscription_cell WHERE subscription = 5", NOT_A_DSS),
@@ -179,7 +179,7 @@ OF_LATER = [
 
 
 class Filled(Room):
-    """A room whose database has the rows of a filled one, in a format."""
+    """A room whose database has the rows of a filled one, in a given format."""
 
     def __init__(self, number):
         self.number = number
@@ -193,13 +193,13 @@ class Filled(Room):
         return self
 
     def again(self):
-        """The file as it was made, without what stands beside it."""
+        """Restores the original file, without the files beside it."""
         for file in pathlib.Path(self.folder.name).glob("dss.db*"):
             file.unlink()
         self.database.write_bytes(self.saved)
 
     def opened_after(self, statements, fault):
-        """What is wrong as the database is opened after statements of SQLite; with no fault it has to be taken."""
+        """Returns what is wrong if the database is opened after SQLite statements. Without a fault it must be accepted."""
         self.again()
         with tables.unguarded(self.database) as database:
             for statement in statements:
@@ -211,7 +211,7 @@ class Filled(Room):
 
 
 def done_to_it():
-    """Of a database to which something was done, the fault that is due, and the file as it was; else its reading."""
+    """Each changed database gives the expected fault and stays as it was. If no fault is expected, it can be read."""
     found = []
     for number, done in (1, OF_BOTH), (2, OF_BOTH + OF_LATER):
         with Filled(number) as room:
@@ -221,8 +221,8 @@ def done_to_it():
 
 
 def lacking_tables():
-    """A database with some of the tables of its format, but not all, is no such database, whichever they are; nor is one
-    of format 1 with some that came later, or with all of them. One with none of them is made anew."""
+    """A database with some but not all tables of its format is rejected, whichever they are. So is one of format 1 with
+    some or all of the later tables. A file without any of them becomes a new database."""
     found = []
     for number in (1, 2):
         names = tables.tables_of(tables.FORMATS[number])
@@ -238,7 +238,7 @@ def lacking_tables():
             got = room.command("report")
             found += [f"format {number}, without all: {got!r}"] if got != (0, b"serial 0\n", b"") else []
             made = tables.rows_in(room.database)
-            found += [] if made == dict.fromkeys(sorted(tables.TABLES), []) | {"meta": [(1, 2, 0)]} else [f"made anew: {made}"]
+            found += [] if made == dict.fromkeys(sorted(tables.TABLES), []) | {"meta": [(1, 2, 0)]} else [f"a new database has {made}"]
     with Filled(1) as room:
         made = [tables.named(tables.LATER)[it] for it in tables.LATER_TABLES]
         for count in range(1, len(made) + 1):
@@ -248,7 +248,7 @@ def lacking_tables():
 
 
 def lacking_columns():
-    """A database whose table lacks a column, which has another name, is no such database."""
+    """A database with a column of another name is rejected."""
     found = []
     for number in (1, 2):
         with Filled(number) as room:

@@ -1,8 +1,7 @@
-"""Connections: requests that come in pieces are answered as whole ones, devices that fail are told, and so is what breaks a
-rule of the wire.
+"""Requests in chunks get the responses of whole ones; device faults and broken protocol rules are reported.
 
-Standard input and output of the built program are made to give and take few bytes a call, or to fail, by
-tests/devices/devices.c, which is loaded before the C library."""
+tests/devices/devices.c, loaded before the C library, makes standard input and output of the built program give and
+take few bytes a call, or fail."""
 import json
 import os
 import pathlib
@@ -15,8 +14,8 @@ from devices import library
 from program import BUILT, TOP, run
 
 NOW = 1000
-# the bytes that a slow writer takes at once
-PIECE = 9
+# The bytes that a slow writer takes at once.
+STEP = 9
 CLOSE = b"Connection: close\r\n"
 ID_A, ID_B = ("00000000-0000-4000-8000-0000000000" + end for end in ("a1", "b1"))
 READING = '{"status":{"availability":"Unknown","uss":"uss-b"},"version":""}'
@@ -24,7 +23,7 @@ READS, WRITES, TURNS = (f"dss: stream: fault {it}\n".encode() for it in ("1 Read
 
 
 class Room:
-    """A token file, and the library that stands before the devices."""
+    """A token file, and the library that replaces calls on devices."""
 
     def __enter__(self):
         self.folder = tempfile.TemporaryDirectory()
@@ -37,7 +36,7 @@ class Room:
         self.folder.cleanup()
 
     def serve(self, stream, now=NOW, database=None, **devices):
-        """The status, output and error of a stream over devices set so."""
+        """Returns the status, output and error of a stream over devices with these settings."""
         more = {name: str(value) for name, value in devices.items()}
         more |= {"LD_PRELOAD": self.library} if devices else {}
         over = ["--db", database] if database else []
@@ -45,7 +44,7 @@ class Room:
 
 
 def ask(method, target, token, body=None, fields=(), closes=False):
-    """A request with a bearer token."""
+    """Returns a request with a bearer token."""
     fields = [*fields, "Connection: close"] if closes else fields
     return wire.request(method, target, f"Bearer {token}", None if body is None else body.encode(), fields)
 
@@ -68,16 +67,16 @@ def reference(entity, manager, version=1, ovn=None, state="Accepted", times=(900
 
 
 def created(entity, manager, serial):
-    """The body of the answer to a creation."""
+    """Returns the body of the response to a creation."""
     return wire.compact({"operational_intent_reference": reference(entity, manager, ovn=wire.ovn(serial)), "subscribers": []})
 
 
 def refused(status, message, fields=()):
-    """The last answer of a connection, where a rule is broken."""
+    """Returns the last response of a connection that breaks a rule."""
     return wire.answer(status, wire.compact({"message": message}), fields, closes=True)
 
 
-# A supplier declares an intent, another is told what it misses, and declares its own with the key. Then a query.
+# A USS declares an intent. Another one is told that its key lacks it, and declares its own with the key. Then a query.
 MEETING = [
     (ask("PUT", f"{wire.INTENTS}/{ID_A}", "tok-a", intent([volume()])), wire.answer(201, created(ID_A, "uss-a", 1))),
     (
@@ -106,7 +105,7 @@ def joined(steps):
 
 
 def examples():
-    """The streams of the worked examples, each with its name, its moment and its answers."""
+    """Returns the streams of the worked examples, each with its name, its time and its responses."""
     for example in json.loads((TOP / "tests" / "data" / "worked_examples.json").read_text()):
         steps = [(step["request"].encode("latin-1"), step["answer"].encode("latin-1")) for step in example["steps"]]
         if example["in_one_stream"]:
@@ -117,8 +116,8 @@ def examples():
                 yield example["name"], example["now"], request, answer
 
 
-def in_pieces():
-    """However few bytes a read gives and a write takes, and wherever the first read ends, the answers are the same."""
+def in_chunks():
+    """The responses are the same, however few bytes a read gives and a write takes, and wherever the first read ends."""
     found = []
     streams = [("a meeting", NOW, *joined(MEETING)), ("two readings", NOW, *joined(TWO_READINGS)), *examples()]
     with Room() as room:
@@ -133,10 +132,11 @@ def in_pieces():
 
 
 def failing_devices():
-    """A read or a write that fails ends the stream, and the answers to all requests whose bytes had come stand there."""
+    """A failing read or write ends the stream. The responses to all completely received requests are written before
+    that."""
     found = []
     with Room() as room:
-        # two requests that leave the connection open: the last reading is the one that finds the end
+        # Two requests that leave the connection open: the last read finds the end.
         both = TWO_READINGS[:1] * 2
         stream, wanted = joined(both)
         ends = [len(both[0][0]), len(stream)]
@@ -147,18 +147,18 @@ def failing_devices():
             found += [f"read {at}: {got!r}"] if got != (1, wanted[: sizes[come]], READS) else []
         got = room.serve(stream, READ_BYTES=1, READ_FAILS=len(stream) + 2)
         found += [f"no read fails: {got!r}"] if got != (0, wanted, b"") else []
-        # each answer is written by itself, in pieces
+        # Each response is written on its own, in chunks.
         stream, _ = joined(TWO_READINGS)
-        pieces = [answer[at : at + PIECE] for _, answer in TWO_READINGS for at in range(0, len(answer), PIECE)]
+        chunks = [answer[at : at + STEP] for _, answer in TWO_READINGS for at in range(0, len(answer), STEP)]
         for fault in "WRITE_FAILS", "WRITE_STOPS":
-            for at in range(1, len(pieces) + 1):
-                got = room.serve(stream, WRITE_BYTES=PIECE, **{fault: at})
-                found += [f"{fault} {at}: {got!r}"] if got != (1, b"".join(pieces[: at - 1]), WRITES) else []
+            for at in range(1, len(chunks) + 1):
+                got = room.serve(stream, WRITE_BYTES=STEP, **{fault: at})
+                found += [f"{fault} {at}: {got!r}"] if got != (1, b"".join(chunks[: at - 1]), WRITES) else []
     return found
 
 
 def answer_not_written():
-    """A call whose answer cannot be written stands."""
+    """A call takes effect even if its response cannot be written."""
     setting, url = '{"old_version":"","availability":"Down"}', f"{wire.AVAILABILITY}/uss-b"
     down = wire.compact({"status": {"availability": "Down", "uss": "uss-b"}, "version": wire.ovn(1)})
     with Room() as room:
@@ -170,7 +170,7 @@ def answer_not_written():
 
 
 def cell_not_written():
-    """A cell that cannot be written is told, and what was written is the front of its line."""
+    """If a cell cannot be written, that is reported, and the written bytes are a prefix of its line."""
     line = b"89c25904 face=4 level=13 lo=288901920 hi=288901920\n"
     found = []
     with Room() as room:
@@ -182,24 +182,24 @@ def cell_not_written():
 
 
 def truncated():
-    """A put that is cut anywhere gets no answer, and the next stream over the database finds nothing."""
+    """A put that is cut anywhere gets no response, and the next stream over the database finds nothing."""
     stream = MEETING[0][0]
     reading = ask("GET", f"{wire.INTENTS}/{ID_A}", "tok-a", closes=True)
     found = []
     with Room() as room:
         file = f"{room.folder.name}/dss.db"
         for size in range(len(stream)):
-            is_kept = size % 16 == 0 or size > len(stream) - 4
-            cut = room.serve(stream[:size], database=file if is_kept else None)
+            is_stored = size % 16 == 0 or size > len(stream) - 4
+            cut = room.serve(stream[:size], database=file if is_stored else None)
             found += [f"{size} bytes: {cut!r}"] if cut != (0, b"", b"") else []
-            if is_kept:
+            if is_stored:
                 read = room.serve(reading, database=file)
                 found += [f"after {size} bytes: {read!r}"] if read != (0, refused(404, "P7 FOUND"), b"") else []
     return found
 
 
 def turns_end():
-    """A body that comes one byte a read uses the turns of a stream up."""
+    """A body that arrives one byte a read uses up the turns of a stream."""
     stream = ask("GET", f"{wire.AVAILABILITY}/uss-b", "tok-a", " " * 1_048_576)
     with Room() as room:
         began = time.perf_counter()
@@ -208,8 +208,8 @@ def turns_end():
     return [f"{got!r}"] if got != (1, b"", TURNS) else []
 
 
-def greatest_body():
-    """A body of 1,048,576 bytes with 2,048 cells and 4,096 entries of a key is answered."""
+def max_body():
+    """A body of 1,048,576 bytes with 2,048 cells and 4,096 entries of a key gets its response."""
     key = [f"{at:0128d}" for at in range(4_096)]
     body = json.loads(intent([volume(["89c25904"] * 512)] * 4, key))
     left = 1_048_576 - len(wire.compact(body)) - len(',"x":""')
@@ -231,12 +231,12 @@ ANSWERED = TWO_READINGS[1][1]
 
 
 def head(fields):
-    """The head of a reading with these fields more."""
+    """Returns the head of a read with these additional fields."""
     return LINE + BEARS + fields + b"\r\n"
 
 
 def sized(size):
-    """A head of so many bytes."""
+    """Returns a head of that many bytes."""
     return head(b"X: " + b"x" * (size - len(head(b"X: \r\n"))) + b"\r\n")
 
 
@@ -297,7 +297,7 @@ CLOSINGS = [
 
 
 def hostile():
-    """Each input gets exactly the answers that are due to it."""
+    """Each hostile input gets exactly its expected responses."""
     found = []
     table = list(HEADS)
     for field, version, closes in CLOSINGS:
@@ -316,7 +316,8 @@ def hostile():
 
 P1, P5 = (404, "P1 ROUTE"), (400, "P5 FORM")
 ALLOW_QUERY, ALLOW_ENTITY, ALLOW_OVN = ((405, "P2 METHOD", f"Allow: {it}") for it in ("POST", "GET, PUT", "PUT, DELETE"))
-# What some paths and methods are told, under both kinds of references: a bad word, an unknown route, or other methods.
+# Some paths and methods with their denials, for both kinds of references: a bad path parameter, an unknown route, or
+# other methods.
 PATHS = [
     ("GET", "/query", ALLOW_QUERY), ("PUT", "/query", ALLOW_QUERY), ("post", "/query", ALLOW_QUERY),
     ("POST", "/query?a", P5), ("POST", "/quer", ALLOW_ENTITY), ("GET", "/quer", P5), ("GET", "/queryx", P5),
@@ -335,7 +336,7 @@ OTHERS = [
 
 
 def paths():
-    """Each path and method of the tables is told what is due to it, of both kinds of references."""
+    """Each path and method of the tables gets its expected response, for both kinds of references."""
     table = [(method, path, "tok-a", it) for method, path, it in OTHERS]
     for front, token in (wire.INTENTS, "tok-a"), (wire.CONSTRAINTS, "tok-c"):
         table += [(method, front + path, token, it) for method, path, it in PATHS]
@@ -348,13 +349,13 @@ def paths():
 
 
 CASES = {
-    "connections-in-pieces": in_pieces,
+    "connections-in-chunks": in_chunks,
     "devices-that-fail": failing_devices,
-    "answer-that-is-not-written": answer_not_written,
+    "response-that-is-not-written": answer_not_written,
     "cell-that-is-not-written": cell_not_written,
     "put-that-is-cut": truncated,
     "turns-that-end": turns_end,
-    "greatest-body": greatest_body,
+    "max-body": max_body,
     "hostile-heads": hostile,
     "paths-and-methods": paths,
 }

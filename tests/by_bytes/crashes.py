@@ -1,6 +1,8 @@
-"""A machine that stops at each of its changes of the database's files, by what a disk may have kept: the airspace
-before or after the change is found again, and the one after where the change was acknowledged. Of a database of format 1
-that is opened the tables are found as they were, or as they are in format 2."""
+"""A machine stops at each change of the database's files.
+
+Whatever the disk may have persisted, the next start finds the airspace before or after the change, and the one after
+it if the change was acknowledged. If a database of format 1 is opened, its tables are found as they were, or in
+format 2."""
 import pathlib
 import shutil
 
@@ -14,10 +16,10 @@ from program import run
 
 STOPPED = 99
 KEPT = ("all", "synced", "half")
-# ids that nothing has yet
+# Ids that nothing has yet.
 OTHER, ANOTHER = (f"00000000-0000-4000-8000-0000000000{end}" for end in ("b2", "d3"))
 
-# what is asked of what is found, so that any difference shows
+# Requests on the recovered airspace that show any difference.
 SEEN = [
     ask("GET", f"{wire.INTENTS}/{INTENT}", "tok-a"),
     *(ask("GET", f"{wire.INTENTS}/{it}", "tok-b") for it in (NAMING, OTHER)),
@@ -37,7 +39,7 @@ SEEN = [
 
 
 def changes():
-    """Each change with those before it; most notify one subscription or two."""
+    """Returns each change with those before it. Most notify one subscription or two."""
     made = filled()
     moved = {
         "extents": [volume(["89c2590c"], (0, 100), (900, 2000)), volume(["89c2591"], (200, 300), (900, 2000))],
@@ -70,7 +72,7 @@ def changes():
 
 
 class Machine:
-    """A room whose database is made once, and then used as it was again and again."""
+    """A room whose database is made once, and then used in its original state again and again."""
 
     def __init__(self, room, made):
         self.room, self.library = room, library("crash", room.folder.name)
@@ -81,13 +83,14 @@ class Machine:
             room.serve(made, database=self.saved / "dss.db")
 
     def again(self):
-        """The database as it was made."""
+        """Restores the original database."""
         shutil.rmtree(self.used, ignore_errors=True)
         shutil.copytree(self.saved, self.used)
         return self.used / "dss.db"
 
     def run(self, words, requests=(), at=0, kept="all"):
-        """The status and output of a run that stops at that call, and how many calls it made if it did not."""
+        """Returns the status and output of a run that stops at that call, and the number of its calls if it did not
+        stop."""
         counted = pathlib.Path(self.room.folder.name, "calls")
         counted.unlink(missing_ok=True)
         more = {"LD_PRELOAD": self.library, "CRASH_AT": f"{at}", "CRASH_KEEPS": kept, "CRASH_CALLS": f"{counted}"}
@@ -98,13 +101,13 @@ class Machine:
         return self.run(self.room.words(NOW, database), requests, at, kept)
 
     def seen(self, database):
-        """What is found of a database, as it is opened again; and what SQLite finds wrong with it."""
+        """Returns what a newly opened database contains, and what SQLite finds wrong with it."""
         got = self.room.serve(SEEN, database=database)
         return tables.wrong_in(database) or got
 
 
 def of_change(name, made, change):
-    """What is wrong after a stop at any call of one change, and how many stops there were."""
+    """Returns what is wrong after a stop at any call of one change, and the number of stops."""
     found, stops = [], 0
     with Room() as room:
         machine = Machine(room, made)
@@ -136,7 +139,7 @@ def each_call():
 
 
 def copied(database):
-    """A copy of a file with what stands beside it, for SQLite to read, which takes the log into the file."""
+    """Copies a database with the files beside it, for SQLite to read: SQLite checkpoints the log."""
     folder = database.parent.with_name("copied")
     shutil.rmtree(folder, ignore_errors=True)
     shutil.copytree(database.parent, folder)
@@ -144,8 +147,8 @@ def copied(database):
 
 
 def of_move(name, fill):
-    """What is wrong after a stop at any call by which `upgrade` moves a database of format 1, and how many stops there
-    were."""
+    """Returns what is wrong after a stop at any call while `upgrade` upgrades a database of format 1, and the number of
+    stops."""
     found, stops = [], 0
     with Room() as room:
         machine = Machine(room, [])
@@ -171,7 +174,7 @@ def of_move(name, fill):
                 found += [f"{where}: {status}, {output!r}"] if (status, output) != (STOPPED, b"") else []
                 found += [f"{where}: {it}" for it in tables.wrong_in(left)]
                 found += [] if is_old else moved_wrong(where, before, left)
-                # the next start finds it, moved or not, and from then on it is
+                # The next start finds it upgraded or not, and then upgrades it.
                 got = upgrade(database)[:2], upgrade(database)[:2]
                 wanted = (MOVED if is_old else HELD)[:2], HELD[:2]
                 found += [f"{where}: then {got}"] if got != wanted else []
@@ -180,7 +183,7 @@ def of_move(name, fill):
 
 
 def moves():
-    """Old databases that are moved: filled, empty, and one that was killed, with its log."""
+    """The same for old databases: a filled one, an empty one, and one of a killed service, with its log."""
 
     def filled_first(folder):
         with Filled(1) as room:
@@ -198,8 +201,8 @@ def each_move():
     for name, fill in moves().items():
         wrong, count = of_move(name, fill)
         found, stops = found + wrong, stops + count
-    print(f"the machine stopped {stops} times among the calls that move an old database")
+    print(f"the machine stopped {stops} times among the calls that upgrade an old database")
     return found
 
 
-CASES = {"machine-that-stops-in-a-change": each_call, "machine-that-stops-in-a-move": each_move}
+CASES = {"machine-that-stops-in-a-change": each_call, "machine-that-stops-in-an-upgrade": each_move}

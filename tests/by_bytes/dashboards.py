@@ -1,8 +1,10 @@
-"""What deploy/ has for Prometheus and Grafana: the files read, each figure and label in them is one that the service tells, each figure
-is shown, and each alert comes where it should and nowhere else.
+"""Checks the files in deploy/ for Prometheus and Grafana.
 
-Where Debian's package prometheus is installed, its promtool reads each expression and tries the alerts; a look at names, signs and
-brackets stands for it elsewhere."""
+They parse, the service has each metric and label in them, each metric is shown, and each alert fires if it should
+and only then.
+
+If Debian's package prometheus is installed, its promtool parses each expression and tests the alerts. Otherwise a
+check of names, signs and brackets replaces it."""
 import json
 import pathlib
 import re
@@ -13,20 +15,20 @@ import tempfile
 import yaml
 
 import wire
-from operators import METRICS, Operated
+from admin_port import METRICS, AdminService
 from program import TOP
 from sockets import ASKED, CLOSING, difference
 
 DEPLOY = TOP / "deploy"
 BOARD, RULES, SCRAPE = (DEPLOY / it for it in ("grafana.json", "prometheus-rules.yaml", "prometheus.yaml"))
-# labels that Prometheus or Grafana gives
+# Labels that Prometheus or Grafana adds.
 GIVEN = {"job", "instance", "le"}
 SIGNS = re.compile(r'\s+|"[^"]*"|\d+(?:\.\d+)?[smhd]?\b|[\w:]+|[-+*/%^(){}\[\],]|=~|!~|==|!=|>=|<=|[=<>]')
 FUNCTIONS = {
     "absent", "and", "by", "changes", "histogram_quantile", "increase", "label_values", "max", "min", "or", "rate", "sum", "time",
 }
 MINUTES = 40
-# of each alert: the series that bring it, and those that do not, each as promtool writes them
+# For each alert: the series that fire it, and those that do not, in promtool's notation.
 ALERTS = {
     "DssDown": ({'up{job="dss"}': "0x40"}, {'up{job="dss"}': "1x40"}),
     "DssStopped": (
@@ -59,7 +61,7 @@ def alerts():
 
 
 def expressions():
-    """Each expression of the files, with where it stands."""
+    """Returns each expression of the files, with its location."""
     board = json.loads(BOARD.read_text())
     shown = [(panel["title"], target["expr"]) for panel in board["panels"] for target in panel["targets"]]
     shown += [(it["name"], it["expr"]) for it in board["annotations"]["list"]]
@@ -68,8 +70,8 @@ def expressions():
 
 
 def told():
-    """The text of the figures of a service that has answered, and their types and labels by their names."""
-    with Operated() as started:
+    """Returns the metrics page of a service that has answered, and the types and labels of metrics by their names."""
+    with AdminService() as started:
         started.exchange(ASKED + CLOSING, ends=False)
         started.exchange(wire.request("GET", wire.AVAILABILITY, None, fields=["Connection: close"]), ends=False)
         text = started.asked(METRICS).partition(b"\r\n\r\n")[2].decode()
@@ -85,13 +87,13 @@ ENDS = {"histogram": ["_bucket", "_sum", "_count"]}
 
 
 def labels_in(expression):
-    """The labels that an expression takes or groups by."""
+    """Returns the labels that an expression matches or groups by."""
     chosen = re.findall(r"(\w+)\s*(?:=~|!~|!=|=)", " ".join(re.findall(r"\{([^}]*)\}", expression)))
     return set(chosen) | set(re.findall(r"\w+", " ".join(re.findall(r"\bby\s*\(([^)]*)\)", expression))))
 
 
 def unread(expression):
-    """What a look at an expression's signs finds."""
+    """Returns the faults that a check of an expression's signs finds."""
     text, depth = expression.replace("$__rate_interval", "5m"), []
     for sign in re.split(f"({SIGNS.pattern})", text):
         if sign and not SIGNS.fullmatch(sign):
@@ -101,38 +103,38 @@ def unread(expression):
         elif sign in (")", "]", "}") and (not depth or depth.pop() != sign):
             return [f"a bracket in {expression}"]
     called = set(re.findall(r"\b([a-z]\w*)\s*\(", text)) - FUNCTIONS
-    return ([f"an open bracket in {expression}"] if depth else []) + [f"no function is {it}" for it in sorted(called)]
+    return ([f"an open bracket in {expression}"] if depth else []) + [f"no such function: {it}" for it in sorted(called)]
 
 
 def names():
-    """Each figure and label in the files is told by the service, and each figure is shown."""
+    """The service has each metric and label in the files, and each metric is shown."""
     text, figures, labels = told()
     shown, watched = expressions()
     found, seen = [], set()
     for place, expression in shown + watched:
         named = set(re.findall(r"\bdss_\w+", re.sub(r'"[^"]*"', "", expression)))
         unknown = sorted(named - set(figures))
-        found += [f"{place}: the service tells no {it}" for it in unknown] + [f"{place}: {it}" for it in unread(expression)]
+        found += [f"{place}: the service has no metric {it}" for it in unknown] + [f"{place}: {it}" for it in unread(expression)]
         of_these = GIVEN.union(*(labels[figures[it]] for it in named - set(unknown)))
-        found += [f"{place}: no label is {it}" for it in sorted(labels_in(expression) - of_these)] if not unknown else []
+        found += [f"{place}: no such label: {it}" for it in sorted(labels_in(expression) - of_these)] if not unknown else []
         seen |= {figures.get(it) for it in named} if (place, expression) in shown else set()
-    found += [f"{it} is not shown" for it in sorted(set(labels) - seen)]
+    found += [f"{it} is in no panel" for it in sorted(set(labels) - seen)]
     document = (TOP / "docs" / "OPERATE.md").read_text()
     found += [f"docs/OPERATE.md has no {it}" for it in sorted(labels) if not re.search(rf"`{it}\b", document)]
     return found + promtool(["check", "metrics"], text)
 
 
 def promtool(words, given=None):
-    """What promtool says against a file, where it is here."""
+    """Returns promtool's faults for a file, if promtool is installed."""
     if not shutil.which("promtool"):
-        print("promtool is not here: Debian has it in the package prometheus")
+        print("promtool is missing, so expressions are checked less: install the package prometheus")
         return []
     done = subprocess.run(["promtool", *words], input=given, capture_output=True, text=True, timeout=60)
     return [f"promtool {words}: {done.stdout}{done.stderr}"] if done.returncode else []
 
 
 def reads():
-    """Prometheus reads its files, and each expression that is shown."""
+    """Prometheus parses its files, and each expression in a panel."""
     shown, _ = expressions()
     found = promtool(["check", "config", str(SCRAPE)]) + promtool(["check", "rules", str(RULES)])
     asked = [re.sub(r"\$\w+", ".*", it.replace("$__rate_interval", "5m")) for _, it in shown if not it.startswith("label_values")]
@@ -144,7 +146,7 @@ def reads():
 
 
 def comes(name, series, is_there):
-    """A test of promtool: whether an alert is there at the end of series."""
+    """Returns a promtool test of whether an alert fires at the end of series."""
     given = [{"series": it if "{" in it and "instance" in it else with_instance(it), "values": values} for it, values in series.items()]
     asked = {"eval_time": f"{MINUTES}m", "alertname": name}
     labels = {it.split("=")[0]: it.split("=")[1].strip('"') for it in re.findall(r'(?:rule|job)="\w+"', "".join(series))}
@@ -161,7 +163,7 @@ def with_instance(series):
 
 
 def come():
-    """Each alert comes where its series bring it, and not of others."""
+    """Each alert fires for its series, and for no others."""
     found = difference("alerts", sorted(it["alert"] for it in alerts()), sorted(ALERTS))
     tests = [comes(name, ALERTS[name][at], not at) for name in ALERTS for at in range(2)]
     with tempfile.TemporaryDirectory() as room:
@@ -170,4 +172,4 @@ def come():
         return found + promtool(["test", "rules", str(file)])
 
 
-CASES = {"figures-that-are-shown": names, "figures-are-read": reads, "alerts-come": come}
+CASES = {"metrics-in-dashboards": names, "expressions-are-read": reads, "alerts-fire": come}

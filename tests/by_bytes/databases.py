@@ -1,5 +1,6 @@
-"""The airspace in a database: the same answers as in memory, over a file that SQLite itself reads and checks,
-and files that are not taken."""
+"""An airspace in a database gets the same responses as in memory.
+
+SQLite reads and checks its file. Other files are rejected."""
 import collections
 import json
 import pathlib
@@ -16,19 +17,20 @@ from program import BUILT, TOP, first_difference, run
 from streams import CAUSES, kept_open
 
 NOW = 1000
-# streams of so many drawn calls, each by a program of its own over one database; they are among those in memory
+# The drawn calls of a stream. Each stream has its own run of the program over one database, and all of them together in
+# memory.
 CHUNK = 20
 SEEDS = range(1, 9)
-# how often subscriptions are told of changes in them, for each cause
-LEAST_OF_A_CAUSE = 5
+# How often subscriptions must be notified for each cause.
+MIN_PER_CAUSE = 5
 NOT_A_DSS, VERSION, STORE = (f"dss: db: fault {it}\n".encode() for it in ("1 NotADss", "2 Version", "3 Store"))
 
-# Two suppliers: an intent of two volumes that was updated once, a constraint and an availability; two subscriptions, one
-# of them updated, and an intent that names the other one and that both were told of.
+# Two USSs: an intent of two volumes that was updated once, a constraint and an availability; two subscriptions, one of
+# them updated; and an intent that references the other one and notified both.
 INTENT, CONSTRAINT, NAMING, NAMED, SUBSCRIPTION = (
     f"00000000-0000-4000-8000-0000000000{end}" for end in ("a1", "c1", "b1", "d1", "d2")
 )
-# What is kept of them, as SQLite reads it; the ranges are those of Google's S2.
+# The rows stored for them, as SQLite reads them. The ranges are those of Google's S2.
 ROWS = {
     "meta": [(1, 2, 8)],
     "entity": [
@@ -62,7 +64,7 @@ ROWS = {
 
 
 class Room:
-    """A folder with a token file, where a database may be."""
+    """A directory with a token file, where a database can be made."""
 
     def __enter__(self):
         self.folder = tempfile.TemporaryDirectory()
@@ -78,24 +80,24 @@ class Room:
         return [BUILT, "run", "--tokens", str(self.tokens), "--now", str(now), "--db", str(database or self.database), "-"]
 
     def serve(self, requests, now=NOW, database=None):
-        """The status, output and error of a stream over the database."""
+        """Returns the status, output and error of a stream over the database."""
         return run(self.words(now, database), b"".join(requests))
 
     def query(self, text):
-        """The rows that SQLite itself answers."""
+        """Returns the rows that SQLite itself reads."""
         with tables.opened(self.database) as database:
             return database.execute(text).fetchall()
 
     def words_of(self, command):
-        """The words of a command that takes a database alone."""
+        """Returns the arguments of a command that takes only a database."""
         return [BUILT, command, "--db", str(self.database)]
 
     def command(self, name, more=None):
-        """The status, output and error of such a command."""
+        """Returns the status, output and error of such a command."""
         return run(self.words_of(name), more=more)
 
     def readable(self):
-        """Whether a reading over the database is answered as what is kept in `ROWS` has it."""
+        """Returns whether a read over the database gives the stored values of `ROWS`."""
         status, output, error = self.serve([ask("GET", f"{wire.AVAILABILITY}/uss-b", "tok-a")])
         return (status, error) == (0, b"") and b'"availability":"Down"' in output
 
@@ -115,7 +117,7 @@ def sub_put(url, cells, altitudes, intents, constraints):
 
 
 def filled():
-    """What a filled database is made by; the first four keep no subscription."""
+    """Returns the calls that fill a database. The first four store no subscription."""
     first = {"extents": [volume(["89c25904"], (0, 1200), (900, 2000))], "state": "Accepted"}
     second = {
         "extents": [
@@ -143,8 +145,8 @@ def filled():
 
 
 def worked_examples():
-    """Each worked example gives over a database the bytes that it gives in memory, in one stream and with a program for
-    each step."""
+    """Each worked example gives the same bytes over a database as in memory, in one stream and with one run of the
+    program for each step."""
     found = []
     for example in json.loads((TOP / "tests" / "data" / "worked_examples.json").read_text()):
         requests = [step["request"].encode("latin-1") for step in example["steps"]]
@@ -163,8 +165,8 @@ def worked_examples():
 
 
 def drawn_over(room, seed, between=lambda: None, notified=None):
-    """How drawn calls are answered otherwise than the plain policy says, by one program after the other over one
-    database, with something done to its file between them."""
+    """Returns how drawn calls over one database, in successive runs of the program, differ from the plain policy.
+    `between` changes the file between two runs."""
     requests, outcomes = drawn_calls.stream(seed, notified=notified)
     found, got = [], []
     for at in range(0, len(requests), CHUNK):
@@ -172,29 +174,29 @@ def drawn_over(room, seed, between=lambda: None, notified=None):
         found += [f"seed {seed}, call {at}: {status}, {error!r}"] if (status, error) != (0, b"") else []
         got += wire.answers_of(output)
         between()
-    # the last call of a stream of the most requests closes its connection
+    # The last call of a full stream closes its connection.
     got = [it.replace(b"Connection: close\r\n", b"") for it in got]
     why = first_difference([it.text(closes=False) for it in outcomes], got)
     return found + ([f"seed {seed}: {why}"] if why else []) + wrong_with(room)
 
 
 def drawn():
-    """Drawn calls are answered as in memory, and SQLite then finds nothing wrong with the file."""
+    """Drawn calls get the same responses as in memory, and SQLite then finds nothing wrong with the file."""
     found, notified = [], collections.Counter()
     for seed in [*SEEDS, *seeds.new("calls-over-a-database", 1)]:
         with Room() as room:
             found += drawn_over(room, seed, notified=notified)
-    rare = [it for it in CAUSES if notified[it] < LEAST_OF_A_CAUSE]
+    rare = [it for it in CAUSES if notified[it] < MIN_PER_CAUSE]
     return found + ([f"too few of {rare} in {dict(notified)}"] if rare else [])
 
 
 def wrong_with(room):
-    """What SQLite finds wrong with the file."""
+    """Returns what SQLite finds wrong with the file."""
     return tables.wrong_in(room.database)
 
 
 def as_rows():
-    """The tables and rows of a filled database, as SQLite reads them."""
+    """SQLite reads the expected tables and rows in a filled database."""
     found = []
     with Room() as room:
         status, output, error = room.serve(filled())
@@ -217,7 +219,7 @@ def vacuumed(file):
 
 
 def dumped(file):
-    """SQLite's `.dump`, read into a new file in the place of the old one."""
+    """Replaces a file by a new one, made of SQLite's `.dump`."""
     with tables.opened(file) as database:
         text = "".join(f"{line}\n" for line in database.iterdump())
     file.unlink()
@@ -226,7 +228,7 @@ def dumped(file):
 
 
 def written_anew():
-    """A file that SQLite wrote anew among the calls of a stream is taken, and these are answered as they are without."""
+    """A file that SQLite rewrote between two calls of a stream is accepted, and the responses stay the same."""
     found = []
     for write in vacuumed, dumped:
         with Room() as room:
@@ -234,14 +236,14 @@ def written_anew():
     return found
 
 
-# Rows that the rules of the tables take or refuse, one after the other.
+# Rows that the constraints of the tables accept or reject, one after the other.
 RULED = [
     ("INSERT INTO meta VALUES (2, 1, 0)", False),
     ("UPDATE meta SET serial = -1", False),
     ("UPDATE meta SET format = 7", True),
     ("INSERT INTO entity VALUES (1, 0, 'a', 'm', 3, 2147483647, 0, 'o', 'u')", True),
     ("INSERT INTO entity VALUES (2, 1, 'a', 'm', 4, 1, 1, 'o', 'u')", True),
-    # a kind and an id that stand already, and a number that does
+    # An existing pair of kind and id, and an existing number.
     ("INSERT INTO entity VALUES (3, 0, 'a', 'm', 0, 1, 1, 'o', 'u')", False),
     ("INSERT INTO entity VALUES (1, 0, 'b', 'm', 0, 1, 1, 'o', 'u')", False),
     ("INSERT INTO entity VALUES (3, 2, 'b', 'm', 0, 1, 1, 'o', 'u')", False),
@@ -264,12 +266,12 @@ RULED = [
     ("INSERT INTO availability VALUES ('n', 3, 'v')", False),
     ("INSERT INTO subscription VALUES (4, 'a', 'm', 0, 'v', 0, 'u', 1, 0, -5, -5, 7, 7)", True),
     ("INSERT INTO subscription VALUES (1, 'b', 'm', 1, 'v', 1, 'u', 0, 1, 0, 1, 0, 1)", True),
-    # an id that stands already, and a number that does
+    # An existing id, and an existing number.
     ("INSERT INTO subscription VALUES (6, 'a', 'm', 1, 'v', 1, 'u', 1, 1, 0, 1, 0, 1)", False),
     ("INSERT INTO subscription VALUES (4, 'c', 'm', 1, 'v', 1, 'u', 1, 1, 0, 1, 0, 1)", False),
     ("INSERT INTO subscription VALUES (6, 'c', 'm', -1, 'v', 1, 'u', 1, 1, 0, 1, 0, 1)", False),
     ("INSERT INTO subscription VALUES (6, 'c', 'm', 1, 'v', -1, 'u', 1, 1, 0, 1, 0, 1)", False),
-    # for nothing, and for what is neither 0 nor 1
+    # A subscription for nothing, and values that are neither 0 nor 1.
     ("INSERT INTO subscription VALUES (6, 'c', 'm', 1, 'v', 1, 'u', 0, 0, 0, 1, 0, 1)", False),
     ("INSERT INTO subscription VALUES (6, 'c', 'm', 1, 'v', 1, 'u', 2, 1, 0, 1, 0, 1)", False),
     ("INSERT INTO subscription VALUES (6, 'c', 'm', 1, 'v', 1, 'u', 1, 2, 0, 1, 0, 1)", False),
@@ -282,11 +284,11 @@ RULED = [
     ("INSERT INTO subscription_cell VALUES (6, 0, '1', 5, 6)", False),
     ("INSERT INTO subscription_cell VALUES (4, 1, '1', 6, 5)", False),
     ("INSERT INTO naming VALUES (1, 4)", True),
-    # an entity names one subscription, and both are there
+    # An entity references at most one subscription, and both exist.
     ("INSERT INTO naming VALUES (1, 1)", False),
     ("INSERT INTO naming VALUES (3, 4)", False),
     ("INSERT INTO naming VALUES (2, 6)", False),
-    # what is named stays, and what goes with it
+    # A referenced subscription stays, and so do its rows in other tables.
     ("DELETE FROM subscription WHERE num = 4", False),
     ("UPDATE subscription SET notes = notes + 1 WHERE id = 'a'", True),
     ("UPDATE subscription SET notes = -1 WHERE id = 'a'", False),
@@ -296,25 +298,25 @@ RULED = [
 
 
 def rules_of_tables():
-    """The rules of the tables that the program made, as SQLite keeps them; what is below an entity goes with it, and its
-    naming, and what is below a subscription once no entity names it."""
+    """SQLite enforces the constraints of the tables that the program made. Removing an entity removes its rows in other
+    tables and its reference. Removing a subscription removes its rows once no entity references it."""
     found = []
     with Room() as room:
         room.serve([])
         if room.query("SELECT * FROM meta") != [(1, 2, 0)]:
             found += [f"meta: {room.query('SELECT * FROM meta')}"]
-        # eight tables, six indexes of their keys, and those on the ranges of cells
+        # Eight tables, six indexes of their keys, and those on the ranges of cells.
         if room.query("SELECT count(*) FROM sqlite_schema") != [(16,)]:
             found += [f"{room.query('SELECT name FROM sqlite_schema')}"]
         with tables.opened(room.database) as database:
             database.execute("PRAGMA foreign_keys = ON")
-            for statement, is_taken in RULED:
+            for statement, is_accepted in RULED:
                 try:
                     database.execute(statement)
                     got = True
                 except sqlite3.IntegrityError:
                     got = False
-                found += [f"{statement}: wanted {is_taken}"] if got != is_taken else []
+                found += [f"{statement}: wanted {is_accepted}"] if got != is_accepted else []
 
             def compare(counts):
                 for table, count in counts.items():
@@ -328,7 +330,7 @@ def rules_of_tables():
     return found
 
 
-# the answers to two settings that begin at the last serial but one
+# The responses to two availability changes that begin at the last serial but one.
 LAST = (
     b"HTTP/1.1 200 OK\r\nContent-Type: application/json\r\nContent-Length: 125\r\nConnection: close\r\n\r\n"
     b'{"status":{"availability":"Down","uss":"uss-b"},'
@@ -341,14 +343,14 @@ NONE_LEFT = (
 
 
 def at_serial(room, serial):
-    """The database is made, and its serial is that number."""
+    """Makes the database, and sets its serial to that number."""
     room.serve([])
     with tables.opened(room.database) as database:
         database.execute(f"UPDATE meta SET serial = {serial}")
 
 
-def greatest_serial():
-    """A change is kept under the greatest serial, and after it nothing more."""
+def max_serial():
+    """A change is stored with the maximum serial, and no change after it."""
     found = []
     body = {"old_version": "", "availability": "Down"}
     with Room() as room:
@@ -368,9 +370,9 @@ def greatest_serial():
     return found
 
 
-def greatest_index():
-    """A subscription is told of a change to which the greatest index is given, beside the greatest serial; after it
-    there is no change more, and so no index over it."""
+def max_index():
+    """A change gives a subscription the maximum index, together with the maximum serial. After it no change is
+    possible, and so no index exceeds the maximum."""
     most, found = 2**63 - 1, []
     moved = ask("DELETE", f"{wire.INTENTS}/{NAMING}/{wire.ovn(8)}", "tok-b")
     again = ask("DELETE", f"{wire.INTENTS}/{INTENT}/{wire.ovn(2)}", "tok-a")
@@ -399,8 +401,9 @@ def greatest_index():
     return found
 
 
-def not_taken():
-    """A file that is no database, a folder, a name in no folder, a database that another process holds."""
+def rejected():
+    """These are rejected: a file that is no database, a directory, a name in a missing directory, a database that
+    another process holds."""
     reading = [ask("GET", f"{wire.AVAILABILITY}/uss-b", "tok-a")]
     found = []
     with Room() as room:
@@ -424,7 +427,7 @@ def not_taken():
 
 
 def cut_short():
-    """The size that files may have is reached in the middle: nothing that was acknowledged is lost."""
+    """If a file reaches its maximum size in the middle of a stream, no acknowledged change is lost."""
     found = []
     made = [ask("PUT", f"{wire.AVAILABILITY}/uss-{it}", "tok-v", {"old_version": "", "availability": "Down"}) for it in range(99)]
     for most in (64, 96, 128, 192):
@@ -448,9 +451,9 @@ CASES = {
     "drawn-calls-over-a-database": drawn,
     "database-as-sqlite-reads-it": as_rows,
     "rules-of-the-tables": rules_of_tables,
-    "greatest-serial-in-a-database": greatest_serial,
-    "greatest-index-in-a-database": greatest_index,
+    "max-serial-in-a-database": max_serial,
+    "max-index-in-a-database": max_index,
     "databases-that-sqlite-wrote-anew": written_anew,
-    "databases-that-are-not-taken": not_taken,
+    "databases-that-are-rejected": rejected,
     "database-that-is-cut-short": cut_short,
 }

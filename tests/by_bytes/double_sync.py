@@ -1,4 +1,4 @@
-"""`serve --double-sync`: a change of one client is synced twice that is synced once without, and all is answered and kept as ever."""
+"""`serve --double-sync` syncs each change of one client twice instead of once. Responses and stored rows are the same."""
 import pathlib
 import tempfile
 
@@ -10,20 +10,21 @@ from sockets import difference
 FEW, MANY = 5, 25
 
 
-class Wary(Service):
+class DoubleSync(Service):
     """`dss serve` with the option."""
 
     options = ("--double-sync",)
 
 
 def put(number):
-    """Another availability of a supplier, after so many changes of it."""
+    """Returns the next availability of a USS, after that many changes of it."""
     old = f'"{wire.ovn(number)}"' if number else '""'
     return b'{"old_version":%s,"availability":"%s"}' % (old.encode(), b"Down" if number % 2 else b"Normal")
 
 
 def made(kind, changes, library, counted):
-    """What so many changes, each asked after the answer to the one before, are answered, and with how many syncs."""
+    """Makes that many changes, each after the response to the one before, and returns the responses and the number of
+    syncs."""
     with kind(count=1, more={"LD_PRELOAD": str(library), "SYNCS": str(counted)}) as service:
         came = []
         with service.connect() as connection:
@@ -37,7 +38,7 @@ def made(kind, changes, library, counted):
 
 
 def syncs():
-    """Each change more is one sync more, or two, and the answers are the same."""
+    """Each additional change takes one sync more, or two, and the responses are the same."""
     found = []
     with tempfile.TemporaryDirectory() as room:
         library, counted = pathlib.Path(room, "count_syncs.so"), pathlib.Path(room, "syncs")
@@ -45,7 +46,7 @@ def syncs():
         if built[0]:
             raise OSError(f"cc: {built[2]!r}")
         answers = []
-        for kind, each in (Service, 1), (Wary, 2):
+        for kind, each in (Service, 1), (DoubleSync, 2):
             few, many = made(kind, FEW, library, counted), made(kind, MANY, library, counted)
             found += difference(f"syncs, {kind.__name__}", many[1] - few[1], each * (MANY - FEW))
             answers.append(many[0])
@@ -54,7 +55,7 @@ def syncs():
 
 
 def one_file():
-    """What is kept with the option is found without, and the other way round."""
+    """Changes made with the option are found without it, and the other way round."""
     with Service() as service:
         for number, options in enumerate([(), ("--double-sync",), (), ("--double-sync",)]):
             service.kill()
@@ -66,4 +67,4 @@ def one_file():
     return []
 
 
-CASES = {"wary-syncs-twice": syncs, "wary-or-not-over-one-file": one_file}
+CASES = {"double-sync-syncs-twice": syncs, "double-sync-or-not-over-one-file": one_file}

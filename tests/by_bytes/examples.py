@@ -1,6 +1,6 @@
-"""The files of requests in examples/, each with the answers that stand beside it.
+"""The files of requests in examples/ get the responses that are beside them.
 
-The answers were written from the rules and formats that docs/POLICY.md states, their OVNs by another program's
+The responses were written from the rules and formats that docs/POLICY.md states, their OVNs with another program's
 SHA-256."""
 import json
 import re
@@ -20,14 +20,14 @@ def requests():
 
 
 def answered(file):
-    """How what is written of a file of requests differs from the answers beside it."""
+    """Returns how the output for a file of requests differs from the responses beside it."""
     wanted = (0, file.with_suffix(".answers").read_bytes(), b"")
     got = run(COMMAND, file.read_bytes())
     return [f"\n    wanted {wanted!r}\n    got    {got!r}"] if got != wanted else []
 
 
 def in_pairs():
-    """No answers stand without requests, and no file of requests leaves its connection open."""
+    """No file of responses lacks its requests, and no file of requests leaves its connection open."""
     alone = {it.stem for it in FOLDER.glob("*.answers")} - {it.stem for it in requests()}
     found = [f"{it}.answers has no requests" for it in sorted(alone)]
     for file in requests():
@@ -37,7 +37,7 @@ def in_pairs():
 
 
 def bodies_for_clients():
-    """Of the two bodies in docs/CLIENTS.md, that of a usual supplier is refused, and what stands for it is taken."""
+    """Of the two bodies in docs/CLIENTS.md, that of a usual USS is denied, and its replacement is accepted."""
     bodies = re.findall(r"```json\n(.*?)```", (TOP / "docs" / "CLIENTS.md").read_text(), re.DOTALL)
     target = f"{wire.INTENTS}/00000000-0000-4000-8000-0000000000a1"
     given = b"".join(wire.request("PUT", target, "Bearer tok-a", it.encode()) for it in bodies)
@@ -48,7 +48,8 @@ def bodies_for_clients():
 
 
 def meeting_over_sockets():
-    """Two suppliers meet over the service that the script starts: each of its seven steps is answered as it says."""
+    """Two USSs conflict over the service that the script starts: each of its seven steps gets the response that it
+    announces."""
     status, output, error = run([str(FOLDER / "meeting"), f"{free_port()}"])
     steps = [line[0] for line in output.decode().splitlines() if line[:2] in {f"{it}." for it in range(1, 8)}]
     is_right = status == 0 and steps == list("1234567") and output.count(b"P14 KEY") == 2
@@ -56,12 +57,13 @@ def meeting_over_sockets():
 
 
 def meeting_of_the_readme():
-    """The lines of the README are answered as they say: 201, 409 for the key, 201, and both flights with one OVN alone."""
+    """The commands of the README get the announced responses: 201, 409 for the key, 201, and both flights with only one
+    OVN."""
     lines = re.search(r"```bash\n(.*?)```", (TOP / "README.md").read_text(), re.DOTALL)[1]
     with tempfile.TemporaryDirectory() as room:
         port = free_port()
         lines = lines.replace("8080", f"{port}").replace("/tmp/dss-meeting", f"{room}/meeting")
-        # on a machine that is busy a start takes longer than a reader's
+        # On a busy machine a start takes longer than on a reader's.
         lines = lines.replace("sleep 1", f"until curl -s 127.0.0.1:{port} >/dev/null; do sleep 0.1; done")
         status, output, error = run(["bash", "-c", lines])
     said = output.decode()
@@ -72,7 +74,7 @@ def meeting_of_the_readme():
 
 
 def client():
-    """The client declares four flights in one cell, in turn for two suppliers, and sees its own OVNs alone."""
+    """The example client declares four flights in one cell, alternately for two USSs, and sees only its own OVNs."""
     with Service() as service:
         status, output, error = run([str(FOLDER / "client.py"), f"{service.port}"])
     lines = output.decode().splitlines()

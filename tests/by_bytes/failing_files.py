@@ -1,5 +1,7 @@
-"""A database whose calls on files fail, each in turn: each answer is the plain policy's, or a fault that changed nothing,
-or the service has stopped, then and from then on, as it does in each of the changes. What was acknowledged is found again."""
+"""Each call on a database's files fails in turn.
+
+Each response is the plain policy's, or a fault that changed nothing, or says that the service has stopped. A stopped
+service answers every later call the same way. Acknowledged changes are found again."""
 import collections
 import pathlib
 
@@ -15,7 +17,7 @@ NOT_CLOSED = b"dss: db: fault\n"
 
 
 def is_right(calls, got):
-    """Whether a run's status, output and error are among those that may be, and what the run came to."""
+    """Returns whether a run's status, output and error are permitted, and how the run ended."""
     status, output, error = got
     found = wire.answers_of(output)
     fault, stopped = wire.answer(*FAULT), wire.answer(*STOPPED)
@@ -31,7 +33,7 @@ def is_right(calls, got):
 
 
 class Failing(Room):
-    """A room in which calls on files fail, by what the environment says."""
+    """A room in which calls on files fail, according to the environment."""
 
     def __enter__(self):
         super().__enter__()
@@ -42,7 +44,7 @@ class Failing(Room):
         return run(words, given, more={"LD_PRELOAD": self.library, **more})
 
     def ways(self, words, given, again):
-        """Each call on files failed alone, and with all after it, over a database that was made anew for each."""
+        """Fails each call on files alone, and with all after it, over a newly made database for each."""
         again()
         self.run(words, given, {"FAIL_CALLS": self.counted})
         self.count = int(pathlib.Path(self.counted).read_text())
@@ -53,7 +55,7 @@ class Failing(Room):
 
 
 def each_call(name, calls):
-    """What is wrong with a stream of calls of which each call on files fails in turn."""
+    """Returns what is wrong with a stream of calls if each call on files fails in turn."""
     given = b"".join(wire.request(*it) for it in calls)
     found, ends = [], collections.Counter()
     with Failing() as room:
@@ -67,14 +69,14 @@ def each_call(name, calls):
             found += [f"{name}, {more}: {got!r}"] if not right else []
             found += [f"{name}, {more}: {it}" for it in wrong]
     print(f"{name}: of {room.count} calls on files each failed alone, and with all after it: {dict(sorted(ends.items()))}")
-    # readings and denials of what was just written need no call on a file
+    # Reads, and denials that concern what was just written, need no call on a file.
     stops = {f"stopped at {at + 1}" for at in changes(calls, answers(calls))}
     return found + [f"{name}: never {it}" for it in sorted(stops - set(ends))]
 
 
 def each_call_of_a_move():
-    """The move of a database of format 1 while each call on files fails in turn: it is made, or the database is not opened
-    and stays as it was, and the next start makes it."""
+    """Each call on files fails in turn while a database of format 1 is upgraded. It is upgraded, or it is not opened
+    and stays as it was, and the next start upgrades it."""
     found, ends = [], collections.Counter()
     with Failing() as room:
 
@@ -90,11 +92,11 @@ def each_call_of_a_move():
             after = room.command("upgrade")
             told = {MOVED: "done", (1, b"", STORE): "not opened", (1, b"", NOT_CLOSED): "not closed"}.get(got)
             ends[told] += 1
-            # what was not opened may have been moved, where the disk did not tell
+            # A database that was not opened may have been upgraded, if the disk did not report it.
             is_right = told and (after == HELD or after == MOVED and told == "not opened")
             found += [] if is_right else [f"{more}: {got!r}, then {after!r}"]
             found += moved_wrong(f"{more}", before, room.database) + [f"{more}: {it}" for it in tables.wrong_in(room.database)]
-    print(f"a move: of {room.count} calls on files each failed alone, and with all after it: {dict(sorted(ends.items()))}")
+    print(f"an upgrade: of {room.count} calls on files each failed alone, and with all after it: {dict(sorted(ends.items()))}")
     return found + [f"never {it}" for it in ("done", "not opened") if not ends[it]]
 
 

@@ -1,5 +1,7 @@
-"""What `serve` counts, beside what its clients saw: requests by operation, status and rule, how long they took, and whether the database keeps
-what it is given, on the operator's port and on standard error."""
+"""Compares the metrics of `serve` with what its clients saw.
+
+These are requests by operation, status and rule, their durations, and whether the database stores changes. They are
+on the admin port and on standard error."""
 import collections
 import errno
 import re
@@ -11,7 +13,7 @@ import drawn_calls
 import wire
 from devices import SIZES, WRITES, Page, library
 from openapi import DOCUMENT, METHODS
-from operators import FAILING, HEALTH, METRICS, PUT, SERVING, Operated, said
+from admin_port import FAILING, HEALTH, METRICS, PUT, SERVING, AdminService, said
 from served_calls import Asked
 from sockets import ASKED, difference
 from verbose import Verbose, limits
@@ -20,12 +22,12 @@ from without_memory import FAULT
 FAILS = b"dss: store: commit failed; changes are answered with 500 until a commit succeeds\n"
 WORKS = "dss: store: commits succeed again after {} failures\n"
 STILL = "dss: store: commits still fail: {} more failures\n"
-# the bounds of a duration, as they are written
+# The upper bounds of a duration's buckets, as they are written.
 BOUNDS = ("0.0005", "0.001", "0.0025", "0.005", "0.01", "0.025", "0.05", "0.1", "0.25", "0.5", "1", "2.5", "+Inf")
 RULES = [f"H{it}" for it in range(1, 6)] + [f"P{it}" for it in range(1, 18)]
-# connections of a hundred drawn calls each, whose times lie far ahead, and the rules that none of them breaks
+# Connections of a hundred drawn calls each, whose times are far ahead, and the rules that none of them breaks.
 SEED, CONNECTIONS, UNBROKEN = 5, 12, {"P13", "P15"}
-# of each rule of the wire a connection that breaks it
+# For each protocol rule a connection that breaks it.
 BROKEN = {
     "H1": b"no request\r\n\r\n",
     "H2": b"GET / HTTP/1.1\r\n" + b"A: a\r\n" * 65 + b"\r\n",
@@ -36,7 +38,7 @@ BROKEN = {
 MINUTE = 60
 
 
-# ---- what was asked
+# ---- requests
 
 
 def snake(word):
@@ -44,7 +46,7 @@ def snake(word):
 
 
 def operations():
-    """Of each path and method of the document the name of its operation."""
+    """Returns the operation name of each path and method in the OpenAPI document."""
     paths = yaml.safe_load(DOCUMENT.read_text())["paths"]
     return [
         (method.upper(), re.compile(re.sub(r"\{\w+\}", "(?!query$)[^/]+", path)), snake(what["operationId"]))
@@ -53,13 +55,13 @@ def operations():
 
 
 def asked_by(call, known=tuple(operations())):
-    """The name of the operation that a call asks for."""
+    """Returns the name of the operation that a call requests."""
     method, target, *_ = call
     return next((name for its_method, path, name in known if method == its_method and path.fullmatch(target)), "none")
 
 
 class Seen:
-    """What clients saw, counted: answers by operation and status, by rule, and their bytes."""
+    """Counts what clients saw: responses by operation and status, by rule, and their bytes."""
 
     def __init__(self):
         self.answered, self.denied, self.size = collections.Counter(), collections.Counter(), 0
@@ -70,7 +72,7 @@ class Seen:
         self.size += len(answer)
 
     def differs(self, counted):
-        """How what is counted is otherwise."""
+        """Returns how the metrics differ."""
         requests = {f'dss_requests_total{{operation="{name}",status="{status}"}}': f"{it}" for (name, status), it in self.answered.items()}
         rules = {f'dss_requests_denied_total{{rule="{it}"}}': f"{self.denied[it]}" for it in RULES}
         found = difference("bytes", counted["dss_response_bytes_total"], f"{self.size}")
@@ -79,7 +81,8 @@ class Seen:
         return found + self.took(counted)
 
     def took(self, counted):
-        """What is wrong with the durations of each operation: as many as were answered, rising to all of them, and a sum within the bounds."""
+        """Returns what is wrong with the durations of each operation: their number is that of the responses, the
+        buckets rise to it, and the sum is within the bounds."""
         found, of_each = [], collections.Counter()
         for (name, _), count in self.answered.items():
             of_each[name] += count
@@ -99,12 +102,12 @@ class Seen:
 
 
 def drawn():
-    """Drawn calls and requests that break rules of the wire are counted as they were answered; every rule but P13 and P15 is broken. Nothing is
-    counted of what is asked on the operator's port."""
+    """The metrics count drawn calls and requests that break protocol rules as they were answered. Every rule but P13
+    and P15 is broken. Requests to the admin port are not counted."""
     asked, seen = Asked(SEED), Seen()
-    with Operated(drawn_calls.ALL_TOKENS) as started:
+    with AdminService(drawn_calls.ALL_TOKENS) as started:
         for _ in range(CONNECTIONS):
-            calls = asked.calls(wire.MOST_REQUESTS)
+            calls = asked.calls(wire.MAX_REQUESTS)
             answers = started.ask([wire.request(*it) for it in calls])
             for call, answer in zip(calls, answers, strict=True):
                 seen.see(asked_by(call), answer)
@@ -117,10 +120,10 @@ def drawn():
     return found + difference("rules that none broke", unbroken, UNBROKEN)
 
 
-# ---- the database does not keep what it is given
+# ---- the database fails to store changes
 
 
-class Full(Operated):
+class Full(AdminService):
     """The same over a disk that a test fills and empties while it runs."""
 
     def __init__(self):
@@ -135,16 +138,16 @@ class Full(Operated):
         self.page.set()
 
     def told(self):
-        """What was told on standard error since it listened."""
+        """Returns the lines on standard error since it listened."""
         return (self.folder / "errors").read_bytes().removeprefix(self.listening)
 
     def change(self):
-        """The answer to a change of an availability, of which the first version is known."""
+        """Returns the response to a change of an availability whose first version is known."""
         return self.exchange(PUT.replace(b"\r\n\r\n", b"\r\nConnection: close\r\n\r\n"), ends=False)
 
 
 class FullAndVerbose(Full):
-    """The same, which tells more."""
+    """The same with --verbose."""
 
     options = ("--verbose",)
     preface = Verbose.preface.replace(limits("1 connections").encode(), limits("1000000 connections").encode())
@@ -154,13 +157,13 @@ FAULTED = wire.answer(*FAULT, closes=True)
 
 
 def states(started):
-    """Its health, and how many faults of the database are counted."""
+    """Returns its health, and the number of faults of the database."""
     return started.asked(HEALTH), started.counted()["dss_store_failures_total"]
 
 
 def full_disk():
-    """While the disk is full, changes are faults, the service is failing, and readings are answered; once one is kept again, it is
-    serving. On standard error stand its lines with --verbose, and none without."""
+    """While the disk is full, changes get faults, the service is failing, and reads get responses. Once a change is
+    stored, it is serving. Standard error has its lines with --verbose, and none without."""
     found = []
     for kind, lines in (Full, b""), (FullAndVerbose, FAILS + WORKS.format(3).encode()):
         with kind() as started:
@@ -181,7 +184,7 @@ def full_disk():
 
 
 def still_failing():
-    """A disk that stays full is told of once a minute."""
+    """A disk that stays full is reported once a minute."""
     with FullAndVerbose() as started:
         started.fill()
         found = difference("changes", {started.change() for _ in range(5)}, {FAULTED})
@@ -192,7 +195,7 @@ def still_failing():
 
 
 CASES = {
-    "figures-of-drawn-calls": drawn,
-    "figures-of-a-full-disk": full_disk,
-    "figures-of-a-disk-that-stays-full": still_failing,
+    "metrics-of-drawn-calls": drawn,
+    "metrics-of-a-full-disk": full_disk,
+    "metrics-of-a-disk-that-stays-full": still_failing,
 }

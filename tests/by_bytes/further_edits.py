@@ -1,17 +1,19 @@
-"""The further edits, of tests/edits, can be applied: `./check edits` tries them before a release, and that is late to
-learn that a text which one of them replaces is gone."""
+"""The mutants in tests/edits can be applied.
+
+`./check edits` tries them only before a release, which is late to learn that a text which one of them replaces is
+gone."""
 from program import TOP
 
 EDITS = sorted(TOP.glob("tests/edits/*/*.edit"))
 
 
 class BadEdit(Exception):
-    """Why an edit shows nothing."""
+    """Why a mutant shows nothing."""
 
 
 def edited(edit, folder):
-    """The texts of the files that an edit changes, by their paths in a crate's folder. The texts that it replaces stand in
-    their file once, each after those before it were replaced."""
+    """Returns the texts of the files that a mutant changes, by their paths in a crate's directory. Each replaced text
+    occurs once in its file, after the replacements before it."""
     path = old = None
     texts = {}
     for line in edit.read_text().splitlines():
@@ -20,12 +22,12 @@ def edited(edit, folder):
         if word == "file":
             path = text
             if not (folder / path).is_file():
-                raise BadEdit(f"there is no file {path}")
+                raise BadEdit(f"file {path} does not exist")
             texts.setdefault(path, (folder / path).read_text())
         elif word == "old":
             old = text
             if path is None or texts[path].count(old) != 1:
-                raise BadEdit(f"{old!r} is not there once")
+                raise BadEdit(f"{old!r} does not occur exactly once")
         elif word == "new" and old is not None:
             texts[path], old = texts[path].replace(old, text), None
     if all(text == (folder / path).read_text() for path, text in texts.items()):
@@ -34,7 +36,7 @@ def edited(edit, folder):
 
 
 def fault_of(edit):
-    """Why an edit cannot be applied, or None."""
+    """Returns why a mutant cannot be applied, or None."""
     try:
         edited(edit, TOP / "crates" / edit.parent.name)
     except BadEdit as fault:
@@ -43,7 +45,7 @@ def fault_of(edit):
 
 
 def applied():
-    """Which edits cannot be applied, and why."""
+    """Each mutant in tests/edits can be applied."""
     found = [(it, fault_of(it)) for it in EDITS]
     return [f"{it.relative_to(TOP)}: {why}" for it, why in found if why]
 

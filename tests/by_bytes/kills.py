@@ -1,5 +1,6 @@
-"""A program that is killed in the middle of its changes: what it acknowledged is in the database, and of the change
-that it was at all or nothing."""
+"""Kills the program in the middle of its changes.
+
+Acknowledged changes are in the database. The change in progress is there as a whole or not at all."""
 import contextlib
 import pathlib
 import shutil
@@ -17,12 +18,12 @@ from serving import Service
 ROUNDS = lengths.of(60, 200)
 CALLS = 60
 SEED = 11
-# the service has the clock of the machine, so all times that are drawn lie around a moment far ahead of it
+# The service uses the machine's clock, so all drawn times are around a time far ahead of it.
 AHEAD = 4_000_000_000
 
 
 class Asked:
-    """Drawn calls with what the plain policy answers, and the serial before each and after the last."""
+    """Drawn calls with the plain policy's responses, and the serial before each and after the last."""
 
     def __init__(self, seed):
         self.draw = drawn_calls.Draw(seed)
@@ -37,7 +38,7 @@ class Asked:
 
 
 def killed(service, requests, seen, wait):
-    """The answers of a service that is killed a while after so many bytes of them have come."""
+    """Returns the responses of a service that is killed a while after that many bytes of them arrived."""
     output = b""
     with service.connect() as connection:
 
@@ -52,15 +53,15 @@ def killed(service, requests, seen, wait):
         time.sleep(wait)
         service.kill()
         sender.join()
-        # what came before the connection was reset counts
+        # Bytes that arrived before the reset count.
         with contextlib.suppress(ConnectionResetError):
-            while piece := connection.recv(1 << 16):
-                output += piece
+            while chunk := connection.recv(1 << 16):
+                output += chunk
     return wire.answers_of(output)
 
 
 def serial_in(folder):
-    """What SQLite finds wrong with a copy of a database, and the serial in it."""
+    """Returns what SQLite finds wrong with a copy of a database, and its serial."""
     copied = pathlib.Path(folder, "copied")
     shutil.copytree(folder, copied, ignore=shutil.ignore_patterns("copied"))
     with sqlite3.connect(copied / "dss.db") as database:
@@ -72,7 +73,7 @@ def serial_in(folder):
 
 
 def one(seed):
-    """What is wrong after one kill, and how many calls were answered before it."""
+    """Returns what is wrong after one kill, and how many calls were answered before it."""
     asked = Asked(seed)
     with Service(drawn_calls.ALL_TOKENS) as service:
         seen, wait = asked.draw.below(sum(map(len, asked.answers))), asked.draw.below(40) / 10_000
@@ -82,7 +83,7 @@ def one(seed):
         if why:
             return [f"seed {seed}, before the kill: {why}"], count
         wrong, serial = serial_in(service.folder)
-        # more calls may have been done, whose answers did not come
+        # More calls may have been executed whose responses did not arrive.
         done = [it for it in range(count, CALLS + 1) if asked.serials[it] == serial]
         if wrong or not done:
             return [f"seed {seed}: {count} answers, serial {serial}, {wrong}"], count
@@ -100,7 +101,7 @@ def rounds(many=ROUNDS, seed=SEED):
         found += wrong
         counts.append(count)
     between = sum(0 < it < CALLS for it in counts)
-    print(f"{many} kills, {between} of them between the first answer and the last")
+    print(f"{many} kills, {between} of them between the first response and the last")
     return found + ([f"only {between} kills in {many} fell among the calls"] if 2 * between < many else [])
 
 

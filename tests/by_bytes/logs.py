@@ -1,5 +1,6 @@
-"""`serve --access-log`: a line for each request, to the letter, with nothing of tokens, OVNs and bodies; a file that is moved away, one that cannot
-be written to, and one that cannot be opened."""
+"""`serve --access-log` writes an exact line for each request, without tokens, OVNs and bodies.
+
+Cases cover a file that is moved away, one that cannot be written, and one that cannot be opened."""
 import datetime
 import re
 import time
@@ -7,25 +8,25 @@ import time
 import drawn_calls
 import wire
 from figures import BROKEN, asked_by
-from operators import Operated
+from admin_port import AdminService
 from program import SECONDS, run
 from served_calls import Asked
 from serving import Service
 from sockets import ASKED, difference
 
-# connections of a hundred drawn calls each
+# Connections of a hundred drawn calls each.
 SEED, CONNECTIONS = 17, 6
 KEYS = ("time", "connection", "supplier", "operation", "entity", "status", "rule", "microseconds", "bytes")
 LINE = re.compile(" ".join(rf"{it}=(\S+)" for it in KEYS))
 MOMENT = re.compile(r"\d{4}-\d\d-\d\dT\d\d:\d\d:\d\d\.\d{3}Z")
 UUID = re.compile(r"[0-9A-Fa-f]{8}(?:-[0-9A-Fa-f]{4}){3}-[0-9A-Fa-f]{12}")
-# bytes of a file that a process may write, and what is left of them for the first line
+# The bytes that a process may write to a file, and the rest of them that is left for the first line.
 MOST, LEFT = 4_194_304, 50
 LOST = "dss_log_lines_dropped_total"
 
 
-class Logged(Operated):
-    """`dss serve` with a log in the folder of its database, and an operator's port."""
+class Logged(AdminService):
+    """`dss serve` with a log in the directory of its database, and an admin port."""
 
     name = "log"
 
@@ -42,7 +43,7 @@ def lines_of(file):
 
 
 def until_lines(file, count):
-    """The lines of a file, once there are so many."""
+    """Waits until a file has that many lines, and returns them."""
     until = time.monotonic() + SECONDS
     while (not file.exists() or file.read_bytes().count(b"\n") < count) and time.monotonic() < until:
         time.sleep(0.005)
@@ -50,14 +51,14 @@ def until_lines(file, count):
 
 
 def supplier_of(call, suppliers):
-    """The supplier of a call's token, if it is one of the file's."""
+    """Returns the USS of a call's token, if the file has that token."""
     _, _, authorization, *_ = call
     found = re.fullmatch(r"[Bb][Ee][Aa][Rr][Ee][Rr] +(\S+)", authorization or "")
     return suppliers.get(found and found.group(1), "-")
 
 
 def wanted(call, answer, suppliers):
-    """What is wanted of a line: supplier, operation, status, rule and bytes."""
+    """Returns the expected fields of a line: USS, operation, status, rule and bytes."""
     denied = re.search(r'"message":"([HP]\d+) ', answer.decode())
     rule = denied.group(1) if denied else "-"
     operation = "none" if rule in ("P1", "P2") else asked_by(call)
@@ -65,7 +66,8 @@ def wanted(call, answer, suppliers):
 
 
 def entity_is_right(call, entity, rule):
-    """Whether that is what is told of the entity: the id of the path, or none where path and body have not the form of one that names it."""
+    """Returns whether the logged entity is right: the path's id, or none if path or body do not parse as a form that
+    names one."""
     method, target, *_ = call
     if entity == "-":
         ids = "query" in target or "availability" in target or asked_by(call) == "none"
@@ -74,14 +76,14 @@ def entity_is_right(call, entity, rule):
 
 
 def drawn():
-    """Drawn calls over several connections and requests that break rules of the wire have each its line, in order; nothing of a token, an OVN
-    or a body is in it, and the moments rise and are those of the calls."""
+    """Drawn calls over several connections and requests that break protocol rules each have their line, in order. No
+    line contains a token, an OVN or a body. The times rise and are those of the calls."""
     asked, found = Asked(SEED), []
     with Logged(drawn_calls.ALL_TOKENS) as started:
         suppliers = {token: uss for token, (uss, _) in drawn_calls.ALL_TOKENS.items()}
         began, secrets, calls_of = time.time(), set(suppliers), []
         for connection in range(1, CONNECTIONS + 1):
-            calls = asked.calls(wire.MOST_REQUESTS)
+            calls = asked.calls(wire.MAX_REQUESTS)
             answers = started.ask([wire.request(*it) for it in calls])
             calls_of += [(connection, *it) for it in zip(calls, answers, strict=True)]
         for sent in BROKEN.values():
@@ -107,7 +109,7 @@ def drawn():
         parts = LINE.fullmatch(line)
         got = parts and parts.groups()[1:5] + parts.groups()[6:7]
         found += difference(rule, got, (f"{number}", "-", "none", "-", rule))
-    found += [] if all(MOMENT.fullmatch(it) for it in moments) and moments == sorted(moments) else ["the moments do not rise"]
+    found += [] if all(MOMENT.fullmatch(it) for it in moments) and moments == sorted(moments) else ["the times do not rise"]
     for it in moments[:1] + moments[-1:]:
         second = datetime.datetime.fromisoformat(it.replace("Z", "+00:00")).timestamp()
         found += [] if began - 1 <= second <= ended + 1 else [f"{it} is no time of the calls"]
@@ -121,7 +123,7 @@ class ToStandardError(Service):
 
 
 def by_letter():
-    """The line of one call, and of one without a route, on standard error; there is none without the option."""
+    """The exact lines of one call, and of one without a route, are on standard error. Without the option there is none."""
     with ToStandardError(count=2) as started:
         first = started.exchange(ASKED)
         second = started.exchange(wire.request("GET", "/nothing"))
@@ -138,7 +140,7 @@ def by_letter():
 
 
 def moved_away():
-    """A log that was moved away is made anew within a second, and no line is lost; one that is there is gone on with."""
+    """A log that was moved away is created again within a second, and no line is lost. An existing one is appended to."""
     found = []
     with Logged() as started:
         started.ask([ASKED] * 3)
@@ -164,15 +166,15 @@ def moved_away():
 
 
 class Limited(Logged):
-    """The same, where no file may have more than so many bytes."""
+    """The same with a limit on the size of files."""
 
     def command(self):
         return ["prlimit", f"--fsize={MOST}", "env", "--ignore-signal=XFSZ", *super().command()]
 
 
 def full():
-    """A file that takes only the beginning of a line, and then nothing, delays no request; what was lost is counted, and no half line is left
-    before a whole one."""
+    """A file that takes only the beginning of a line, and then nothing, delays no request. Lost lines are counted, and
+    no partial line is left before a whole one."""
     found = []
     with Limited() as started:
         with started.log.open("r+b") as file:
@@ -197,13 +199,13 @@ def full():
 
 
 class NoSpace(Logged):
-    """The same, with a log on a device that is full."""
+    """The same, with a log on a full device."""
 
     name = "/dev/full"
 
 
 def no_space():
-    """A log on a device without space takes no line, and each request is answered."""
+    """A log on a device without space takes no line, and each request gets its response."""
     with NoSpace() as started:
         answers = started.ask([ASKED] * 10)
         found = difference("answers", [it[:12] for it in answers], [b"HTTP/1.1 200"] * 10)
@@ -211,7 +213,7 @@ def no_space():
 
 
 def not_opened():
-    """A log that cannot be opened is one line and status 1, before anything is made."""
+    """A log that cannot be opened gives one line and status 1, before any file is made."""
     with Service() as started:
         started.kill()
         (started.folder / "dss.db").unlink(missing_ok=True)

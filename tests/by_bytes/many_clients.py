@@ -1,5 +1,6 @@
-"""Many clients of `serve` at once: each gets the answers to its own requests, in whatever pieces its bytes come and whatever the
-others do."""
+"""Many clients of `serve` at once each get the responses to their own requests.
+
+Neither the chunks in which their bytes arrive nor the other clients change that."""
 import copy
 import os
 import random
@@ -22,54 +23,54 @@ FAULTS = {b"dss: stream: fault 1 Read", b"dss: stream: fault 2 Write", b""}
 
 
 def raised_limit():
-    """Lets this program, and those that it starts, have as many descriptors as the system allows."""
+    """Gives this program, and those that it starts, as many descriptors as the system allows."""
     soft, hard = resource.getrlimit(resource.RLIMIT_NOFILE)
     resource.setrlimit(resource.RLIMIT_NOFILE, (hard, hard))
     return hard
 
 
 def reset(connection):
-    """Closes a connection so that the other side is told that it was reset."""
+    """Closes a connection with a reset."""
     connection.setsockopt(socket.SOL_SOCKET, socket.SO_LINGER, struct.pack("ii", 1, 0))
     connection.close()
 
 
 def answers_from(connection, count):
-    """So many answers of a connection that stays open."""
+    """Returns that many responses of a connection that stays open."""
     came = b""
-    while len(wire.answers_of(came)) < count and (piece := connection.recv(1 << 16)):
-        came += piece
+    while len(wire.answers_of(came)) < count and (chunk := connection.recv(1 << 16)):
+        came += chunk
     return came
 
 
-def in_pieces(draw, stream):
-    """The stream, cut at drawn places."""
+def in_chunks(draw, stream):
+    """Cuts the stream at drawn positions."""
     most = min(len(stream) - 1, draw.choice((1, 5, 40)))
     cuts = sorted(draw.sample(range(1, len(stream)), most)) if len(stream) > 1 else []
     return [stream[at:to] for at, to in zip([0, *cuts], [*cuts, len(stream)])]
 
 
 def cut_among_others():
-    """All rules of the wire, on as many connections at once, in pieces that come in a drawn order among those of the others: each
-    connection gets what its bytes alone would."""
+    """Connections that break all protocol rules run at once, in chunks whose order among those of the others is drawn.
+    Each connection gets the responses to its own bytes."""
     draw, found = random.Random(SEED), []
     table = [*HEADS, ("a hundred", ASKED * 99 + CLOSING, ANSWER * 99 + LAST), ("a hundred and one", ASKED * 101, ANSWER * 99 + LAST)]
     with Service() as started:
         for turn in range(6):
-            open_ones = [(name, started.connect(), in_pieces(draw, stream), wanted) for name, stream, wanted in table]
-            left = [(connection, pieces) for _, connection, pieces, _ in open_ones]
+            open_ones = [(name, started.connect(), in_chunks(draw, stream), wanted) for name, stream, wanted in table]
+            left = [(connection, chunks) for _, connection, chunks, _ in open_ones]
             while left:
                 at = draw.randrange(len(left))
-                connection, pieces = left[at]
+                connection, chunks = left[at]
                 try:
-                    if pieces:
-                        connection.sendall(pieces.pop(0))
-                    if not pieces:
+                    if chunks:
+                        connection.sendall(chunks.pop(0))
+                    if not chunks:
                         connection.shutdown(socket.SHUT_WR)
                 except OSError:
-                    # the service has answered, and closed
-                    pieces.clear()
-                if not pieces:
+                    # The service has answered, and closed the connection.
+                    chunks.clear()
+                if not chunks:
                     left.pop(at)
             for name, connection, _, wanted in open_ones:
                 with connection:
@@ -79,7 +80,8 @@ def cut_among_others():
 
 
 def reset_anywhere():
-    """Connections that are reset in each place of a request, and of answers, take no place and no answer from others."""
+    """Connections that are reset at each position of a request, and of a response, take no slot and no response from
+    others."""
     with Service() as started:
         for _ in range(6):
             for at in range(0, len(ASKED) + 1):
@@ -90,8 +92,8 @@ def reset_anywhere():
         for at in range(0, len(whole), len(whole) // 120):
             connection = started.connect()
             connection.sendall(ASKED * 50)
-            while at > 0 and (piece := connection.recv(at)):
-                at -= len(piece)
+            while at > 0 and (chunk := connection.recv(at)):
+                at -= len(chunk)
             reset(connection)
         found = difference("the next", started.exchange(CLOSING, ends=False), LAST)
         lines = set((started.folder / "errors").read_bytes().removeprefix(started.listening).split(b"\n"))
@@ -99,7 +101,8 @@ def reset_anywhere():
 
 
 def dropped():
-    """What a client asked that was reset before its turn is not done, whether it was served before or has just come."""
+    """The request of a client that was reset before its turn has no effect, whether the client was served before or is
+    new."""
     body = b'{"old_version":"","availability":"Down"}'
     setting = wire.request("PUT", f"{wire.AVAILABILITY}/uss-b", "Bearer tok-v", body)
     with Service() as started:
@@ -109,9 +112,9 @@ def dropped():
             if is_known:
                 connection.sendall(ASKED)
                 found += difference("known", answers_from(connection, 1), ANSWER)
-            # once another has its answer, the service has done what it was asked here, and waits
+            # Once another client has its response, the service has executed the requests so far, and waits.
             found += difference("another", started.exchange(CLOSING, ends=False), LAST)
-            # what is sent and reset while it stands still, it learns at once
+            # While it is stopped, clients send and reset. It learns of both at once.
             started.program.send_signal(signal.SIGSTOP)
             os.waitid(os.P_PID, started.program.pid, os.WSTOPPED | os.WNOWAIT)
             connection.sendall(setting)
@@ -123,7 +126,7 @@ def dropped():
 
 
 def two_thousand():
-    """Two thousand connections at once: a thousand are served, the others wait, and all are answered."""
+    """Two thousand connections at once: a thousand are served, the others wait, and all get responses."""
     if raised_limit() < 4_500:
         return []
     with Service() as started:
@@ -139,14 +142,14 @@ def two_thousand():
 
 
 class Narrow(Service):
-    """A service that may have 64 descriptors."""
+    """A service with at most 64 descriptors."""
 
     def command(self):
         return ["prlimit", "--nofile=64", *super().command()]
 
 
 def few_descriptors():
-    """Where the system has no descriptor for one more connection, those that are open are served, and it is tried again."""
+    """If the system has no descriptor for another connection, the open ones are served, and the service tries again."""
     with Narrow() as started:
         all_ = [started.connect() for _ in range(100)]
         for connection in all_:
@@ -170,19 +173,19 @@ def few_descriptors():
 
 
 def settings(supplier, versions):
-    """Settings of a supplier's availability, each with the version before it."""
+    """Returns changes of a USS's availability, each with the version before it."""
     for at, version in enumerate(versions):
         body = wire.compact({"old_version": version, "availability": ("Down", "Normal")[at % 2]}).encode()
         yield wire.request("PUT", f"{wire.AVAILABILITY}/{supplier}", "Bearer tok-v", body)
 
 
 def pipelined_beside_one():
-    """A client that sends its next requests all at once has one turn as often as another has: of two, the one with a single
-    request does not wait for all of the other's."""
+    """A client that sends all its requests at once gets as many turns as another one. Of two clients, the one with a
+    single request does not wait for all requests of the other."""
     with Service() as started:
         found = []
         with started.connect() as many, started.connect() as one:
-            # both are known to the service
+            # The service knows both.
             for connection in many, one:
                 connection.sendall(ASKED)
                 found += difference("first", answers_from(connection, 1), ANSWER)
@@ -192,13 +195,13 @@ def pipelined_beside_one():
             serial = next((at for at in range(1, 100) if wire.ovn(at).encode() in answer), 0)
             found += [] if 1 <= serial <= 60 else [f"the single request came after {serial - 1} others: {answer!r}"]
             statuses = [it[:12] for it in wire.answers_of(answers_from(many, 98))]
-            # the versions of the many fit until the one's setting took a serial of theirs
+            # The versions of the first client matched until the other's change took one of their serials.
             found += difference("all are answered", len(statuses), 98)
         return found
 
 
 def half_closed():
-    """A client that sends no more gets all that it asked for."""
+    """A client that has closed its sending side gets all its responses."""
     with Service() as started:
         found = difference("ninety-nine", started.exchange(ASKED * 99), ANSWER * 99)
         found += difference("part of a request after them", started.exchange(ASKED * 5 + ASKED[:20]), ANSWER * 5)
@@ -206,7 +209,7 @@ def half_closed():
 
 
 def ends_with_the_last():
-    """`--count` counts connections that were accepted: the program goes on until the last of them is closed."""
+    """`--count` counts accepted connections: the program continues until the last of them is closed."""
     with Service(count=3) as started:
         with started.connect() as first, started.connect() as second:
             for connection in first, second:
@@ -241,8 +244,8 @@ def one_at_a_time():
 
 
 def large_bodies():
-    """Two hundred clients that each send most of a megabyte make the service hold some of them: who waits for a place gets its
-    turn, each is answered, and the memory stays within its bound."""
+    """Two hundred clients each send almost a megabyte, and the service delays some of them. Each client gets its turn
+    and its response, and the memory stays within its bound."""
     body = b'{"old_version":"none","availability":"Down","x":"' + b"x" * 1_000_000 + b'"}'
     sent = wire.request("PUT", f"{wire.AVAILABILITY}/uss-b", "Bearer tok-v", body, ["Connection: close"])
     with Service() as started:
@@ -283,15 +286,15 @@ def large_bodies():
         return found + difference("statuses", {it[:12] for it in answered}, wanted)
 
 
-class Round:
-    """Calls that were made at once, and what was answered: whether some order of them explains all answers."""
+class Batch:
+    """Calls that were made at once, and their responses: tells whether some order of the calls explains all responses."""
 
     def __init__(self, airspace, calls, answers):
         self.calls, self.answers = calls, answers
         self.order = self.explained(airspace, frozenset(range(len(calls))))
 
     def explained(self, airspace, left):
-        """The airspace after the calls that are left, in some order in which each is answered as it was; or None."""
+        """Returns the airspace after the remaining calls, in some order that explains each response; or None."""
         left = set(left)
         changes = []
         for at in sorted(left):
@@ -313,8 +316,8 @@ class Round:
 
 
 def drawn_at_once():
-    """Drawn calls of 24 clients with kept connections, sent at once again and again: some order of those of each round explains
-    each answer by the plain policy."""
+    """24 clients on persistent connections send drawn calls at once, again and again. Some order of the calls of each
+    batch explains each response by the plain policy."""
     now, clients, found = int(time.time()), 24, []
     airspace = plain_policy.Airspace(now, drawn_calls.ALL_TOKENS)
     draw = drawn_calls.Draw(SEED)
@@ -326,7 +329,7 @@ def drawn_at_once():
             for connection, call in zip(connections, calls):
                 connection.sendall(wire.request(*call))
             answers = [answers_from(connection, 1) for connection in connections]
-            after = Round(airspace, calls, answers).order
+            after = Batch(airspace, calls, answers).order
             if after is None:
                 told = [(call, answer) for call, answer in zip(calls, answers)]
                 return [f"round {number}: no order explains {told!r}"]
@@ -338,7 +341,7 @@ def drawn_at_once():
 
 
 def drawn_in_turn():
-    """Drawn calls of 32 clients with kept connections, one after the other, are answered as one list of calls."""
+    """Drawn calls of 32 clients on persistent connections, one after the other, get the responses of one list of calls."""
     airspace = plain_policy.Airspace(int(time.time()), drawn_calls.ALL_TOKENS)
     drawn = drawn_calls.Drawn(drawn_calls.Draw(SEED + 1), airspace, AHEAD)
     draw = random.Random(SEED)
@@ -346,13 +349,13 @@ def drawn_in_turn():
         connections = [[started.connect(), 0] for _ in range(32)]
         for number in range(2_500):
             at = draw.randrange(32)
-            if connections[at][1] == wire.MOST_REQUESTS:
+            if connections[at][1] == wire.MAX_REQUESTS:
                 connections[at][0].close()
                 connections[at] = [started.connect(), 0]
             connections[at][1] += 1
             call = drawn.call()
             connections[at][0].sendall(wire.request(*call))
-            wanted = airspace.ask(*call).text(closes=connections[at][1] == wire.MOST_REQUESTS)
+            wanted = airspace.ask(*call).text(closes=connections[at][1] == wire.MAX_REQUESTS)
             got = answers_from(connections[at][0], 1)
             if got != wanted:
                 return [f"call {number}: {call!r}: wanted {wanted!r}, got {got!r}"]

@@ -1,11 +1,13 @@
-"""That the rules are meant so: what meets what, what is shown to whom, changes of state and of versions, whom a token names."""
+"""Rows on what the rules mean.
+
+They cover which volumes meet, what each USS sees, changes of state and of versions, and the USS of a token."""
 import wire
 from scenes import ID, NOTHING_LISTED, NO_SUBSCRIPTION, Scene, area, cells, put, volume
 from wire import CONSTRAINTS, INTENTS
 
 
 def meetings():
-    """What a volume meets, seen by queries: its cells, altitudes and times, the ends among them."""
+    """Which volumes meet a given one, as queries find them: by cells, altitudes and times, including their ends."""
     scene = Scene("meetings", [], [])
     kept = wire.ovn(1)
     seen = (
@@ -32,15 +34,15 @@ def meetings():
     ):
         scene.query(listed if meets else NOTHING_LISTED, area(f'["{token}"]', **bounds))
     scene.ask((200, created), "DELETE", f"{INTENTS}/{ID}/{kept}", "tok-a")
-    # two cells of level 14 in one of level 13
+    # Two cells of level 14 in one of level 13.
     scene.ask((201, created.replace(kept, wire.ovn(3))), "PUT", f"{INTENTS}/{ID}", "tok-a", put(volume('["89c25903"]')))
     scene.query(listed, area('["89c25905"]'))
     scene.query(NOTHING_LISTED, area('["89c2590c"]'))
     return scene
 
 
-def shown_to_others():
-    """A reference in each state, with an availability that was set, as another supplier sees it."""
+def seen_by_others():
+    """A reference in each state, with an availability that was set, as another USS sees it."""
     tokens = {**wire.TOKENS, "tok-7": ("uss_b.7", {wire.STRATEGIC, wire.MONITORING})}
     scene = Scene("shown to others", [], [], wire.token_file(tokens))
     id_ = "F81D4FAE-7DEC-11D0-A765-00A0C91E6BF6"
@@ -69,10 +71,10 @@ def shown_to_others():
 
 
 def changes_of_state():
-    """Each change of state of an intent that its supplier created in the first of the two."""
+    """Each change of state of an intent that its USS created in the first of the two."""
     scene = Scene("changes of state", [], [])
     states = "Accepted", "Activated", "Nonconforming", "Contingent"
-    # row by row from each state, column by column to each
+    # Each row is an old state, each column a new one.
     allowed = (True, True, True, True), (False, True, True, True), (False, True, True, True), (False, False, False, True)
     for row, of in zip(allowed, states):
         for is_allowed, to in zip(row, states):
@@ -115,7 +117,7 @@ def versions():
 
 
 def callers():
-    """Who is found by a token, and what its scopes open: unknown scopes and other members are ignored."""
+    """The USS of a token, and what its scopes permit. Unknown scopes and other members are ignored."""
     tokens = f"""salt = "demo"
 
 [[token]]
@@ -149,7 +151,7 @@ scopes = ["utm.strategic_coordination"]
     unknown = (200, '{"status":{"availability":"Unknown","uss":"u"},"version":""}')
     other = (409, '{"message":"P10 VERSION"}')
     role = (403, '{"message":"P11 ROLE"}')
-    # intents to query, constraints to query, an availability to read, one to set
+    # Querying intents, querying constraints, reading an availability, setting one.
     for token, opens in (
         ("tok-a", (True, False, True, False)),
         ("tok-as", (True, False, True, False)),
@@ -173,5 +175,5 @@ scopes = ["utm.strategic_coordination"]
 
 
 def scenes():
-    """All streams of the table."""
-    return [meetings(), shown_to_others(), changes_of_state(), callers(), *versions()]
+    """Returns all streams of the table."""
+    return [meetings(), seen_by_others(), changes_of_state(), callers(), *versions()]

@@ -1,5 +1,7 @@
-"""Queries over many references and subscriptions of all levels, and whom changes notify: over a database and in memory
-they are answered as the plain policy says, whose `meet` compares each volume with each area."""
+"""Queries over many references and subscriptions of all levels, and the subscriptions that changes notify.
+
+Over a database and in memory, responses are those of the plain policy, whose `meet` compares each volume with each
+area."""
 import dataclasses
 
 import drawn_calls
@@ -11,18 +13,18 @@ from plain_policy import CONSTRAINT, INTENT
 from program import first_difference, serve
 
 COUNT = 200
-# Of two volumes that cover at most what a call may; coarser references are made of some by statements of SQLite.
+# The levels of two volumes that cover at most what a call may. SQLite statements make coarser references of some.
 LEVELS = range(7, 17)
 COARSE = (4, 5, 6)
-# In memory the references and their queries come in one stream of the most requests.
+# In memory, the references and their queries are one stream of the maximum length.
 FEW = 64
 BASE = (4, ("00", "01", "10"))
 HANDLERS = {INTENT: (wire.INTENTS, "tok-bc"), CONSTRAINT: (wire.CONSTRAINTS, "tok-c")}
-# subscriptions of two suppliers, of which the first has no scope for constraints
+# Subscriptions of two USSs, of which the first has no scope for constraints.
 SUBSCRIBERS = tuple((wire.SUBSCRIPTIONS, it) for it in ("tok-a", "tok-bc"))
 SUBSCRIBED, CHANGES = 120, 90
-# how often they are told at least
-LEAST_TOLD, LEAST_TOLD_IN_MEMORY = 500, 15
+# How often they are notified at least.
+MIN_NOTIFIED, MIN_NOTIFIED_IN_MEMORY = 500, 15
 
 
 def token_of(cell):
@@ -32,14 +34,14 @@ def token_of(cell):
 
 
 def range_of(cell):
-    """The places of the first and last cell of level 13 in a cell."""
+    """Returns the positions of the first and the last cell of level 13 in a cell."""
     face, digits = cell
     bits = format(face, "03b") + "".join(digits[:13])
     return int(bits.ljust(29, "0"), 2), int(bits.ljust(29, "1"), 2)
 
 
 def drawn_cell(draw, level):
-    """A cell below the base. At each level it is one of two, so that many touch."""
+    """Returns a cell below the base. At each level it is one of two, so that many touch."""
     face, digits = BASE
     more = tuple(draw.of(("01", "11")) for _ in range(level - len(digits)))
     return face, digits + more
@@ -57,13 +59,13 @@ def extent(draw, levels):
 
 
 def asked(airspace, method, target, token, body):
-    """A request, and what the plain policy answers."""
+    """Returns a request, and the plain policy's response."""
     outcome = airspace.ask(method, target, f"Bearer {token}", wire.compact(body).encode())
     return ask(method, target, token, body), outcome
 
 
 def creation(draw, airspace, number):
-    """The creation of a reference of two volumes, with the key that it needs."""
+    """Returns the creation of a reference of two volumes, with the key that it needs."""
     kind = (INTENT, CONSTRAINT, CONSTRAINT)[number % 3]
     place, token = HANDLERS[kind]
     level = LEVELS[number % len(LEVELS)]
@@ -87,20 +89,21 @@ def query(draw, airspace, asker, levels, is_bounded):
 
 
 def queries(draw, airspace, count, askers=(HANDLERS[CONSTRAINT], HANDLERS[INTENT])):
-    """Queries of cells of the levels 0, 6, 13 and 20, of several, and of equal ones, at two places or by two tokens."""
+    """Returns queries of cells of the levels 0, 6, 13 and 20, of several cells, and equal queries at two endpoints or
+    with two tokens."""
     wanted = [(6,), (13,), (20,), (13, 20, 13, 8), (20, 20, 9), (0,), (7, 12, 13, 14)]
     return [query(draw, airspace, askers[at % 2], wanted[at % len(wanted)], at % 4 == 3) for at in range(count)]
 
 
 def unlike(name, calls, answers):
-    """How the answers differ from the plain policy's."""
+    """Returns how the responses differ from the plain policy's."""
     texts = [outcome.text(closes=False) for _, outcome in calls]
     why = first_difference(texts, [it.replace(b"Connection: close\r\n", b"") for it in answers])
     return [f"{name}: {why}"] if why else []
 
 
 def differences(name, calls, answers, least):
-    """The same, where queries find many and few."""
+    """Returns the same, and reports if no query finds many or few."""
     found = unlike(name, calls, answers)
     sizes = [outcome.body.count('"id"') for _, outcome in calls if outcome.status == 200]
     refused = sum(outcome.status == 413 for _, outcome in calls)
@@ -125,7 +128,7 @@ def made_coarser(room, draw, airspace):
 
 
 def subscriptions_made_coarser(room, draw, airspace):
-    """The same of some subscriptions."""
+    """Does the same to some subscriptions."""
     kept = sorted(airspace.subscriptions.values(), key=lambda it: it.serial)
     with tables.opened(room.database) as database:
         for at, subscription in enumerate(kept[::4]):
@@ -137,7 +140,7 @@ def subscriptions_made_coarser(room, draw, airspace):
 
 
 def coarser(draw, volume, at):
-    """A volume with another first cell, and what the row of that cell has."""
+    """Returns a volume with another first cell, and the values of that cell's row."""
     cell = drawn_cell(draw, COARSE[at % len(COARSE)])
     return dataclasses.replace(volume, cells=(cell, *volume.cells[1:])), (token_of(cell), *range_of(cell))
 
@@ -147,14 +150,14 @@ def levels_of(puts):
 
 
 def answers_over(room, calls):
-    """The answers to calls by programs of their own, a few calls each; what such a program tells stands among them."""
+    """Returns the responses to calls in several runs of the program with a few calls each, and what these runs print."""
     for at in range(0, len(calls), CHUNK):
         status, output, error = room.serve([it for it, _ in calls[at : at + CHUNK]])
         yield from [f"{status}, {error!r}".encode()] if (status, error) != (0, b"") else wire.answers_of(output)
 
 
 def over_database():
-    """Two hundred references of the levels 4 to 16 in a database, and queries by programs of their own."""
+    """Two hundred references of the levels 4 to 16 in a database, and queries in separate runs of the program."""
     draw, airspace = drawn_calls.Draw(7), plain_policy.Airspace(NOW, drawn_calls.ALL_TOKENS)
     found = []
     with Room() as room:
@@ -174,7 +177,7 @@ def over_database():
 
 
 def alike(calls):
-    """What is wrong with the answers to a stream in memory and over a database."""
+    """Returns what is wrong with the responses to a stream in memory and over a database."""
     requests = [it for it, _ in calls]
     with Room() as room:
         streams = {
@@ -192,11 +195,11 @@ def in_memory():
     """The same stream in memory and over a database: references, and then queries."""
     draw, airspace = drawn_calls.Draw(11), plain_policy.Airspace(NOW, drawn_calls.ALL_TOKENS)
     calls = [creation(draw, airspace, number) for number in range(FEW)]
-    return alike(calls + queries(draw, airspace, wire.MOST_REQUESTS - FEW))
+    return alike(calls + queries(draw, airspace, wire.MAX_REQUESTS - FEW))
 
 
 def subscribing(draw, airspace, number):
-    """The creation of a subscription."""
+    """Returns the creation of a subscription."""
     _, token = SUBSCRIBERS[number % 2]
     level = LEVELS[number % len(LEVELS)]
     body = {
@@ -233,8 +236,8 @@ def notified_over_database():
         levels = levels_of(it.put for it in airspace.subscriptions.values())
         found += [] if levels == set(range(4, 17)) else [f"the levels are {sorted(levels)}"]
         found += wrong_with(room)
-    print(f"{len(changes)} changes told {SUBSCRIBED} subscriptions in a database {told(airspace)} times")
-    return found + ([f"they told {told(airspace)}"] if told(airspace) < LEAST_TOLD else [])
+    print(f"{len(changes)} changes notified {SUBSCRIBED} subscriptions in a database {told(airspace)} times")
+    return found + ([f"they told {told(airspace)}"] if told(airspace) < MIN_NOTIFIED else [])
 
 
 def deletion(airspace, entity):
@@ -248,8 +251,8 @@ def notified_in_memory():
     draw, airspace = drawn_calls.Draw(17), plain_policy.Airspace(NOW, drawn_calls.ALL_TOKENS)
     calls = [subscribing(draw, airspace, number) for number in range(40)]
     calls += [creation(draw, airspace, number) for number in range(30)]
-    calls += queries(draw, airspace, wire.MOST_REQUESTS - len(calls), SUBSCRIBERS)
-    return alike(calls) + ([f"only {told(airspace)} were told"] if told(airspace) < LEAST_TOLD_IN_MEMORY else [])
+    calls += queries(draw, airspace, wire.MAX_REQUESTS - len(calls), SUBSCRIBERS)
+    return alike(calls) + ([f"only {told(airspace)} were told"] if told(airspace) < MIN_NOTIFIED_IN_MEMORY else [])
 
 
 CASES = {

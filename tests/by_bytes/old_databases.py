@@ -1,7 +1,7 @@
-"""Databases of format 1, and how opening brings them to format 2: what they keep stays, and nothing is added.
+"""Databases of format 1 are upgraded to format 2 when they are opened. Their contents stay, and nothing is added.
 
-Those of tests/data/format_1 were made by the last release that knew no other format, from its calls.json: `closed.db` by one
-that ended, `killed.db` with its log by one that was killed after the last answer."""
+The last release that knew no other format made those of tests/data/format_1 from its calls.json: `closed.db` when it
+exited, `killed.db` with its log when it was killed after the last response."""
 import gzip
 import json
 import pathlib
@@ -21,7 +21,7 @@ from serving import Service
 FOLDER = TOP / "tests" / "data" / "format_1"
 MADE = ("closed", "killed")
 MOVED, HELD = (0, b"format 2, was 1\n", b""), (0, b"format 2\n", b"")
-# calls that are drawn after a move, with subscriptions among them
+# Calls that are drawn after an upgrade, subscriptions included.
 MORE, SEED = 60, 5
 
 
@@ -30,14 +30,14 @@ def upgrade(database):
 
 
 def unpacked(folder, name):
-    """A database that the release made, as `dss.db` in a folder, with the log beside it where it left one."""
+    """Puts a database that the release made into a directory as `dss.db`, with its log beside it if it left one."""
     for file in FOLDER.glob(f"{name}.db*.gz"):
         end = file.name.removeprefix(name).removesuffix(".gz")
         pathlib.Path(folder, f"dss{end}").write_bytes(gzip.decompress(file.read_bytes()))
 
 
 def kept():
-    """What is kept after the calls that made them."""
+    """Returns the contents after the calls that made them."""
     airspace = plain_policy.Airspace(drawn_calls.NOW, drawn_calls.ALL_TOKENS)
     for method, target, authorization, body in json.loads((FOLDER / "calls.json").read_text()):
         airspace.ask(method, target, authorization, None if body is None else body.encode())
@@ -45,7 +45,7 @@ def kept():
 
 
 def report_of(airspace):
-    """The report of what is kept."""
+    """Returns the report of the contents."""
     lines = []
     for kind, word in (INTENT, "intent"), (CONSTRAINT, "constraint"):
         for it in (it for (_, it) in sorted(airspace.entities.items()) if it.kind == kind):
@@ -55,7 +55,7 @@ def report_of(airspace):
 
 
 def readings(airspace):
-    """Readings and queries that show all that is kept."""
+    """Returns reads and queries that return all contents."""
     cells = {"area_of_interest": {"cells": ["01", "0000001", "000000ff", "00001", "3"]}}
     for (kind, id_), _ in sorted(airspace.entities.items()):
         yield "GET", f"{plain_policy.PATHS[kind]}/{id_}", "Bearer tok-bc", None
@@ -66,7 +66,7 @@ def readings(airspace):
 
 
 def later_calls(airspace):
-    """Calls after a move, with the answers of the plain policy."""
+    """Returns calls after an upgrade, with the plain policy's responses."""
     drawn = drawn_calls.Drawn(drawn_calls.Draw(SEED), airspace)
     calls, wanted = [], []
     for call in readings(airspace):
@@ -79,7 +79,7 @@ def later_calls(airspace):
 
 
 def went_on(name, room):
-    """What is wrong with a moved database as it is read and then used, with subscriptions from now on."""
+    """Returns what is wrong with an upgraded database when it is read and then used, with subscriptions."""
     calls, wanted = later_calls(kept())
     got = []
     for at in range(0, len(calls), 40):
@@ -92,7 +92,7 @@ def went_on(name, room):
 
 
 def moved_wrong(name, before, file):
-    """How the tables differ from those before the move with format 2 and with the tables that came later."""
+    """Returns how the tables differ from those before the upgrade, with format 2 and the later tables."""
     rows = tables.rows_in(file)
     (one, _, serial), *_ = before["meta"]
     wanted = dict.fromkeys(tables.LATER_TABLES, []) | before | {"meta": [(one, 2, serial)]}
@@ -101,19 +101,19 @@ def moved_wrong(name, before, file):
 
 
 def schema_made():
-    """The schema of a database that the program makes."""
+    """Returns the schema of a database that the program makes."""
     with Room() as room:
         room.command("report")
         return tables.schema_in(room.database)
 
 
 def as_released():
-    """What the release made is moved by `upgrade`, with the schema of a new database, and goes on from there."""
+    """`upgrade` upgrades the release's databases to the schema of a new database. They can be used afterwards."""
     found, made = [], schema_made()
     for name in MADE:
         with Room() as room:
             unpacked(room.folder.name, name)
-            # of a copy, since SQLite, too, takes the log into the file
+            # Uses a copy, because SQLite checkpoints the log.
             with Room() as other:
                 unpacked(other.folder.name, name)
                 before = tables.rows_in(other.database)
@@ -130,7 +130,8 @@ def as_released():
 
 
 def silently():
-    """`run`, `report` and `serve` move a database as they open it, and say no word more than they do of one of format 2."""
+    """`run`, `report` and `serve` upgrade a database when they open it, and print nothing more than for one of format
+    2."""
     found, report = [], report_of(kept())
     for name in MADE:
         with Room() as room:
@@ -157,7 +158,8 @@ def silently():
 
 
 def worked_example():
-    """The worked example of an old database: the first step of another one, as format 1 keeps it."""
+    """An old database with the first step of a worked example, as format 1 stores it, gives the responses of its other
+    steps."""
     rows = {
         "meta": [(1, 1, 1)],
         "entity": [(1, 0, "00000000-0000-4000-8000-0000000000a1", "uss-a", 0, 1, 1, wire.ovn(1), "https://a.example")],
@@ -172,7 +174,7 @@ def worked_example():
 
 
 def serials():
-    """The serial stays, the least and the greatest, also where nothing else is kept."""
+    """The serial stays, the minimum and the maximum, even if nothing else is stored."""
     found = []
     for serial in (0, 77, 2**63 - 1):
         with Room() as room:
@@ -186,8 +188,8 @@ def serials():
 
 
 def of_others():
-    """`upgrade` makes a database where there is no file, says nothing of a move for one of format 2, and tells the faults of
-    opening; what it prints may fail to be written, and the move stands."""
+    """`upgrade` makes a database if no file exists, reports no upgrade for one of format 2, and reports the faults of
+    opening. If its output cannot be written, the upgrade is complete."""
     found = []
 
     def compare(name, got, wanted):
@@ -220,7 +222,7 @@ def of_others():
 
 
 def of_sqlite():
-    """A database of format 1 that SQLite itself wrote anew is moved, too, and its answers are the same."""
+    """A database of format 1 that SQLite itself rewrote is upgraded, and gives the same responses."""
     found = []
     for write in vacuumed, dumped:
         with Room() as room:
@@ -235,7 +237,8 @@ def of_sqlite():
 
 
 def without_space():
-    """A move for which the disk has no room is told as Store and leaves format 1; once there is room, it is made."""
+    """An upgrade for which the disk has no room is reported as Store and leaves format 1. Once there is room, it
+    succeeds."""
     found, refused = [], 0
     for most in range(8, 104, 8):
         with Room() as room:
@@ -249,7 +252,7 @@ def without_space():
                 found += [f"{most}: the tables are others"] if rows != before else []
                 wanted = MOVED
             else:
-                # what could not be copied out of the log is told, and stands in it
+                # If the log cannot be checkpointed, that is reported, and the log has the upgrade.
                 told = ((0, MOVED[1], b""), (1, b"", b"dss: db: fault\n"))
                 found += [f"{most}: {status}, {output!r}, {error!r}"] if (status, output, error) not in told else []
                 wanted = HELD
@@ -262,7 +265,7 @@ def without_space():
 
 CASES = {
     "old-databases-of-the-release": as_released,
-    "old-databases-moved-silently": silently,
+    "old-databases-upgraded-silently": silently,
     "old-database-worked-example": worked_example,
     "old-databases-keep-their-serial": serials,
     "old-databases-that-sqlite-wrote-anew": of_sqlite,

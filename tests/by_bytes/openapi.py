@@ -1,6 +1,7 @@
-"""The document of the interface, docs/openapi.yaml, beside the program: the document is one of OpenAPI 3.0, every
-example in it comes true, each operation takes the scopes that stand with it, and its schemas refuse what the program
-refuses, at each bound."""
+"""Compares docs/openapi.yaml with the program.
+
+The document conforms to OpenAPI 3.0. The program gives every example in it. Each operation permits the scopes that
+the document lists. At each bound, the document's schemas reject what the program rejects."""
 import functools
 import json
 import pathlib
@@ -18,24 +19,24 @@ from program import BUILT, TOP, first_difference, run, serve
 
 NOW = 1000
 DOCUMENT = TOP / "docs" / "openapi.yaml"
-# of Debian's package openapi-specification
+# From Debian's package openapi-specification.
 SCHEMA = pathlib.Path("/usr/share/openapi-specification/schemas/v3.0/schema.json")
 DRAWN = range(1, 11)
 METHODS = ("get", "put", "post", "delete", "options", "head", "patch", "trace")
 
-# The suppliers of the worked examples, and another one of constraints.
+# The USSs of the worked examples, and another one with constraints.
 TOKENS = drawn_calls.ALL_TOKENS
 
 DENIALS = {f"P{number} {name}": status for number, (status, name) in RULES.items()} | {
     "P15 LIMIT": 503, "H1 HEAD": 400, "H2 HEADSIZE": 431, "H3 TRANSFER": 501, "H4 LENGTH": 400, "H5 BODYSIZE": 413,
     "fault": 500, "stopped": 503,
 }
-# What no list of requests brings about in a service that began empty: the greatest serial, and a space that broke.
+# Denials that no list of requests to a new service reaches: the maximum serial, and a space that broke.
 UNREACHED = {"P15", "stopped"}
 
 
 def whole(value, document):
-    """A part of the document with what its references name in their place."""
+    """Returns a part of the document with each reference replaced by its target."""
     if isinstance(value, list):
         return [whole(it, document) for it in value]
     if not isinstance(value, dict):
@@ -49,7 +50,7 @@ def whole(value, document):
 
 
 def of_json_schema(schema):
-    """A schema of OpenAPI 3.0 as one of JSON Schema: null by its type, and the `$` of ECMA 262 as Python writes it."""
+    """Converts a schema of OpenAPI 3.0 to JSON Schema: null by its type, and the `$` of ECMA 262 as Python writes it."""
     if isinstance(schema, list):
         return [of_json_schema(it) for it in schema]
     if not isinstance(schema, dict):
@@ -76,7 +77,8 @@ class Document:
                     self.operations[operation.name] = operation
 
     def operation_at(self, method, target):
-        """The operation of a method and a target, or None. A path without words comes before one with them."""
+        """Returns the operation of a method and a target, or None. A path without parameters comes before one with
+        them."""
         path = target.partition("?")[0]
         for template in sorted(self.parts["paths"], key=lambda it: it.count("{")):
             if re.fullmatch(re.sub(r"{\w+}", "[^/]+", template), path):
@@ -91,7 +93,7 @@ def the_document():
 
 
 class Operation:
-    """What the document says of a method of a path."""
+    """A method of a path in the document."""
 
     def __init__(self, path, method, item):
         said = item[method.lower()]
@@ -108,7 +110,7 @@ class Operation:
             self.answers |= {f"{status} {name}": (int(status), it, schema, fields) for name, it in examples.items()}
 
     def target(self, words=()):
-        """The path with the words given, else with the examples of its parameters."""
+        """Returns the path with the given parameters, or else with the examples of its parameters."""
         words = {name: it["example"] for name, it in self.words.items()} | dict(words)
         return self.path.format(**words)
 
@@ -120,7 +122,7 @@ class Operation:
         return wire.request(self.method, self.target(words), authorization, text, fields)
 
     def first(self):
-        """The first example of a body."""
+        """Returns the first example of a body."""
         return next(iter(self.bodies.values()))
 
     def answer(self, example, closes=False):
@@ -135,7 +137,7 @@ def schema_and_examples(holder):
 
 
 def fields_of(response):
-    """The header fields of a response that has but one value for each."""
+    """Returns the header fields of a response that has only one value for each."""
     enums = {name: it["schema"]["enum"] for name, it in response.get("headers", {}).items()}
     return [f"{name}: {enum[0]}" for name, enum in enums.items() if len(enum) == 1]
 
@@ -145,7 +147,7 @@ def body_of(value):
 
 
 def served(requests):
-    """The answers of a stream, or why there are none."""
+    """Returns the responses of a stream, or why there are none."""
     status, output, error = serve(b"".join(requests), NOW, wire.token_file(TOKENS))
     if (status, error) != (0, b""):
         raise ValueError(f"status {status}, {error!r}")
@@ -156,7 +158,7 @@ def served(requests):
 
 
 def is_document():
-    """The document has the form of OpenAPI 3.0, and its examples that of their schemas and rules."""
+    """The document conforms to OpenAPI 3.0, and its examples to their schemas and rules."""
     document = the_document()
     validator = jsonschema.Draft4Validator(json.loads(SCHEMA.read_text()))
     found = [f"{list(it.absolute_path)}: {it.message[:300]}" for it in validator.iter_errors(document.text)]
@@ -178,7 +180,7 @@ def is_document():
 
 
 def schemas_in(value):
-    """All objects in a part of the document."""
+    """Returns all objects in a part of the document."""
     if isinstance(value, dict):
         yield value
     for it in value.values() if isinstance(value, dict) else value if isinstance(value, list) else ():
@@ -186,8 +188,8 @@ def schemas_in(value):
 
 
 def hard_to_generate_from(document):
-    """What generators of clients trip over: no server, schemes that are alike, and schemas that are a choice without a
-    member that tells which."""
+    """Returns what breaks client generators: no server, schemes of the same name, and schemas that are a choice without
+    a discriminator."""
     found = [] if document.text.get("servers") else ["no servers"]
     schemes = [{it: []} for it in document.text["components"]["securitySchemes"]]
     found += [f"{it.name}: {it.security}" for it in document.operations.values() if len(schemes) != 1 or it.security != schemes]
@@ -204,7 +206,7 @@ def hard_to_generate_from(document):
 
 
 def examples_that_fail(operation):
-    """The examples of an operation that its schemas refuse, or whose rule has another status."""
+    """Returns the examples of an operation that its schemas reject, or whose rule has another status."""
     found = []
     for name, value in operation.bodies.items():
         found += [f"{operation.name}, {name}: {it.message}" for it in operation.body.iter_errors(value)]
@@ -222,10 +224,10 @@ def validator_of(schema):
     return jsonschema.Draft4Validator(of_json_schema(schema))
 
 
-# ---- every example comes true
+# ---- the examples
 
-# Streams of steps: the operation, the token, the example of the answer, and where it is not the first example of a
-# body the name of another or members other than its, and words where they are not the examples of the path's.
+# Streams of steps: the operation, the token, and the example of the response. A step also names another example of the
+# body than the first, or other members, and path parameters if they are not the examples.
 ANOTHER, THIRD = ({"entityid": f"00000000-0000-4000-8000-0000000000{it}"} for it in ("b1", "b2"))
 AT = {serial: {"ovn": wire.ovn(serial)} for serial in range(1, 4)}
 OTHER, VERSION = {"subscriptionid": "00000000-0000-4000-8000-0000000000d2"}, {"version": wire.ovn(2)}
@@ -310,7 +312,7 @@ SCENES = [
         ("deleteSubscription", "tok-b", "200 deleted", None, VERSION),
     ],
 ]
-# A token whose scopes open each operation.
+# A token whose scopes permit each operation.
 OPENED_BY = {
     **dict.fromkeys(("queryIntents", "readIntent", "createIntent", "updateIntent", "deleteIntent"), "tok-a"),
     **dict.fromkeys(("queryConstraints", "readConstraint"), "tok-c"),
@@ -319,7 +321,7 @@ OPENED_BY = {
     **dict.fromkeys((f"{it}Subscription" for it in ("read", "create", "update", "delete")), "tok-bc"),
     "querySubscriptions": "tok-bc",
 }
-# What makes a request break a rule of the wire.
+# Changes that make a request break a protocol rule.
 WIRES = {
     "400 H1": ["no field"],
     "431 H2": ["X: y"] * 65,
@@ -330,7 +332,7 @@ WIRES = {
 
 
 def scenes(document):
-    """The steps as requests, with the operation and the example of the answer of each."""
+    """Returns the steps as requests, with the operation and the example of the response of each."""
     for steps in SCENES:
         stream = []
         for name, token, example, *more in steps:
@@ -341,14 +343,14 @@ def scenes(document):
 
 
 def with_volume(operation, **members):
-    """The first example of a put with other members of its volume."""
+    """Returns the first example of a put with other members of its volume."""
     put = operation.first()
     extents = put["extents"]
     return put | {"extents": [extents[0] | members] if isinstance(extents, list) else extents | members}
 
 
 def early(operation):
-    """Requests of an operation that are denied whatever is kept."""
+    """Returns requests of an operation that are denied whatever is stored."""
     token = OPENED_BY[operation.name]
     yield operation.request(None), "401 P3"
     yield operation.request("tok-n"), "403 P4"
@@ -358,13 +360,13 @@ def early(operation):
     yield operation.request(token, b"["), "400 P5"
     if "extents" in operation.first():
         yield operation.request(token, with_volume(operation, cells=["1"])), "413 P6"
-        # of a creation alone: what is to be updated must be there
+        # Only for a creation: the target of an update must exist.
         if operation.name.startswith("create"):
             yield operation.request(token, with_volume(operation, time_end=NOW)), "400 P13"
 
 
 def ended(document, name, creation):
-    """An update by which an entity or a subscription would have ended."""
+    """Returns an update by which an entity or a subscription would have ended."""
     operation, created = document.operations[name], document.operations[creation]
     request = operation.request(OPENED_BY[name], with_volume(operation, time_end=NOW))
     first = next(it for it in created.answers if it.startswith("20"))
@@ -381,13 +383,13 @@ def all_streams(document):
 
 
 def is_valid_answer(operation, example, text):
-    """Whether the body of an answer is one of the schema that stands with its status."""
+    """Returns whether the body of a response conforms to the schema of its status."""
     _, _, schema, _ = operation.answers[example]
     return schema.is_valid(json.loads(text.partition(b"\r\n\r\n")[2]))
 
 
 def come_true():
-    """Every example is sent, and the answer is the example and fits its schema. No example is left out."""
+    """Every example is sent. The response is the example and conforms to its schema. No example is left out."""
     document, found, seen = the_document(), [], set()
     for stream in all_streams(document):
         wanted = [document.operations[name].answer(example) for _, name, example in stream]
@@ -410,7 +412,7 @@ def come_true():
 
 
 def left_out(operation, seen):
-    """The examples of an operation that no stream has."""
+    """Returns the examples of an operation that no stream has."""
     answers = {it for it in operation.answers if (operation.name, it) not in seen}
     left = [it for it in answers if it.partition(" ")[2] not in UNREACHED | {"fault"}]
     sent = b"".join(request for name, request in seen if name == operation.name and isinstance(request, bytes))
@@ -419,7 +421,7 @@ def left_out(operation, seen):
 
 
 def faults(document):
-    """Where a growth of memory is refused, the answer is the example of a fault, which all operations share."""
+    """If a memory allocation is refused, the response is the example of a fault, which all operations share."""
     operation = document.operations["readAvailability"]
     request = operation.request("tok-a", fields=["Connection: close"])
     wanted = operation.answer("500 fault", closes=True)
@@ -430,7 +432,7 @@ def faults(document):
 
 
 def answers_to_drawn_calls():
-    """Each answer to calls that are drawn has its status, its rule and its form in the document."""
+    """Each response to drawn calls has its status, its rule and its form in the document."""
     document, found, count = the_document(), [], 0
     for seed in DRAWN:
         for request, outcome in zip(*drawn_calls.stream(seed)):
@@ -444,12 +446,12 @@ def answers_to_drawn_calls():
                 right = value.get("message") in rules and alike[0][2].is_valid(value)
             count += 1
             found += [] if right else [f"{method} {target}: {outcome.status} {outcome.body}"]
-    print(f"answers to drawn calls: {count}")
+    print(f"responses to drawn calls: {count}")
     return found
 
 
 def others_denied():
-    """A path of no route is P1, and a method that a path does not take is P2, with the path's methods."""
+    """A path without a route is P1. A method that a path does not have is P2, with the path's methods."""
     document, found, requests, wanted = the_document(), [], [], []
     responses = document.parts["components"]["responses"]
     (schema, no_route), (_, no_method) = (schema_and_examples(responses[it]) for it in ("NoRoute", "NoMethod"))
@@ -471,7 +473,7 @@ def others_denied():
 
 
 def scopes_open():
-    """A token with one scope alone is denied by P4 exactly where the document does not list it with the operation."""
+    """P4 denies a token with only one scope exactly if the document does not list it with the operation."""
     document, found = the_document(), []
     scopes = sorted(set().union(*(it.scopes for it in document.operations.values())))
     tokens = {f"tok-{at}": ("uss-a", {scope}) for at, scope in enumerate(scopes)}
@@ -488,23 +490,23 @@ def scopes_open():
     return found
 
 
-# ---- what the schemas say of bodies and words
+# ---- bodies and path parameters by the schemas
 
 
 def malformed(requests):
-    """Whether each request is P5, in streams of a hundred."""
+    """Returns whether each request is P5, in streams of a hundred."""
     wanted = wire.answer(400, '{"message":"P5 FORM"}')
     closing = wire.answer(400, '{"message":"P5 FORM"}', closes=True)
-    for at in range(0, len(requests), wire.MOST_REQUESTS):
-        some = requests[at : at + wire.MOST_REQUESTS]
+    for at in range(0, len(requests), wire.MAX_REQUESTS):
+        some = requests[at : at + wire.MAX_REQUESTS]
         got = served(some)
         if len(got) != len(some):
             raise ValueError(f"{len(got)} answers to {len(some)} requests")
         yield from (it in (wanted, closing) for it in got)
 
 
-def judged(operation, cases):
-    """What the schema and what the program say of each body of an operation: whether they refuse it."""
+def checked(operation, cases):
+    """Returns whether the schema and the program reject each body of an operation."""
     token = OPENED_BY[operation.name] if operation.name != "createIntent" else "tok-as"
     requests = [operation.request(token, body) for _, body in cases]
     refused = malformed(requests)
@@ -512,23 +514,24 @@ def judged(operation, cases):
 
 
 def bounds_of_bodies():
-    """At each bound and form of a body, the schema and the program refuse the same bodies."""
+    """At each bound and form of a body, the schema and the program reject the same bodies."""
     document, found, counts = the_document(), [], {True: 0, False: 0}
     for name, bodies in openapi_bodies.BODIES.items():
         wanted, cases = [], []
         for is_wrong, case, value in openapi_bodies.each_edit(bodies.body, bodies.edits):
             wanted.append(is_wrong)
             cases.append((case, value))
-        for is_wrong, (case, *refused) in zip(wanted, judged(document.operations[name], cases)):
+        for is_wrong, (case, *refused) in zip(wanted, checked(document.operations[name], cases)):
             counts[is_wrong] += 1
             if refused != [is_wrong, is_wrong]:
                 found += [f"{name}, {case}: to be refused {is_wrong}, by schema and program {refused}"]
-    print(f"bodies at their bounds: {counts[True]} refused, {counts[False]} let pass")
+    print(f"bodies at their bounds: {counts[True]} rejected, {counts[False]} accepted")
     return found + ([] if min(counts.values()) >= 60 else ["under 60 of a kind"])
 
 
 def bounds_of_answers():
-    """At each bound of an answer, the schema refuses what is beyond it. Such answers are made up: none comes."""
+    """At each bound of a response, the schema rejects what is beyond it. Such responses are made up: the program gives
+    none."""
     document, found = the_document(), []
     _, value, schema, _ = document.operations["createIntent"].answers["201 created"]
     for is_wrong, case, text in openapi_bodies.each_edit(value, openapi_bodies.OF_ANSWER):
@@ -541,33 +544,34 @@ def bounds_of_answers():
 
 
 def beyond_schemas():
-    """What no schema says, as the document tells: the schema lets it pass, and the program refuses it."""
+    """Bodies that only the document's text excludes: the schema accepts them, and the program rejects them."""
     document, found = the_document(), []
     for name, bodies in openapi_bodies.UNSAID.items():
         operation = document.operations[name]
-        for case, *refused in judged(operation, bodies):
+        for case, *refused in checked(operation, bodies):
             found += [f"{name}, {case}: by schema and program {refused}"] if refused != [False, True] else []
     return found
 
 
 def tokens_of_cells():
-    """The pattern of a cell's token is that of the program, for all tokens of up to two digits and some longer ones."""
+    """The pattern of a cell's token accepts what the program accepts, for all tokens of up to two digits and some
+    longer ones."""
     operation = the_document().operations["queryIntents"]
     digits = "0123456789abcdefABCDEF"
     tokens = [*digits, *(a + b for a in digits for b in digits), *(f"1{it}1" for it in digits), *openapi_bodies.TOKENS]
     cases = [(it, json.dumps({"area_of_interest": {"cells": [it]}}).encode()) for it in tokens]
-    return [f"{it}: by schema and program {a, b}" for it, a, b in judged(operation, cases) if a != b]
+    return [f"{it}: by schema and program {a, b}" for it, a, b in checked(operation, cases) if a != b]
 
 
 def words_of_paths():
-    """At each bound of a path's word, the schema and the program refuse the same words."""
+    """At each bound of a path parameter, the schema and the program reject the same texts."""
     document, found = the_document(), []
     for name, word, wrong, right in openapi_bodies.WORDS:
         operation = document.operations[name]
         schema = validator_of(operation.words[word]["schema"])
         values = [(it, True) for it in wrong] + [(it, False) for it in right]
         requests = [operation.request(OPENED_BY[name], words={word: it}) for it, _ in values]
-        # an empty word is none, and the path another one
+        # An empty parameter does not exist: the path is another one.
         found += [f"{name}: {word} may be empty"] if schema.is_valid("") else []
         for (value, wanted), by_program in zip(values, malformed(requests)):
             if (not schema.is_valid(value), by_program) != (wanted, wanted):
@@ -576,7 +580,7 @@ def words_of_paths():
 
 
 def told(check):
-    """A check that fails as others do where the document lacks what it looks for, or is no YAML."""
+    """Makes a check fail normally if the document lacks what the check looks for, or is not YAML."""
 
     def checked():
         try:
@@ -594,9 +598,9 @@ CHECKS = {
     "openapi-no-operation": others_denied,
     "openapi-scopes": scopes_open,
     "openapi-bounds": bounds_of_bodies,
-    "openapi-answers": bounds_of_answers,
+    "openapi-responses": bounds_of_answers,
     "openapi-unsaid": beyond_schemas,
     "openapi-cells": tokens_of_cells,
-    "openapi-words": words_of_paths,
+    "openapi-path-parameters": words_of_paths,
 }
 CASES = {name: told(check) for name, check in CHECKS.items()}

@@ -1,4 +1,4 @@
-"""Bodies and words at the bounds of docs/openapi.yaml and beyond them, with what is to be refused."""
+"""Bodies and path parameters at the bounds of docs/openapi.yaml and beyond them, with what must be rejected."""
 import copy
 import dataclasses
 import json
@@ -31,12 +31,12 @@ def cells(count):
 
 
 def nested(levels):
-    """Lists in lists."""
+    """Returns lists in lists."""
     return [nested(levels - 1)] if levels > 1 else []
 
 
 def edited(body, path, value):
-    """The text of a body in which what stands at the path is another value, or absent."""
+    """Returns the text of a body in which the value at the path is another one, or absent."""
     body = copy.deepcopy(body)
     if not path:
         return json.dumps(value).encode()
@@ -54,7 +54,7 @@ def edited(body, path, value):
 
 
 def each_edit(body, edits):
-    """Each edit of a body: whether it is to be refused, what it is, and the text."""
+    """Returns each edit of a body: whether it must be rejected, its description, and its text."""
     for path, (wrong, right) in edits:
         for values, is_wrong in (wrong, True), (right, False):
             for value in values:
@@ -62,7 +62,7 @@ def each_edit(body, edits):
 
 
 def with_other_members(value):
-    """A value with a member less or one more in one of its objects. An OVN alone may lack."""
+    """Returns a value with one member less or more in one of its objects. Only an OVN may be missing."""
     if isinstance(value, dict):
         yield value | {"more": None}
         for name, part in value.items():
@@ -76,7 +76,7 @@ def with_other_members(value):
 
 @dataclasses.dataclass
 class Bodies:
-    """A body that is read, and for each of its places what is to be refused there and what is not."""
+    """A body that parses, and for each of its positions the values that must be rejected and those that must not."""
 
     body: object
     edits: list
@@ -92,7 +92,7 @@ def of_urls(path):
 
 
 def of_bounds(path, names, least, greatest):
-    """Both bounds of a pair, each beyond its least and its greatest; the other one fits."""
+    """Edits both bounds of a pair beyond its minimum and its maximum. The other bound fits."""
     wrong = [(least - 1, greatest), (least - 1, least), (least, least - 1)]
     wrong += [(greatest + 1, greatest), (greatest, greatest + 1)]
     return [((*path, names), (wrong, [(least, greatest), (least, least), (greatest, greatest)]))]
@@ -172,7 +172,7 @@ BODIES = {
         (("old_version",), (["v" * 129, 7, True, [], {}], [None, ABSENT, "", "v" * 128, "\u00fc" * 64, "\n"])),
     ]),
 }
-# An update reads what a creation reads.
+# An update has the body of a creation.
 BODIES |= {"updateIntent": BODIES["createIntent"], "updateConstraint": BODIES["createConstraint"]}
 
 
@@ -186,7 +186,7 @@ def in_query(text):
 
 UNSUBSCRIBED = {"extents": VOLUME, "uss_base_url": "https://b.example", **SUBSCRIBED}
 
-# What the schemas let pass and the program refuses, as the document says in words.
+# Bodies that the schemas accept and the program rejects, as the document's text says.
 UNSAID = {
     "createIntent": [
         ("2,049 cells", in_put([VOLUME | {"cells": cells(512)}] * 4 + [VOLUME])),
@@ -214,7 +214,7 @@ NO_UUIDS = ["x", UUID[:-1], UUID + "0", UUID[:-1] + "g", f"{{{UUID[2:]}}}"]
 NO_UUIDS += [UUID.replace("-", it) for it in ("", "_")]
 UUIDS = [UUID, "f81d4fae-7dec-11d0-a765-00a0c91e6bf6"]
 UUIDS += ["-".join(digit * size for size in (8, 4, 4, 4, 12)) for digit in "09afAF"]
-# An operation, a word of its path, and what is to be refused there and what is not.
+# An operation, a parameter of its path, the texts that must be rejected and those that must not.
 WORDS = [
     ("readIntent", "entityid", NO_UUIDS, UUIDS),
     ("readConstraint", "entityid", NO_UUIDS, UUIDS),
@@ -225,7 +225,7 @@ WORDS = [
 ]
 
 SEEN = ("operational_intent_reference",)
-# What an answer to a creation may have in its places and what not: the limits of what is kept.
+# Values that a response to a creation may have and those that it may not: the limits of what is stored.
 OF_ANSWER = [
     ((*SEEN, "id"), (["", UUID.upper(), UUID[:-1], UUID + "0", UUID.replace("-", "")], [it.lower() for it in UUIDS])),
     ((*SEEN, "manager"), (["", "u" * 65, "a+b"], ["u", "u" * 64, "A-z_0.9"])),

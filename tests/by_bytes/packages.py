@@ -1,4 +1,4 @@
-"""The Debian package that scripts/package makes: its paths, its program, its manual page, its unit and its completions."""
+"""Checks the Debian package that scripts/package makes: its paths, program, manual page, units and completions."""
 import os
 import pathlib
 import re
@@ -10,7 +10,7 @@ from program import BUILT, TOP, run
 from releases import GIVEN, SOME, WANTED, Checkout, difference, one_space
 
 DOCUMENTS, PAGES = "usr/share/doc/dss", ("README.md", "CHANGELOG.md", "CONTRIBUTING.md")
-# each path of the package, with its mode
+# Each path of the package, with its mode.
 PATHS = {
     "etc/dss": 0o750,
     "usr/bin/dss": 0o755,
@@ -29,23 +29,23 @@ PATHS = {
     "DEBIAN/prerm": 0o755,
     "DEBIAN/postrm": 0o755,
 }
-# what pages name that is not in the package: in the repository, and of others
+# Names in pages that the package does not contain: files of the repository and of other projects.
 ELSEWHERE = re.compile(r"(\.\./)?(qualify|release|crates|tests|gateway/|bench/)|test$|tests/|[\w./]*\.(rattle|c|go)$")
 OF_OTHERS = {"usr/bin/dss-gateway", "usr/share/man/man1/dss-gateway.1.gz", "usr/lib/dss"}
 COMMANDS = "run", "serve", "report", "purge", "backup", "upgrade", "tokens"
-# what keeps files, memory and programs of either unit from others
+# Settings that protect files, memory and processes of either unit from others.
 KEPT = {"UMask=0077", "LimitCORE=0", "ProtectProc=invisible", "MemoryDenyWriteExecute=yes", "NoNewPrivileges=yes"}
 
 
 def paths(root):
-    """What the package has that it should not, lacks, or has with another mode."""
+    """Returns the paths that the package has in excess, lacks, or has with another mode."""
     made = {str(it.relative_to(root)): it.stat().st_mode & 0o777 for it in root.rglob("*") if it.is_file()}
     made["etc/dss"] = (root / "etc/dss").stat().st_mode & 0o777
     return difference("paths", sorted(made.items()), sorted(PATHS.items()))
 
 
 def manual(root):
-    """What `man` says of the page, and what it lacks."""
+    """Returns what `man` reports about the page, and what the page lacks."""
     if not shutil.which("man"):
         return []
     file = root / "usr/share/man/man1/dss.1.gz"
@@ -59,20 +59,20 @@ def manual(root):
 
 
 def links(root):
-    """The files that an installed page or unit names, by a link or a whole path, and that are not there."""
+    """Returns the missing files that an installed page or unit names, by a link or an absolute path."""
     found, top = [], root / DOCUMENTS
     for page in sorted(top.rglob("*.md")):
         for link in re.findall(r"\]\(([^)#:\s]+)(?:#[^)]*)?\)", page.read_text()):
             is_there = (page.parent / link).exists()
-            found += [f"{page.relative_to(top)}: {link} is not there"] if not is_there and not ELSEWHERE.match(link) else []
+            found += [f"{page.relative_to(top)}: {link} does not exist"] if not is_there and not ELSEWHERE.match(link) else []
     for page in sorted([*top.rglob("*.md"), *(root / "usr/lib").rglob("*.service")]):
         for path in set(re.findall(r"/(usr/(?:bin|lib|share)/[\w./-]*dss[\w./-]*\w)", page.read_text())) - OF_OTHERS:
-            found += [f"{page.relative_to(root)}: /{path} is not there"] if not (root / path).exists() else []
+            found += [f"{page.relative_to(root)}: /{path} does not exist"] if not (root / path).exists() else []
     return found
 
 
 def example(root):
-    """The example that pages name runs where they are installed, with the program on the path."""
+    """The example in the pages runs where they are installed, with the program on the path."""
     if not shutil.which("curl"):
         return []
     port = free_port()
@@ -82,7 +82,7 @@ def example(root):
 
 
 def options(root):
-    """The options that units and pages give to the program's commands are theirs."""
+    """Units and pages give only existing options to the program's commands."""
     texts = [(it.relative_to(TOP), it.read_text()) for it in (*TOP.glob("*.md"), *TOP.glob("*/*.md"), TOP / "Dockerfile")]
     texts += [(it.relative_to(TOP), it.read_text()) for it in (TOP / "deploy").rglob("*") if it.suffix in (".service", ".conf")]
     said, found, seen = {}, [], 0
@@ -94,11 +94,11 @@ def options(root):
                 asked = re.findall(r"(?<!\S)\[?(--[\w-]+)", words)
                 seen += len(asked)
                 found += [f"{place}: dss {command} has no {it}" for it in asked if not re.search(rf"{it}\b", said[command])]
-    return found + ([] if seen > 50 else [f"{seen} options were seen"])
+    return found + ([] if seen > 50 else [f"{seen} options found, too few"])
 
 
 def said_by_lintian(package):
-    """The errors that lintian tells of a package, where it is here."""
+    """Returns lintian's errors for a package, if lintian is installed."""
     if not shutil.which("lintian"):
         return []
     status, output, error = run(["lintian", "--allow-root", "--fail-on", "error", str(package)])
@@ -106,7 +106,8 @@ def said_by_lintian(package):
 
 
 def units(root):
-    """What systemd says of the unit, alone and with those of three hosts, with the programs where they stand here."""
+    """Returns systemd's messages about the unit, alone and with those of three hosts, with the programs at their
+    location here."""
     if not shutil.which("systemd-analyze"):
         return []
     hosts, folder, settings = TOP / "deploy" / "hosts", root / "units", "dss.service.d/hosts.conf"
@@ -133,7 +134,7 @@ def units(root):
             (folder / name).write_text(text)
         asked = [str(folder / it) for it in names if it != settings]
         status, output, error = run(["systemd-analyze", "verify", "--man=no", *asked])
-        # systemd looks at units of the machine, too
+        # systemd also checks units of the machine.
         said = [it for it in (output + error).decode().splitlines() if "dss" in it]
         found += difference(f"systemd-analyze, {names}", (status, said), (0, []))
     shutil.rmtree(folder)
@@ -141,7 +142,7 @@ def units(root):
 
 
 def completed(root, *words):
-    """What bash offers for the last of the words of a command line."""
+    """Returns bash's completions for the last word of a command line."""
     file = root / "usr/share/bash-completion/completions/dss"
     script = f'. {file}; COMP_WORDS=("$@"); COMP_CWORD=$(($# - 1)); _dss; printf "%s\\n" "${{COMPREPLY[@]}}"'
     status, output, error = run(["bash", "-c", script, "bash", "dss", *words], folder=TOP / "examples")
@@ -149,7 +150,7 @@ def completed(root, *words):
 
 
 def completions(root):
-    found = [f"{it} is not offered" for it in COMMANDS if it not in completed(root, "")]
+    found = [f"{it} is missing from the completions" for it in COMMANDS if it not in completed(root, "")]
     found += difference("se", completed(root, "se")[:1], ["serve"] if "serve" in completed(root, "se") else ["self"])
     found += difference("--to", completed(root, "run", "--to"), ["--tokens"])
     found += difference("--d", completed(root, "upgrade", "--d"), ["--db"])
@@ -163,12 +164,12 @@ def completions(root):
 
 
 def told(*words):
-    """The lines that dpkg-deb prints."""
+    """Returns the lines that dpkg-deb prints."""
     return subprocess.run(["dpkg-deb", *words], capture_output=True, text=True, check=True).stdout.splitlines()
 
 
 def package():
-    """The package is made of the release alone, and what it has runs."""
+    """The package is made only of the release, and its contents run."""
     with Checkout(SOME) as it:
         made = it.top.parent
         status, output, error = it.run(["scripts/package", str(made)])
@@ -192,7 +193,7 @@ def package():
         one_space(it.top)
         packages[0].unlink()
         status, output, error = it.run(["scripts/package", str(made)])
-        found += difference("other sources", (status, "of other sources" in error, sorted(made.glob("*.deb"))), (1, True, []))
+        found += difference("other sources", (status, "from other sources" in error, sorted(made.glob("*.deb"))), (1, True, []))
         return found
 
 

@@ -1,4 +1,6 @@
-"""`dss sweep`: what has ended by a moment goes, in pieces, each whole or not at all, and all else stays to the letter."""
+"""`dss purge` removes what has ended by a given time.
+
+It works in chunks, each complete or not done at all. All other rows stay exactly the same."""
 import collections
 import fcntl
 import itertools
@@ -19,35 +21,35 @@ import tables
 import wire
 from changed_databases import Filled
 from databases import NOT_A_DSS, STORE, Room, ask, filled, sub_put, volume
-from database_copies import LOCK_AT, LOCK_LENGTH
+from backup_command import LOCK_AT, LOCK_LENGTH
 from devices import library
 from failing_files import NOT_CLOSED, Failing
-from operators import Operated
+from admin_port import AdminService
 from program import BUILT, TOP, first_difference, run
 from sockets import difference
 from without_memory import each_refused
-from words import SWEEP_IN_FUTURE
+from arguments import PURGE_IN_FUTURE
 
-# the moment of the calls, and one that is past for a sweep
+# The time of the calls, and one that is past for a purge.
 NOW, LATER = 1_000, 10_000
-# fewer intents, constraints and subscriptions than go in one transaction, but for the last
-LEAST = 64
-FUTURE = f"{SWEEP_IN_FUTURE}\n"
+# At least so many intents, constraints and subscriptions are removed in one transaction, except the last.
+MIN = 64
+FUTURE = f"{PURGE_IN_FUTURE}\n"
 CLOCK, MEMORY = b"dss: clock\n", b"dss: memory\n"
 SEEDS, CHUNK, CHUNKS = range(40, 44), 25, 8
-# a scene of many: intents and subscriptions that end at once, and those that stay
+# A scene of many: intents and subscriptions that end at once, and those that stay.
 ENDED, STAYING = 600, 60
-# places among the calls on files at which a machine stops, and how often the program is killed
+# Positions among the calls on files at which a machine stops, and how often the program is killed.
 STOPS, KILLS = lengths.of(8, 16), lengths.of(4, 8)
-# of growths of memory, one in so many is refused; of the ways in which calls on files fail, of which every second one is with all
-# after it, one in so many
+# One of so many memory allocations is refused. Calls on files fail alone or with all after it, in turn: one of so many
+# of these ways is tried.
 STEP, CALLS_STEP = 61, 9
 CELL = ("89c25904", 288901920, 288901920)
 ID = "00000000-0000-4000-8000-{:012x}".format
 
 
 def printed(intents, constraints, subscriptions):
-    """What a sweep prints of how much went."""
+    """Returns the output of a purge that removed that many."""
     return f"purged {intents} intents, {constraints} constraints, {subscriptions} subscriptions\n".encode()
 
 
@@ -55,22 +57,22 @@ def done(*counts):
     return 0, printed(*counts), b""
 
 
-class Swept(Room):
-    """A room whose database is swept."""
+class PurgeRoom(Room):
+    """A room whose database is purged."""
 
-    def words_of_sweep(self, until, now=LATER, database=None):
+    def purge_arguments(self, until, now=LATER, database=None):
         moment = [] if now is None else ["--now", f"{now}"]
         return [BUILT, "purge", "--db", str(database or self.database), "--until", f"{until}", *moment]
 
-    def sweep(self, until, now=LATER, database=None, more=None):
-        return run(self.words_of_sweep(until, now, database), more=more)
+    def purge(self, until, now=LATER, database=None, more=None):
+        return run(self.purge_arguments(until, now, database), more=more)
 
 
-# ---- what is to be left, by the rows of a database
+# ---- the rows that a purge leaves
 
 
-def swept_rows(rows, until):
-    """The rows after a sweep, by those before it."""
+def purged_rows(rows, until):
+    """Returns the rows after a purge, given those before it."""
     ends = collections.defaultdict(list)
     for entity, _, _, _, _, end in rows["volume"]:
         ends[entity].append(end)
@@ -83,24 +85,25 @@ def swept_rows(rows, until):
 
 
 def gone(before, after):
-    """How many intents, constraints and subscriptions are in the rows before and not in those after."""
+    """Returns how many intents, constraints and subscriptions are in the rows before and not in those after."""
     kinds = [collections.Counter(kind for _, kind, *_ in rows["entity"]) for rows in (before, after)]
     entities = [kinds[0][it] - kinds[1][it] for it in (0, 1)]
     return *entities, len(before["subscription"]) - len(after["subscription"])
 
 
 def wrong_part(before, database, until):
-    """What is wrong with a database that is swept in part: each row is one of those before, and what a sweep would leave of it is what
-    it would leave of those."""
+    """Returns what is wrong with a partly purged database: each row is one of those before, and a purge of it would
+    leave what a purge of the rows before would leave."""
     rows = tables.rows_in(database)
     found = tables.wrong_in(database)
     found += [f"{it}: more than before" for it in rows if not set(rows[it]) <= set(before[it])]
-    return found + difference("what is left of it", swept_rows(rows, until) == swept_rows(before, until), True)
+    return found + difference("what is left of it", purged_rows(rows, until) == purged_rows(before, until), True)
 
 
-def wrong_pieces(parts, before, after):
-    """Whether sweeps that were broken off left many different parts: so many as there are pieces, and not as there are rows."""
-    most = sum(gone(before, after)) // LEAST + 3
+def wrong_chunks(parts, before, after):
+    """Returns whether aborted purges left the expected number of different parts: that of the chunks, and not that of
+    the rows."""
+    most = sum(gone(before, after)) // MIN + 3
     return [] if 2 < len(parts) <= most else [f"{len(parts)} parts of at most {most}: {dict(sorted(parts.items()))}"]
 
 
@@ -111,12 +114,12 @@ UNTIL = 3_000
 A1, A2, A3, A4, A5, C1, C2, D1, D2, D3, D4, D5 = (
     f"00000000-0000-4000-8000-0000000000{it}" for it in ("a1", "a2", "a3", "a4", "a5", "c1", "c2", "d1", "d2", "d3", "d4", "d5")
 )
-# what has not ended by then, or is named by such
+# These have not ended by then, or are referenced by such.
 STAY = {(0, A2), (0, A4), (1, C2)}, {D1, D4, D5}
 
 
 def put_intent(id_, token, height, times, names=None):
-    """An intent at a height of its own, with a volume for each time."""
+    """Returns an intent at an altitude of its own, with a volume for each time."""
     extents = [volume(["89c25904"], (height, height + 5), it) for it in times]
     put = {"extents": extents, "state": "Accepted", "uss_base_url": "https://a.example", "key": []}
     return "PUT", f"{wire.INTENTS}/{id_}", token, put | ({"subscription_id": names} if names else {})
@@ -134,8 +137,8 @@ def put_subscription(id_, token, times):
 
 
 def by_hand_calls():
-    """What is kept: of each kind what ended before, just at and just after the moment, with volumes of both kinds, and subscriptions
-    that are named by what stays, by what goes, by both and by nothing."""
+    """Returns calls that store, of each kind, what ended before, just at and just after the time, with volumes of both
+    kinds. Subscriptions are referenced by what stays, by what is purged, by both and by nothing."""
     return [
         put_subscription(D1, "tok-b", (900, 2_000)),
         put_subscription(D2, "tok-b", (900, UNTIL)),
@@ -154,7 +157,8 @@ def by_hand_calls():
 
 
 def looks():
-    """What looks at all of it, and changes nothing; then a change, which takes the next serial, and one that names what went."""
+    """Returns reads of everything, which change nothing; then a change, which takes the next serial, and one that
+    references what was purged."""
     seen = [("GET", f"{wire.INTENTS}/{it}", "tok-a", None) for it in (A1, A2, A3, A4, A5)]
     seen += [("GET", f"{wire.CONSTRAINTS}/{it}", "tok-c", None) for it in (C1, C2)]
     seen += [("GET", f"{wire.SUBSCRIPTIONS}/{it}", token, None) for it in (D1, D2, D3, D4, D5) for token in ("tok-a", "tok-b")]
@@ -180,7 +184,7 @@ def policy():
 
 
 def differs(room, airspace, calls, now=NOW):
-    """How calls over a database are answered otherwise than the plain policy says."""
+    """Returns how responses to calls over a database differ from the plain policy's."""
     wanted = [
         airspace.ask(method, target, f"Bearer {token}", None if body is None else wire.compact(body).encode()).text()
         for method, target, token, body in calls
@@ -191,35 +195,35 @@ def differs(room, airspace, calls, now=NOW):
 
 
 def by_hand():
-    """What goes and what stays, and what is told of it before and after; a second sweep, and one until an earlier moment, find
-    nothing; the next change has the next serial."""
-    with Swept() as room:
+    """A purge removes and leaves the expected rows, and reads give the expected responses before and after it. A second
+    purge, and one until an earlier time, find nothing. The next change has the next serial."""
+    with PurgeRoom() as room:
         airspace = policy()
         found = differs(room, airspace, by_hand_calls())
         before = tables.rows_in(room.database)
-        found += difference("until the first end", room.sweep(1_499), done(0, 0, 0))
+        found += difference("until the first end", room.purge(1_499), done(0, 0, 0))
         found += difference("its rows", tables.rows_in(room.database), before)
-        counts = airspace.sweep(UNTIL)
+        counts = airspace.purge(UNTIL)
         found += difference("the plain policy", counts, (3, 1, 2))
-        found += difference("a sweep", room.sweep(UNTIL), done(3, 1, 2))
+        found += difference("a purge", room.purge(UNTIL), done(3, 1, 2))
         rows = tables.rows_in(room.database)
         stay = {(kind, id_) for _, kind, id_, *_ in rows["entity"]}, {id_ for _, id_, *_ in rows["subscription"]}
-        found += difference("what stays", stay, STAY) + difference("rows", rows, swept_rows(before, UNTIL))
+        found += difference("what stays", stay, STAY) + difference("rows", rows, purged_rows(before, UNTIL))
         for until in UNTIL, UNTIL - 1, 0:
-            found += difference(f"again until {until}", room.sweep(until), done(0, 0, 0))
+            found += difference(f"again until {until}", room.purge(until), done(0, 0, 0))
         found += difference("rows then", tables.rows_in(room.database), rows) + tables.wrong_in(room.database)
         found += differs(room, airspace, looks())
-        # what names it went, so the next sweep takes it
-        found += difference("one that was freed", room.sweep(UNTIL), done(*airspace.sweep(UNTIL)))
-        found += difference("all", room.sweep(9_000, 9_000), done(*airspace.sweep(9_000)))
+        # What referenced it was purged, so the next purge removes it.
+        found += difference("one that was freed", room.purge(UNTIL), done(*airspace.purge(UNTIL)))
+        found += difference("all", room.purge(9_000, 9_000), done(*airspace.purge(9_000)))
         left = {it: len(rows) for it, rows in tables.rows_in(room.database).items() if rows}
         found += difference("what is left", left, {"availability": 1, "meta": 1})
         return found + differs(room, airspace, [put_intent(A1, "tok-a", 0, [(900, 20_000)])])
 
 
 def reported():
-    """The report has neither line nor cell of what went, and the same serial."""
-    with Swept() as room:
+    """The report has neither line nor cell of what was purged, and the same serial."""
+    with PurgeRoom() as room:
         differs(room, policy(), by_hand_calls())
         found = []
         for flags, wanted in ([], [A2, A4, C2]), (["--cells"], [A2, A2, A4, C2, C2]):
@@ -228,7 +232,7 @@ def reported():
                 copy.write_bytes(room.database.read_bytes())
                 words = [BUILT, "report", "--db", str(copy), *flags]
                 before = run(words)
-                found += difference("a sweep", room.sweep(UNTIL, database=copy)[0], 0)
+                found += difference("a purge", room.purge(UNTIL, database=copy)[0], 0)
                 after = run(words)
                 lines = [it for it in before[1].splitlines() if it.startswith(b"serial") or it.split()[1].decode() in wanted]
                 found += difference(f"the report {flags}", after, (0, b"".join(it + b"\n" for it in lines), b""))
@@ -237,77 +241,78 @@ def reported():
         return found
 
 
-def not_told():
-    """Where the system tells no time nothing is opened; where what it prints cannot be written, that is told, and it is swept."""
-    with Swept() as room, connections.Room() as devices:
+def not_reported():
+    """If the system gives no time, nothing is opened. If the output cannot be written, that is reported, and the purge
+    is done."""
+    with PurgeRoom() as room, connections.Room() as devices:
         none = pathlib.Path(room.folder.name, "none.db")
-        found = difference("no time", room.sweep(1, None, none, {"LD_PRELOAD": devices.library, "CLOCK_FAILS": "1"}), (1, b"", CLOCK))
+        found = difference("no time", room.purge(1, None, none, {"LD_PRELOAD": devices.library, "CLOCK_FAILS": "1"}), (1, b"", CLOCK))
         found += difference("a file that was made", none.exists(), False)
         differs(room, policy(), by_hand_calls())
         before = tables.rows_in(room.database)
-        got = room.sweep(UNTIL, more={"LD_PRELOAD": devices.library, "WRITE_FAILS": "1"})
+        got = room.purge(UNTIL, more={"LD_PRELOAD": devices.library, "WRITE_FAILS": "1"})
         found += difference("not written", got, (1, b"", b"dss: output\n"))
-        return found + difference("its rows", tables.rows_in(room.database), swept_rows(before, UNTIL))
+        return found + difference("its rows", tables.rows_in(room.database), purged_rows(before, UNTIL))
 
 
 def of_nothing():
-    """A database without anything, and one that is not there, as `report` takes it."""
-    with Swept() as room:
-        found = difference("no file", room.sweep(UNTIL), done(0, 0, 0))
+    """An empty database, and one that does not exist: `purge` makes it, as `report` does."""
+    with PurgeRoom() as room:
+        found = difference("no file", room.purge(UNTIL), done(0, 0, 0))
         found += difference("its rows", {it: rows for it, rows in tables.rows_in(room.database).items() if rows}, {"meta": [(1, 2, 0)]})
-        return found + difference("nothing", room.sweep(LATER), done(0, 0, 0))
+        return found + difference("nothing", room.purge(LATER), done(0, 0, 0))
 
 
 def refused():
-    """A moment in the future is refused before anything is opened, by the clock or by `--now`; a file that is none or is held is
-    told as other commands tell it. Nothing is changed."""
+    """A time in the future is rejected before anything is opened, by the clock or by `--now`. A file that is no
+    database or is held is reported as by other commands. Nothing is changed."""
     found, clock = [], int(time.time())
-    with Swept() as room:
+    with PurgeRoom() as room:
         differs(room, policy(), by_hand_calls())
         before = room.database.read_bytes()
         for until, now in (clock + 60, None), (UNTIL + 1, UNTIL), (253_402_300_799, None), (1, 0):
-            got = room.sweep(until, now)
+            got = room.purge(until, now)
             found += difference(f"until {until} at {now}", got, (1, b"", FUTURE.encode()))
-            got = room.sweep(until, now, f"{room.folder.name}/none.db")
+            got = room.purge(until, now, f"{room.folder.name}/none.db")
             found += difference(f"until {until} at {now}, of no file", got, (1, b"", FUTURE.encode()))
         found += difference("a file that was made", pathlib.Path(room.folder.name, "none.db").exists(), False)
         text = pathlib.Path(room.folder.name, "text")
         text.write_text("no database, but 4096 bytes of text\n" * 120)
         for name in text, room.folder.name, f"{room.folder.name}/no/dss.db":
-            found += difference(f"{name}", room.sweep(UNTIL, database=name), (1, b"", STORE))
+            found += difference(f"{name}", room.purge(UNTIL, database=name), (1, b"", STORE))
         found += difference("its bytes", room.database.read_bytes() == before, True)
         with room.database.open("r+b") as file:
             fcntl.lockf(file, fcntl.LOCK_EX, LOCK_LENGTH, LOCK_AT)
-            found += difference("a database in use", room.sweep(UNTIL), (1, b"", STORE))
-        # by the clock this is long past, and with --now it is just past
-        found += difference("by the clock", room.sweep(1_500, None), done(1, 0, 0))
-        found += difference("now", room.sweep(UNTIL, UNTIL), done(2, 1, 2))
+            found += difference("a database in use", room.purge(UNTIL), (1, b"", STORE))
+        # By the clock this is long past, and with --now it is just past.
+        found += difference("by the clock", room.purge(1_500, None), done(1, 0, 0))
+        found += difference("now", room.purge(UNTIL, UNTIL), done(2, 1, 2))
         room.query("DROP TABLE naming")
-        return found + difference("another database", room.sweep(UNTIL), (1, b"", NOT_A_DSS))
+        return found + difference("another database", room.purge(UNTIL), (1, b"", NOT_A_DSS))
 
 
-# ---- beside the plain policy
+# ---- compared with the plain policy
 
 
-def kept_by(airspace):
-    """What the plain policy keeps, as rows have it."""
+def stored_by(airspace):
+    """Returns what the plain policy stores, as rows."""
     entities = {(int(kind != plain_policy.INTENT), id_, it.version, it.serial) for (kind, id_), it in airspace.entities.items()}
     return entities, {(id_, it.serial, it.index) for id_, it in airspace.subscriptions.items()}, airspace.serial
 
 
-def kept_in(room):
+def stored_in(room):
     rows = tables.rows_in(room.database)
     entities = {(kind, id_, version, serial) for _, kind, id_, _, _, version, serial, *_ in rows["entity"]}
     return entities, {(it[1], it[3], it[5]) for it in rows["subscription"]}, rows["meta"][0][2]
 
 
 def drawn():
-    """Drawn calls with a sweep after each few are answered as the plain policy has it that was swept, too."""
+    """Drawn calls with a purge after every few of them get the responses of the plain policy, purged at the same times."""
     found, went = [], collections.Counter()
     for seed in [*SEEDS, *seeds.new("purge", 1)]:
         draw, airspace = drawn_calls.Draw(seed), plain_policy.Airspace(drawn_calls.NOW, drawn_calls.ALL_TOKENS)
         drawer = drawn_calls.Drawn(draw, airspace)
-        with Swept() as room:
+        with PurgeRoom() as room:
             for at in range(CHUNKS):
                 calls, wanted = [], []
                 for _ in range(CHUNK):
@@ -317,21 +322,22 @@ def drawn():
                 why = first_difference(wanted, wire.answers_of(output))
                 found += [f"seed {seed}, call {at * CHUNK}: {status}, {error!r}, {why}"] if why or status else []
                 until = drawn_calls.NOW + draw.below(1_000)
-                counts = airspace.sweep(until)
+                counts = airspace.purge(until)
                 went.update(dict(zip(("intents", "constraints", "subscriptions"), counts)))
-                found += difference(f"seed {seed}, sweep {at}", room.sweep(until), done(*counts))
-                found += difference(f"seed {seed}, kept after {at}", kept_in(room), kept_by(airspace))
+                found += difference(f"seed {seed}, purge {at}", room.purge(until), done(*counts))
+                found += difference(f"seed {seed}, kept after {at}", stored_in(room), stored_by(airspace))
             found += [f"seed {seed}: {it}" for it in tables.wrong_in(room.database)]
-    print(f"sweeps among drawn calls took {dict(went)}")
+    print(f"purges among drawn calls removed {dict(went)}")
     return found + [f"no {it} went" for it, count in went.items() if not count]
 
 
-# ---- in pieces
+# ---- in chunks
 
 
 def many(ended=ENDED, staying=STAYING):
-    """Rows of many intents and constraints of one cell, every second one with a subscription, of which it names its own where it is an
-    intent. Those that end do so before `UNTIL`; of the subscriptions of those that stay half have ended, and are named."""
+    """Returns rows of many intents and constraints of one cell, every second one with a subscription, which it
+    references if it is an intent. Those that end do so before `UNTIL`. Of the subscriptions of those that stay half
+    have ended, and are referenced."""
     rows, serial = collections.defaultdict(list), 0
     for number in range(ended + staying):
         end = UNTIL - number % 7 if number < ended else LATER
@@ -352,7 +358,7 @@ def many(ended=ENDED, staying=STAYING):
 
 
 def made_of(file, rows):
-    """A database with these rows, as the program closes it; its rows then."""
+    """Makes a database with these rows, as the program closes it; returns its rows."""
     tables.make(file, 2, {it: all_ for it, all_ in rows.items() if it != "meta"})
     with tables.opened(file) as database:
         database.execute(f"UPDATE meta SET serial = {rows['meta'][0][2]}")
@@ -360,16 +366,16 @@ def made_of(file, rows):
     return tables.rows_in(file)
 
 
-def in_pieces():
-    """Many go in one sweep, and all that stays is as it was."""
-    with Swept() as room:
+def in_chunks():
+    """One purge removes many, and all that stays is as it was."""
+    with PurgeRoom() as room:
         before = made_of(room.database, many())
-        after = swept_rows(before, UNTIL)
+        after = purged_rows(before, UNTIL)
         counts = gone(before, after)
-        found = difference("a sweep", room.sweep(UNTIL), done(*counts))
+        found = difference("a purge", room.purge(UNTIL), done(*counts))
         found += difference("its rows", tables.rows_in(room.database) == after, True) + tables.wrong_in(room.database)
         size = room.database.stat().st_size
-        # what it freed is used again
+        # Freed pages are used again.
         for at in range(3):
             status, output, _ = room.serve([ask(*put_intent(ID(5_000 + at * 50 + it), "tok-a", 100, [(20_000 + it, 20_000 + it)])) for it in range(50)])
             found += difference("creations", (status, output.count(b"HTTP/1.1 201 ")), (0, 50 * (at == 0)))
@@ -377,23 +383,24 @@ def in_pieces():
 
 
 def finished(name, room, database, before):
-    """What is wrong with a sweep that was broken off, and with the one that makes the rest."""
+    """Returns what is wrong with an aborted purge, and with the one that completes it."""
     found = [f"{name}: {it}" for it in wrong_part(before, database, UNTIL)]
-    rest = gone(tables.rows_in(database), swept_rows(before, UNTIL))
-    found += difference(f"{name}: the rest", room.sweep(UNTIL, database=database), done(*rest))
-    return found + difference(f"{name}: rows", tables.rows_in(database) == swept_rows(before, UNTIL), True)
+    rest = gone(tables.rows_in(database), purged_rows(before, UNTIL))
+    found += difference(f"{name}: the rest", room.purge(UNTIL, database=database), done(*rest))
+    return found + difference(f"{name}: rows", tables.rows_in(database) == purged_rows(before, UNTIL), True)
 
 
 def machine_stops():
-    """A machine that stops among the pieces, by what a disk may have kept: whole pieces are found, and the next sweep makes the rest."""
+    """A machine stops between the chunks. Whatever a disk may have persisted, whole chunks are found, and the next
+    purge completes the work."""
     found, parts = [], collections.Counter()
-    with Swept() as room:
+    with PurgeRoom() as room:
         machine = crashes.Machine(room, [])
         before = made_of(machine.saved / "dss.db", many())
-        words = lambda database: room.words_of_sweep(UNTIL, database=database)
+        words = lambda database: room.purge_arguments(UNTIL, database=database)
         status, _, calls = machine.run(words(machine.again()))
         if status or not calls:
-            return [f"a sweep: {status}, {calls} calls"]
+            return [f"a purge: {status}, {calls} calls"]
         places = sorted({1, 2, calls - 1, calls} | {1 + at * (calls - 1) // STOPS for at in range(STOPS)})
         for kept in crashes.KEPT:
             for at in places:
@@ -402,38 +409,38 @@ def machine_stops():
                 found += difference(f"call {at} of {calls}, {kept} kept", (status, output if at < calls else b""), (crashes.STOPPED, b""))
                 parts[sum(gone(before, tables.rows_in(crashes.copied(database))))] += 1
                 found += finished(f"call {at} of {calls}, {kept} kept", room, database, before)
-    print(f"a machine that stopped among {calls} calls on files left so much swept: {dict(sorted(parts.items()))}")
-    return found + wrong_pieces(parts, before, swept_rows(before, UNTIL))
+    print(f"a machine that stopped among {calls} calls on files left these parts: {dict(sorted(parts.items()))}")
+    return found + wrong_chunks(parts, before, purged_rows(before, UNTIL))
 
 
 def killed():
-    """The program is killed in the middle: the same."""
+    """The same if the program is killed in the middle."""
     found, parts = [], collections.Counter()
-    with Swept() as room:
+    with PurgeRoom() as room:
         before = made_of(room.database, many(3 * ENDED))
         saved = room.database.read_bytes()
         began = time.monotonic()
-        found += difference("a sweep", room.sweep(UNTIL)[0], 0)
+        found += difference("a purge", room.purge(UNTIL)[0], 0)
         took = time.monotonic() - began
         for at in range(KILLS):
             room.database.write_bytes(saved)
             room.database.with_name("dss.db-wal").unlink(missing_ok=True)
-            with subprocess.Popen(room.words_of_sweep(UNTIL), stdout=subprocess.PIPE, stderr=subprocess.PIPE) as program:
+            with subprocess.Popen(room.purge_arguments(UNTIL), stdout=subprocess.PIPE, stderr=subprocess.PIPE) as program:
                 time.sleep(took * (at + 1) / (KILLS + 2))
                 program.kill()
             copy = crashes.copied(room.database)
             parts[sum(gone(before, tables.rows_in(copy)))] += 1
             found += finished(f"kill {at}", room, room.database, before)
-    print(f"a program that was killed left so much swept: {dict(sorted(parts.items()))}")
-    return found + wrong_pieces(parts, before, swept_rows(before, UNTIL))
+    print(f"a program that was killed left these parts: {dict(sorted(parts.items()))}")
+    return found + wrong_chunks(parts, before, purged_rows(before, UNTIL))
 
 
 def files_fail():
-    """Calls on files fail, one in so many, alone and with all after it: it is told, the pieces that were made stand, and the next sweep
-    makes the rest."""
+    """Calls on files fail, one in so many, alone and with all after it: that is reported, completed chunks stay, and
+    the next purge completes the work."""
     found, ends = [], collections.Counter()
 
-    class Place(Failing, Swept):
+    class Place(Failing, PurgeRoom):
         """A room of both kinds."""
 
     with Place() as room:
@@ -444,21 +451,21 @@ def files_fail():
             room.database.write_bytes(saved)
             room.database.with_name("dss.db-wal").unlink(missing_ok=True)
 
-        for more in itertools.islice(room.ways(room.words_of_sweep(UNTIL), b"", again), 0, None, CALLS_STEP):
+        for more in itertools.islice(room.ways(room.purge_arguments(UNTIL), b"", again), 0, None, CALLS_STEP):
             again()
-            status, output, error = room.run(room.words_of_sweep(UNTIL), b"", more)
+            status, output, error = room.run(room.purge_arguments(UNTIL), b"", more)
             ends[(status, error)] += 1
             is_right = (error == b"" and output != b"") if status == 0 else status == 1 and output == b"" and error in (STORE, NOT_CLOSED)
             found += [] if is_right else [f"{more}: {status}, {output!r}, {error!r}"]
             found += finished(f"{more}", room, room.database, before)
-    print(f"a sweep: of {room.count} calls on files some failed, alone and with all after it: {dict(ends)}")
+    print(f"a purge: of {room.count} calls on files some failed, alone and with all after it: {dict(ends)}")
     return found + ([] if {status for status, _ in ends} == {0, 1} else [f"only {dict(ends)}"])
 
 
 def without_memory(step=STEP):
-    """Growths of memory are refused in turn: the same."""
+    """The same if memory allocations are refused in turn."""
     found, ends = [], collections.Counter()
-    with Swept() as room:
+    with PurgeRoom() as room:
         before = made_of(room.database, many(ENDED // 2))
         saved = room.database.read_bytes()
 
@@ -466,12 +473,12 @@ def without_memory(step=STEP):
             room.database.write_bytes(saved)
             room.database.with_name("dss.db-wal").unlink(missing_ok=True)
 
-        for at, (status, output, error), is_refused in each_refused(room.words_of_sweep(UNTIL), step=step, before=again):
+        for at, (status, output, error), is_refused in each_refused(room.purge_arguments(UNTIL), step=step, before=again):
             ends[(status, error)] += 1
             told = error == b"" and output != b"" if status == 0 else is_refused and status == 1 and output == b"" and error in (STORE, NOT_CLOSED, MEMORY)
-            found += [] if told else [f"growth {at}: {status}, {output!r}, {error!r}"]
-            found += finished(f"growth {at}", room, room.database, before)
-    print(f"a sweep: one in {step} of its growths of memory refused: {dict(ends)}")
+            found += [] if told else [f"allocation {at}: {status}, {output!r}, {error!r}"]
+            found += finished(f"allocation {at}", room, room.database, before)
+    print(f"a purge: one of {step} of its memory allocations refused: {dict(ends)}")
     return found
 
 
@@ -479,27 +486,27 @@ def without_memory(step=STEP):
 
 
 def older():
-    """A database of format 1 is moved as it is opened, and swept."""
-    with Filled(1) as old, Swept() as room:
+    """A database of format 1 is upgraded when it is opened, and purged."""
+    with Filled(1) as old, PurgeRoom() as room:
         room.database.write_bytes(old.database.read_bytes())
         before = tables.rows_in(room.database)
         ends = [end for *_, end in before["volume"]]
-        found = difference("a sweep until the first end", room.sweep(min(ends) - 1)[::2], (0, b""))
+        found = difference("a purge until the first end", room.purge(min(ends) - 1)[::2], (0, b""))
         rows = tables.rows_in(room.database)
         found += difference("its format", rows["meta"][0][1], 2) + difference("its entities", rows["entity"], before["entity"])
-        got = room.sweep(max(ends) - 1, max(ends))
-        return found + difference("a sweep", got, done(*gone(rows, swept_rows(rows, max(ends) - 1)))) + tables.wrong_in(room.database)
+        got = room.purge(max(ends) - 1, max(ends))
+        return found + difference("a purge", got, done(*gone(rows, purged_rows(rows, max(ends) - 1)))) + tables.wrong_in(room.database)
 
 
 def small_file():
-    """The commands of docs/OPERATE.md make a smaller file with the same rows and report, which gets a mirror; one that `VACUUM` made is
-    taken without."""
+    """The commands of docs/OPERATE.md make a smaller file with the same rows and report, which gets a mirror. One that
+    `VACUUM` made is accepted without a mirror."""
     text = (TOP / "docs" / "OPERATE.md").read_text().partition("### Shrinking the database file\n")[2]
     block = re.search(r"(?m)^    \(umask(?:.*\n(?=    ))*.*$", text)[0].replace("./dss", BUILT)
     found = []
-    with Swept() as room:
+    with PurgeRoom() as room:
         made_of(room.database, many(4 * ENDED))
-        found += difference("a sweep", room.sweep(UNTIL)[0], 0)
+        found += difference("a purge", room.purge(UNTIL)[0], 0)
         small = room.database.with_name("small.db")
         found += difference("the commands", run(["bash", "-e", "-c", block], folder=room.folder.name)[::2], (0, b""))
         found += difference("rows", tables.rows_in(small) == tables.rows_in(room.database), True) + tables.wrong_in(small)
@@ -511,10 +518,10 @@ def small_file():
         with tables.opened(room.database) as database:
             database.execute("VACUUM")
         found += difference("VACUUM", run([BUILT, "report", "--db", str(room.database)]), reports[0])
-        # of this one no copy in memory is made, without which it is not told what has ended
-        found += difference("a sweep of it", room.sweep(UNTIL), (1, b"", NOT_CLOSED))
+        # This one gets no mirror, without which it does not know what has ended.
+        found += difference("a purge of it", room.purge(UNTIL), (1, b"", NOT_CLOSED))
         for file, copy in (small, "1"), (room.database, "0"):
-            with Operated() as started:
+            with AdminService() as started:
                 started.kill()
                 for end in "", "-wal":
                     started.folder.joinpath(f"dss.db{end}").unlink(missing_ok=True)
@@ -525,17 +532,17 @@ def small_file():
 
 
 CASES = {
-    "sweep-by-hand": by_hand,
-    "sweep-reported": reported,
-    "sweep-not-told": not_told,
-    "sweep-of-nothing": of_nothing,
-    "sweep-refused": refused,
-    "sweep-among-drawn-calls": drawn,
-    "sweep-in-pieces": in_pieces,
-    "machine-that-stops-in-a-sweep": machine_stops,
-    "killed-in-a-sweep": killed,
-    "sweep-whose-calls-fail": files_fail,
-    "sweep-without-memory": without_memory,
-    "sweep-of-an-older-database": older,
-    "sweep-and-a-small-file": small_file,
+    "purge-by-hand": by_hand,
+    "purge-reported": reported,
+    "purge-not-reported": not_reported,
+    "purge-of-nothing": of_nothing,
+    "purge-rejected": refused,
+    "purge-among-drawn-calls": drawn,
+    "purge-in-chunks": in_chunks,
+    "machine-that-stops-in-a-purge": machine_stops,
+    "killed-in-a-purge": killed,
+    "purge-whose-calls-fail": files_fail,
+    "purge-without-memory": without_memory,
+    "purge-of-an-older-database": older,
+    "purge-and-a-small-file": small_file,
 }

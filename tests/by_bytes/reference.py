@@ -1,5 +1,6 @@
-"""What docs/OPERATE.md has of the sources: the parts that scripts/reference makes, the lines that are printed, the bodies of
-the admin port, and the alerts."""
+"""Compares docs/OPERATE.md with the sources.
+
+It compares the parts that scripts/reference makes, printed lines, bodies of the admin port, and alerts."""
 import re
 import runpy
 
@@ -42,7 +43,7 @@ def alerts():
     """The page has each alert, and no other."""
     told = set(re.findall(r"`(Dss[A-Z]\w+)`", PAGE.read_text()))
     rules = set(re.findall(r"- alert: (\w+)", (TOP / "deploy" / "prometheus-rules.yaml").read_text()))
-    return [f"{it} is in one of docs/OPERATE.md and the rules alone" for it in sorted(told ^ rules)]
+    return [f"{it} is only in one of docs/OPERATE.md and the rules" for it in sorted(told ^ rules)]
 
 
 CASES = {

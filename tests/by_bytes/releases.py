@@ -1,8 +1,10 @@
-"""The release beside the sources: ./dss runs what stands built here, else the release, else what it builds, and never a
-program of other sources; and what `./check all` says of the release.
+"""The release beside the sources, and what ./dss runs.
 
-Each case has a copy of what ./dss reads, with a release that scripts/release makes there of the program that is tested. No
-kit is on the path, or one that stands for it: it builds by copying that program."""
+./dss runs the program built here, else the release, else one that it builds, and never a program of other sources.
+Cases also cover what `./check all` prints about the release.
+
+Each case has a copy of the files that ./dss reads, with a release that scripts/release makes there of the tested
+program. The path has no kit, or a replacement: it builds by copying that program."""
 import contextlib
 import fnmatch
 import os
@@ -19,13 +21,13 @@ GIVEN = (TOP / "examples" / "availability.http").read_bytes()
 WANTED = (TOP / "examples" / "availability.answers").read_bytes()
 FIRST_ANSWER = 3.0
 AT_ONCE = 8
-# the crates of most cases
+# The crates of most cases.
 SOME = "dss*"
-NO_KIT = ", and the command rt is not on PATH, which proves and builds: nothing is run"
-OTHER_SOURCES = "the release is of other sources"
+NO_KIT = ", and the command rt of the Rattle kit, which could build the program, is not on PATH"
+OTHER_SOURCES = "the release was made from other sources"
 DAMAGED = "the release is damaged"
 ASKED = "DSS_BUILD asks for a build"
-# what stands for the kit, and for the tests by bytes, of growths, of the gateway, of the suite and of three hosts
+# Replacements of the kit, and of the byte-exact tests and those of allocations, the gateway, the suite and three hosts.
 KIT = """#!/bin/sh
 case $1 in
 version) echo a kit of tests ;;
@@ -61,12 +63,13 @@ def script(path, text):
 
 
 def without_kit():
-    """The folders on the path that have no kit in them."""
+    """Returns the directories on the path that have no kit in them."""
     return ":".join(it for it in os.environ["PATH"].split(":") if not pathlib.Path(it, "rt").exists())
 
 
 class Checkout:
-    """A copy of what ./dss reads, in a folder that every user can read, with a release: of all crates, or of some of them."""
+    """A copy of the files that ./dss reads, in a directory that every user can read, with a release: of all crates, or
+    of some of them."""
 
     def __init__(self, crates="*"):
         self.room = tempfile.TemporaryDirectory()
@@ -120,15 +123,16 @@ class Checkout:
         return ["dss", "run", "--tokens", "examples/tokens.toml", "--now", "1000", "-"]
 
     def ask(self, **how):
-        """What ./dss answers to the first request of the README."""
+        """Returns the response of ./dss to the first request of the README."""
         return self.run(self.words(), GIVEN, **how)
 
     def refused(self, why):
-        """How ./dss differs from running nothing without a kit, and from building with one, both for this reason."""
+        """Returns how ./dss differs from running nothing without a kit, and from building with one, both for this
+        reason."""
         found = difference("no kit", self.ask(), (1, b"", f"dss: {why}{NO_KIT}\n"))
         status, output, error = self.ask(kit=True)
         first = error.splitlines()[:1]
-        wanted = 0, WANTED, [f"dss: {why}: the program is proved and built"]
+        wanted = 0, WANTED, [f"dss: {why}: proving and building the program"]
         return found + difference("with a kit", (status, output, first), wanted)
 
     def answered(self, what, said="", **how):
@@ -143,17 +147,17 @@ def difference(what, got, wanted):
 
 
 def first_answer():
-    """In a fresh clone without a kit, or what is left of one without git, the first answer comes at once."""
+    """In a fresh clone without a kit, also without git, the first response comes at once."""
     with Checkout() as it:
         began = time.monotonic()
         found = it.answered("first")
         took = time.monotonic() - began
-        print(f"the first answer of a fresh clone took {took:.2f} s")
-        found += [f"the first answer took {took:.2f} s"] if took >= FIRST_ANSWER else []
+        print(f"the first response of a fresh clone took {took:.2f} s")
+        found += [f"the first response took {took:.2f} s"] if took >= FIRST_ANSWER else []
         found += it.answered("second")
         it.top.joinpath("release", "made-of").unlink()
         found += it.answered("without the release, of what stands built")
-        # what stands built is so by content, whatever the times of files
+        # The build is recognized by content, whatever the times of files.
         it.source().touch()
         moved = it.top.rename(it.top.parent / "elsewhere")
         it.top = it.top.parent / "again"
@@ -162,7 +166,7 @@ def first_answer():
 
 
 def packed(change):
-    """Changes the packed program."""
+    """Returns a change of the packed program."""
     def spoil(top):
         file = top / "release" / "dss-x86_64-linux.gz"
         file.write_bytes(change(file.read_bytes()))
@@ -170,7 +174,7 @@ def packed(change):
 
 
 def noted(word, value):
-    """Changes what is noted of the release."""
+    """Returns a change of the release's record."""
     def spoil(top):
         file = top / "release" / "made-of"
         file.write_text(re.sub(rf"(?m)^{word} .*$", f"{word} {value}", file.read_text()))
@@ -182,7 +186,7 @@ def turned(data):
     return data[:at] + bytes([data[at] ^ 1]) + data[at + 1 :]
 
 
-# how a release is spoilt, and what is said of it
+# Ways to damage the release, and the message for each.
 SPOILT = [
     (packed(lambda it: it[: len(it) // 2]), DAMAGED),
     (packed(lambda it: it[:-1]), DAMAGED),
@@ -193,7 +197,7 @@ SPOILT = [
     (noted("program", ""), DAMAGED),
     (noted("sources", "0" * 64), OTHER_SOURCES),
     (noted("sources", ""), OTHER_SOURCES),
-    (noted("processor", "aarch64"), "the release is for the processor aarch64, and this one is x86_64"),
+    (noted("processor", "aarch64"), "the release is for aarch64, and this processor is x86_64"),
     (lambda top: (top / "release" / "made-of").write_text(""), OTHER_SOURCES),
     (lambda top: (top / "release" / "made-of").unlink(), "there is no release"),
     (lambda top: shutil.rmtree(top / "release"), "there is no release"),
@@ -201,7 +205,7 @@ SPOILT = [
 
 
 def spoilt():
-    """A spoilt release is not run: it is said so, and the program is built, where there is a kit."""
+    """A damaged release is not run: ./dss says so, and builds the program if there is a kit."""
     found = []
     with Checkout(SOME) as it:
         kept = it.top.parent / "kept"
@@ -219,7 +223,7 @@ def other_processor():
     """On another processor the release is not run."""
     with Checkout(SOME) as it:
         script(it.top.parent / "other" / "uname", "#!/bin/sh\necho aarch64\n")
-        why = "the release is for the processor x86_64, and this one is aarch64"
+        why = "the release is for x86_64, and this processor is aarch64"
         got = it.ask(more={"PATH": f"{it.top.parent}/other:{without_kit()}"})
         return difference("on another processor", got, (1, b"", f"dss: {why}{NO_KIT}\n"))
 
@@ -248,7 +252,7 @@ def one_line(top):
 
 
 def other_sources():
-    """Neither the release nor what was built before is run of sources that are others in one byte or one file."""
+    """If the sources differ in one byte or one file, neither the release nor the earlier build is run."""
     found = []
     with Checkout(SOME) as it:
         found += it.answered("of its own sources")
@@ -258,31 +262,31 @@ def other_sources():
             shutil.copytree(whole, it.top)
             edit(it.top)
             found += [f"{edit.__name__}: {fault}" for fault in it.refused(OTHER_SOURCES)]
-        # what was built of other sources is not run where the release serves, and is so no more afterwards
+        # A build of other sources is not run while the release matches, and no longer afterwards.
         shutil.rmtree(it.top / "release")
         shutil.copytree(whole / "release", it.top / "release")
         shutil.copy2(whole / "crates.txt", it.top / "crates.txt")
-        said = "dss: the program that was built here is of other sources: the release is run\n"
+        said = "dss: the program in .dss was built from other sources: running the release\n"
         return found + it.answered("of sources as before", said) + it.answered("again")
 
 
 def damaged_here():
-    """A program that was damaged where it stands is not run."""
+    """A program that was damaged after it was unpacked is not run."""
     with Checkout(SOME) as it:
         found = it.answered("first")
         built = it.top / ".dss" / "dss"
         built.write_bytes(turned(built.read_bytes()))
-        found += it.answered("damaged", "dss: the program that was built here is damaged: the release is run\n")
+        found += it.answered("damaged", "dss: the program in .dss is damaged: running the release\n")
         return found + it.answered("again")
 
 
 def asked_build():
-    """DSS_BUILD=source passes the release over, also where that stands unpacked, and takes what was built."""
+    """DSS_BUILD=source skips the release, even if it is unpacked, and uses the build."""
     more = {"DSS_BUILD": "source"}
     with Checkout(SOME) as it:
         found = it.answered("the release")
         found += difference("no kit", it.ask(more=more), (1, b"", f"dss: {ASKED}{NO_KIT}\n"))
-        said = f"dss: {ASKED}: the program is proved and built\ndss: dss proved, 1 of "
+        said = f"dss: {ASKED}: proving and building the program\ndss: dss proved, 1 of "
         status, output, error = it.ask(kit=True, more=more)
         found += difference("a build", (status, output, error[: len(said)]), (0, WANTED, said))
         return found + it.answered("what was built", more=more) + it.answered("what was built, and not asked for")
@@ -290,7 +294,7 @@ def asked_build():
 
 @contextlib.contextmanager
 def read_only(checkout):
-    """Words that start a command as one who cannot write the checkout."""
+    """Returns the start of a command that runs as a user who cannot write the checkout."""
     folders = [checkout.top, *(it for it in checkout.top.rglob("*") if it.is_dir())]
     try:
         for it in folders:
@@ -302,20 +306,20 @@ def read_only(checkout):
 
 
 def not_written():
-    """From a checkout that cannot be written the program runs out of the user's cache, and where that cannot be written either,
-    nothing is run."""
+    """From a read-only checkout the program runs out of the user's cache. If that cannot be written either, nothing is
+    run."""
     with Checkout(SOME) as it:
         with read_only(it) as start:
             found = it.answered("first", start=start) + it.answered("second", start=start)
             made = sorted(file.name for file in it.home.glob(".cache/dss/*/*"))
             found += difference("the cache", made, ["dss", "made-of"])
             status, output, error = it.ask(start=start, more={"HOME": "/proc"})
-            found += difference("no cache", (status, output, "can be written" in error), (1, b"", True))
+            found += difference("no cache", (status, output, "cannot write in" in error), (1, b"", True))
         return found + ([f"{it.top} was written"] if (it.top / ".dss").exists() else [])
 
 
 def at_once():
-    """First uses at one time all answer."""
+    """First uses at the same time all get their response."""
     with Checkout(SOME) as it:
         how = {"stdin": subprocess.PIPE, "stdout": subprocess.PIPE, "stderr": subprocess.PIPE, "cwd": it.top}
         started = [subprocess.Popen([it.top / "dss", *it.words()[1:]], env=it.environment(), **how) for _ in range(AT_ONCE)]
@@ -329,7 +333,7 @@ def at_once():
 
 
 def gate(what, checkout, words, passed, failed, said, skipped="", **how):
-    """How the gate's last line, its status or what it says differs."""
+    """Returns how the gate's last line, its status or its output differs."""
     status, output, error = checkout.run(words, kit=True, **how)
     lines = output.decode().splitlines() or [""]
     got = status != 0, lines[-1], said in output.decode()
@@ -338,9 +342,9 @@ def gate(what, checkout, words, passed, failed, said, skipped="", **how):
 
 
 def gates():
-    """The gate passes where the release is what it has built, and else says what to run."""
-    same = "the release is byte for byte the program that the gate has built"
-    run = "run scripts/release, and commit what it makes"
+    """The gate passes if the release is what it has built, and otherwise says what to run."""
+    same = "the release equals the program that the gate has built, byte for byte"
+    run = "run scripts/release, and commit the files that it makes"
     bad = {"COUNTS": "1 passed, 1 failed"}
     with Checkout(SOME) as it:
         found = gate("by bytes", it, ["check"], 1, 0, "1 passed, 0 failed")
@@ -361,7 +365,7 @@ def gates():
         made = it.top / "release" / "made-of"
         text = made.read_text()
         made.write_text(text.replace("kit a kit of tests", "kit another kit"))
-        found += gate("another kit", it, ["check", "all"], 7, 0, "they are not compared", more={"TESTED": str(other)})
+        found += gate("another kit", it, ["check", "all"], 7, 0, "the programs are not compared", more={"TESTED": str(other)})
         found += gate("another kit, same bytes", it, ["check", "all"], 7, 0, same)
         made.write_text(text)
         one_space(it.top)
@@ -372,13 +376,14 @@ def gates():
         return found + it.answered("the new release")
 
 
-# what processors before the third level of x86-64 do not know. They take tzcnt for bsf, and compilers write it for that
+# Instructions that processors below the third level of x86-64 do not know. They run tzcnt as bsf, and compilers use it
+# for that.
 NEWER = re.compile(r"\t(v(?!er[rw])\w+|andn|bextr|bls\w+|bzhi|mulx|pdep|pext|rorx|sarx|sh[lr]x|lzcnt|movbe)\b")
 GLIBC = (2, 34)
 
 
 def portable():
-    """The program asks for a C library of glibc 2.34 at most, and for processors of the second level of x86-64."""
+    """The program needs a C library of at most glibc 2.34, and processors of the second level of x86-64."""
     how = {"capture_output": True, "text": True, "check": True}
     versions = subprocess.run(["readelf", "-W", "-V", BUILT], **how).stdout
     asked = {tuple(map(int, it.split("."))) for it in re.findall(r"GLIBC_([\d.]+)", versions)}
@@ -391,7 +396,7 @@ def portable():
 
 
 def kit_of_the_readme():
-    """The README names the kit that the release was made with, and one that is here has the same logic."""
+    """The README names the kit that the release was made with. An installed kit has the same logic."""
     named = re.findall(r"^Proved with `(.*)`", (TOP / "README.md").read_text(), re.M)
     made = TOP / "release" / "made-of"
     found = difference("the kit", re.findall(r"^kit (.*)$", made.read_text(), re.M), named) if made.is_file() else []
@@ -414,13 +419,13 @@ def one_version():
 
 
 CASES = {
-    "first-answer-of-a-release": first_answer,
-    "spoilt-release": spoilt,
+    "first-response-of-a-release": first_answer,
+    "damaged-release": spoilt,
     "release-for-another-processor": other_processor,
-    "release-of-other-sources": other_sources,
-    "damaged-where-it-stands": damaged_here,
-    "build-that-is-asked-for": asked_build,
-    "checkout-that-cannot-be-written": not_written,
+    "release-from-other-sources": other_sources,
+    "program-damaged-after-unpacking": damaged_here,
+    "build-on-request": asked_build,
+    "read-only-checkout": not_written,
     "first-uses-at-once": at_once,
     "gate-over-a-release": gates,
     "portable-program": portable,

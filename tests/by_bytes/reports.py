@@ -1,4 +1,4 @@
-"""The report of a database is to the letter what is laid out here once more, of references that the program itself made."""
+"""The report of a database is exactly what this module computes, for references that the program itself made."""
 import json
 import pathlib
 import tempfile
@@ -8,13 +8,13 @@ import wire
 from databases import CONSTRAINT, INTENT, NAMING, NOT_A_DSS, STORE, Room, ask, filled, volume
 from program import BUILT, TOP, run
 
-# What the specification has for the first step of this worked example.
+# The specification's text for the first step of this worked example.
 EXAMPLE = "a-put-and-a-missing-key"
 OF_THE_EXAMPLE = (
     b"intent     00000000-0000-4000-8000-0000000000a1          1 Accepted               900         2000 uss-a\n"
     b"serial 1\n"
 )
-GREATEST = 253_402_300_799
+MAX = 253_402_300_799
 ID = "00000000-0000-4000-8000-{:012x}".format
 
 
@@ -22,7 +22,7 @@ ID = "00000000-0000-4000-8000-{:012x}".format
 PLACES = f"""\
 intent {INTENT} uss-a Activated 89c25904 -100 1200 900 2000
 intent {INTENT} uss-a Activated 89c2591 -100 1200 900 2000
-intent {INTENT} uss-a Activated 89c25904 -100000 1000000 0 {GREATEST}
+intent {INTENT} uss-a Activated 89c25904 -100000 1000000 0 {MAX}
 intent {NAMING} uss-b Accepted 89c2590c 0 400 900 2000
 constraint {CONSTRAINT} uss-c - 89c3 0 500 900 2000
 """
@@ -59,8 +59,8 @@ def put(kind, entity, token, times, state=None, path="", key=()):
 
 
 def in_order():
-    """Intents come by rising ids whatever their age, then constraints; an update counts, and a deletion takes away."""
-    late, early = (900, 2000), (0, GREATEST)
+    """Intents are in order of their ids whatever their age, then constraints. The report follows updates and deletions."""
+    late, early = (900, 2000), (0, MAX)
     steps = [
         put(wire.INTENTS, ID(0xFF), "tok-bm", [late], "Contingent"),
         put(wire.CONSTRAINTS, ID(0xFE), "tok-c", [(5, 1500), (7, 1234)]),
@@ -73,7 +73,7 @@ def in_order():
         ask("PUT", f"{wire.AVAILABILITY}/uss-b", "tok-v", {"old_version": "", "availability": "Down"}),
     ]
     text = "".join([
-        line("intent", ID(2), 1, "Nonconforming", (0, GREATEST), "uss-b"),
+        line("intent", ID(2), 1, "Nonconforming", (0, MAX), "uss-b"),
         line("intent", ID(0x10), 2, "Activated", (3000, 4001), "uss-a"),
         line("intent", ID(0xFF), 1, "Contingent", late, "uss-b"),
         line("constraint", ID(0xA), 1, "-", early, "uss-c"),
@@ -90,7 +90,7 @@ def in_order():
 
 
 def of_nothing():
-    """A file that is not there is made, with nothing in it; one that is no such database is refused."""
+    """A missing file is made, and its report is empty. A file that is no such database is rejected."""
     with tempfile.TemporaryDirectory() as folder:
         database = pathlib.Path(folder, "dss.db")
         found = difference("no file", report(database), (0, b"serial 0\n", b""))
@@ -101,14 +101,15 @@ def of_nothing():
 
 
 def not_written():
-    """A report that cannot be written is told."""
+    """A report that cannot be written is reported as a fault."""
     with connections.Room() as room, tempfile.TemporaryDirectory() as folder:
         more = {"LD_PRELOAD": room.library, "WRITE_FAILS": "1"}
         return difference("the report", report(f"{folder}/dss.db", more), (1, b"", b"dss: output\n"))
 
 
 def places():
-    """A line for each cell, in the order of the report, of the volumes and of the cells; what is kept stays."""
+    """`--cells` prints a line for each cell, in the order of the report, of the volumes and of the cells. The stored
+    rows stay."""
     with Room() as room:
         room.serve(filled())
         before = report(room.database)
@@ -129,5 +130,5 @@ CASES = {
     "report-in-order": in_order,
     "report-of-nothing": of_nothing,
     "report-not-written": not_written,
-    "report-places": places,
+    "report-cells": places,
 }

@@ -1,5 +1,6 @@
-"""`serve --retention`: what ended so long ago goes between rounds of calls, once a minute, and who looks ahead is told the same as by a
-service that keeps it all."""
+"""`serve --retention` purges between batches of calls, once a minute.
+
+A forward-looking call gets the same response as from a service that retains all."""
 import collections
 import errno
 import time
@@ -10,29 +11,30 @@ import tables
 import wire
 from devices import GROWTHS, SIZES, WRITES, Page, library
 from figures import FullAndVerbose
-from operators import HEALTH, SERVING, STOP, Operated, said, until_counted
+from admin_port import HEALTH, SERVING, STOP, AdminService, said, until_counted
 from plain_policy import INTENT, SUBSCRIPTION, has_ended, some_meet
 from program import SECONDS
 from served_calls import AHEAD
 from sockets import difference
-from purge import ID, STAYING, UNTIL, gone, made_of, many, put_intent, swept_rows, wrong_part
+from purge import ID, STAYING, UNTIL, gone, made_of, many, put_intent, purged_rows, wrong_part
 from without_memory import STOPPED
 
-# seconds that what has ended is kept: what the scenes have ended long before, or half an hour after that
+# Seconds of retention: the scenes have ended long before, or half an hour after that.
 DAY, HALF_AN_HOUR, MINUTE = 86_400, 1_800, 60
-# the least that go while calls are asked, and calls of each start
+# The fewest rows that are purged during calls, and the calls of each start.
 WENT, CALLS, SEEDS = 1_500, 120, range(70, 74)
-# a cell of the drawn calls
+# A cell of the drawn calls.
 NEAR = ("00000004", 0, 0)
-# growths of memory after those of a start that are refused, some of them
-GROWTHS = 240
-# growths of a file, and writes, after those of a start: from each of them on the disk is full, or takes no write at all
+# Memory allocations after those of a start, of which some are refused.
+ALLOCATIONS = 240
+# Growths of a file, and writes, after those of a start: from each of them on the disk is full, or takes no write at
+# all.
 FULL, REFUSED = range(1, 32, 5), (20, 40, 61, 73)
-SWEPT, FAULTS = "dss_purged_total", "dss_purge_failures_total"
+PURGED, FAULTS = "dss_purged_total", "dss_purge_failures_total"
 
 
-class Keeping(Operated):
-    """`dss serve` with an operator's port over a database of these rows, which keeps what has ended so long."""
+class Retaining(AdminService):
+    """`dss serve` with an admin port over a database of these rows, with that retention."""
 
     def __init__(self, rows, keep=DAY, tokens=drawn_calls.ALL_TOKENS, options=(), **more):
         super().__init__(tokens, **more)
@@ -41,36 +43,37 @@ class Keeping(Operated):
         self.before = made_of(self.database, rows)
 
     def wait(self, count):
-        """What is counted, once so many went."""
-        return until_counted(self, SWEPT, f"{count}")
+        """Waits until that many rows were purged, and returns the metrics."""
+        return until_counted(self, PURGED, f"{count}")
 
     def rows(self):
-        """What is kept, once it has ended."""
+        """Returns the stored rows, once the service has exited."""
         self.asked(STOP)
         self.ended()
         return tables.rows_in(self.database)
 
 
 def far(rows):
-    """Rows of which what stays ends far ahead of the clock."""
+    """Returns rows whose remaining part ends far ahead of the clock."""
     volumes = [(*it[:-1], AHEAD if it[-1] > UNTIL else it[-1]) for it in rows["volume"]]
     subscriptions = [(*it[:-1], AHEAD if it[-1] > UNTIL else it[-1]) for it in rows["subscription"]]
     return rows | {"volume": volumes, "subscription": subscriptions}
 
 
 def due(service):
-    """What is to go of its rows, and the rows without."""
-    after = swept_rows(service.before, UNTIL)
+    """Returns the rows of a service that are to be purged, and the rows without them."""
+    after = purged_rows(service.before, UNTIL)
     return sum(gone(service.before, after)), after
 
 
 def goes():
-    """All that ended so long ago goes from the start on, and is counted; all else is as it was. Without the option nothing goes."""
+    """From the start on, all rows that ended before the retention are purged and counted. All others are as they were.
+    Without the option nothing is purged."""
     found = []
-    with Keeping(far(many())) as started:
+    with Retaining(far(many())) as started:
         count, after = due(started)
         counted = started.wait(count)
-        found += difference("counted", (counted[SWEPT], counted[FAULTS], counted["dss_mirror_up"]), (f"{count}", "0", "1"))
+        found += difference("counted", (counted[PURGED], counted[FAULTS], counted["dss_mirror_up"]), (f"{count}", "0", "1"))
         entities = collections.Counter("constraint" if kind else "intent" for _, kind, *_ in after["entity"])
         told = {it: int(counted[f'dss_entities{{kind="{it}"}}']) for it in entities}
         found += difference("entities", told, dict(entities))
@@ -78,63 +81,65 @@ def goes():
         found += difference("serial", counted["dss_serial"], f"{after['meta'][0][2]}")
         found += difference("health", started.asked(HEALTH), said(200, SERVING))
         found += difference("its rows", started.rows() == after, True) + tables.wrong_in(started.database)
-        # the next start finds nothing more
+        # The next start finds nothing more.
         started.start()
         time.sleep(2)
-        found += difference("again", started.counted()[SWEPT], "0") + difference("rows again", started.rows() == after, True)
+        found += difference("again", started.counted()[PURGED], "0") + difference("rows again", started.rows() == after, True)
         found += difference("lines", started.ended(), (0, b"", started.listening))
-    with Keeping(many(64, 4), None) as started:
+    with Retaining(many(64, 4), None) as started:
         time.sleep(2)
-        found += difference("without", [started.counted()[it] for it in (SWEPT, FAULTS)], ["0", "0"])
+        found += difference("without", [started.counted()[it] for it in (PURGED, FAULTS)], ["0", "0"])
         return found + difference("rows without", started.rows(), started.before)
 
 
 def by_the_clock():
-    """What ended as long ago as it is kept goes, and what ended a little later stays; more seconds than the clock has keep all."""
+    """What ended exactly at the retention is purged, and what ended a little later stays. A retention beyond the clock
+    purges nothing."""
     now, rows = int(time.time()), many(0, 40)
     ends = [now - DAY - 60, now - DAY + HALF_AN_HOUR]
     rows["volume"] = [(*it[:-1], ends[at // 4 % 2]) for at, it in enumerate(rows["volume"])]
     rows["subscription"] = [(*it[:-1], ends[0]) for it in rows["subscription"]]
     found = []
-    with Keeping(rows) as started:
-        after = swept_rows(started.before, ends[0])
+    with Retaining(rows) as started:
+        after = purged_rows(started.before, ends[0])
         counts = gone(started.before, after)
-        found += difference("counted", started.wait(sum(counts))[SWEPT], f"{sum(counts)}")
+        found += difference("counted", started.wait(sum(counts))[PURGED], f"{sum(counts)}")
         found += difference("rows", started.rows() == after, True) + ([] if all(counts) else [f"{counts}"])
     for keep in 2 * now, 253_402_300_799:
-        with Keeping(rows, keep) as started:
+        with Retaining(rows, keep) as started:
             time.sleep(2)
-            found += difference(f"{keep}", [started.counted()[it] for it in (SWEPT, FAULTS)], ["0", "0"])
+            found += difference(f"{keep}", [started.counted()[it] for it in (PURGED, FAULTS)], ["0", "0"])
             found += difference(f"rows, {keep}", started.rows(), started.before)
     return found
 
 
 def once_a_minute():
-    """What ends while it is served goes at the next look, a minute after the one before, also while nobody asks anything."""
-    with Keeping(far(many(64, 4)), 1) as started:
+    """What ends while the service runs is purged by the next run, a minute after the one before, also if no client
+    requests anything."""
+    with Retaining(far(many(64, 4)), 1) as started:
         began = time.monotonic()
         first, _ = due(started)
-        found = difference("at the start", started.wait(first)[SWEPT], f"{first}")
+        found = difference("at the start", started.wait(first)[PURGED], f"{first}")
         now = int(time.time())
         puts = [put_intent(ID(7_000 + it), "tok-a", 100 + 10 * it, [(now - 10, now + (3 if it < 3 else 900))]) for it in range(4)]
         puts = [wire.request(method, target, f"Bearer {token}", wire.compact(body).encode()) for method, target, token, body in puts]
         found += difference("creations", {it[:12] for it in started.ask(puts)}, {b"HTTP/1.1 201"})
         reading = wire.request("GET", f"{wire.INTENTS}/{ID(7_000)}", "Bearer tok-a")
         time.sleep(MINUTE - 10 - (time.monotonic() - began))
-        found += difference("a look too early", started.counted()[SWEPT], f"{first}")
+        found += difference("a look too early", started.counted()[PURGED], f"{first}")
         found += difference("it", started.ask([reading])[0][:12], b"HTTP/1.1 200")
         counted = started.wait(first + 3)
         took = time.monotonic() - began
-        found += difference("a minute later", counted[SWEPT], f"{first + 3}")
+        found += difference("a minute later", counted[PURGED], f"{first + 3}")
         found += [] if MINUTE - 1 < took < MINUTE + 10 else [f"it went after {took:.1f} s"]
         return found + difference("it then", started.ask([reading])[0][:12], b"HTTP/1.1 404")
 
 
-# ---- who looks ahead
+# ---- forward-looking calls
 
 
 def looks_ahead(airspace, until, call):
-    """Whether a call looks ahead of a moment, as docs/LAWS.md has it."""
+    """Returns whether a call is forward-looking from a time on, as docs/LAWS.md defines it."""
     asked = call.asked
     if asked is None or call.kind is None:
         return True
@@ -157,7 +162,7 @@ def looks_ahead(airspace, until, call):
 
 
 def airspace_of(rows):
-    """What rows of a scene stand for, as the plain policy has it."""
+    """Returns the plain policy's airspace for the rows of a scene."""
     airspace = plain_policy.Airspace(int(time.time()), drawn_calls.ALL_TOKENS)
     names = {entity: subscription for entity, subscription in rows["naming"]}
     cells, ids = tuple(plain_policy.cell_of(it) for it in NEAR[:1]), {}
@@ -175,8 +180,8 @@ def airspace_of(rows):
 
 
 def calls_ahead(seed, rows, until):
-    """Drawn calls that look ahead, with what the plain policy answers: that which keeps all. They are drawn over one that has
-    nothing of what was there before, and never had."""
+    """Returns drawn forward-looking calls, with the responses of a plain policy that retains all. They are drawn over
+    an airspace that never had the earlier rows."""
     whole, without = airspace_of(rows), plain_policy.Airspace(int(time.time()), drawn_calls.ALL_TOKENS)
     without.serial = whole.serial
     drawn = drawn_calls.Drawn(drawn_calls.Draw(seed), without, AHEAD)
@@ -196,57 +201,58 @@ def calls_ahead(seed, rows, until):
 
 
 def pairs():
-    """Drawn calls that look ahead are answered by a service that lets go meanwhile as by one that keeps all, byte for byte; the one
-    has in the end what a sweep leaves of the other."""
+    """Drawn forward-looking calls get the same bytes from a service that purges meanwhile as from one that retains all.
+    In the end the first has what a purge leaves of the second."""
     found, kinds = [], collections.Counter()
     scene = {it: [(*row[:-3], *NEAR) if it.endswith("cell") else row for row in all_] for it, all_ in many(WENT, 0).items()}
     for seed in SEEDS:
-        with Keeping(scene, None) as whole, Keeping(scene) as swept:
+        with Retaining(scene, None) as whole, Retaining(scene) as purged:
             until = int(time.time()) - DAY
             wrong, calls, some = calls_ahead(seed, whole.before, until)
             found, kinds = found + wrong, kinds + some
             counts = []
             for at, (request, wanted) in enumerate(calls):
-                got = [it.ask([request])[0] for it in (swept, whole)]
+                got = [it.ask([request])[0] for it in (purged, whole)]
                 found += difference(f"seed {seed}, call {at}, both", *got) + difference(f"seed {seed}, call {at}", got[1], wanted)
-                counts.append(int(swept.counted()[SWEPT]) if at in (0, CALLS // 2) else 0)
+                counts.append(int(purged.counted()[PURGED]) if at in (0, CALLS // 2) else 0)
             count, _ = due(whole)
-            found += difference(f"seed {seed}, counted", swept.wait(count)[SWEPT], f"{count}")
+            found += difference(f"seed {seed}, counted", purged.wait(count)[PURGED], f"{count}")
             rows = whole.rows()
-            found += difference(f"seed {seed}, rows", swept.rows() == swept_rows(rows, until), True)
-    print(f"drawn calls beside a sweep: {dict(kinds)}")
+            found += difference(f"seed {seed}, rows", purged.rows() == purged_rows(rows, until), True)
+    print(f"drawn calls during a purge: {dict(kinds)}")
     return found + [f"few are answered {it}" for it in ("200", "201", "404", "409") if kinds[it] < 10]
 
 
-# ---- beside other options, and where it fails
+# ---- with other options, and failures
 
 
 def room_again():
-    """What goes no longer takes the room of its supplier."""
+    """A purge frees the quota of its USS."""
     rows = far(many(100, 0))
     kept = len(rows["entity"]) + len(rows["subscription"])
     method, target, token, body = put_intent(ID(9_000), "tok-a", 500, [(AHEAD, AHEAD + 10)])
     put = wire.request(method, target, f"Bearer {token}", wire.compact(body).encode())
-    with Keeping(rows, None, most_kept=kept) as started:
+    with Retaining(rows, None, quota=kept) as started:
         found = difference("at its bound", started.ask([put])[0][:12], b"HTTP/1.1 500")
         started.kill()
         started.options = ("--retention", f"{DAY}")
         started.start()
         count, _ = due(started)
-        found += difference("counted", started.wait(count)[SWEPT], f"{count}") + difference("all of it", count, kept)
+        found += difference("counted", started.wait(count)[PURGED], f"{count}") + difference("all of it", count, kept)
         return found + difference("with room", started.ask([put])[0][:12], b"HTTP/1.1 201")
 
 
-def told_nowhere():
-    """The log has the lines of requests alone, and nothing is told on standard error; with --verbose the lines are as without."""
+def reported_nowhere():
+    """The log has only the lines of requests, and nothing is on standard error. With --verbose the lines are the same
+    as without."""
     found = []
     for options, preface in ((), b""), (("--verbose",), FullAndVerbose.preface):
-        service = Keeping(far(many()), options=options)
+        service = Retaining(far(many()), options=options)
         service.preface, log = preface, service.folder / "log"
         service.options += ("--access-log", f"{log}")
         with service as started:
             count, _ = due(started)
-            found += difference("counted", started.wait(count)[SWEPT], f"{count}")
+            found += difference("counted", started.wait(count)[PURGED], f"{count}")
             started.ask([wire.request("GET", f"{wire.AVAILABILITY}/uss-a", "Bearer tok-a")] * 3)
             found += difference(f"lines, {options}", log.read_text().count("\n"), 3)
             found += difference(f"told, {options}", (started.folder / "errors").read_bytes(), started.listening)
@@ -254,10 +260,10 @@ def told_nowhere():
 
 
 def killed():
-    """Killed in the middle, it leaves the database swept in part; the next start makes the rest."""
+    """If the service is killed in the middle, the database is partly purged. The next start purges the rest."""
     found, parts = [], collections.Counter()
     for at in range(8):
-        with Keeping(far(many(WENT, STAYING))) as started:
+        with Retaining(far(many(WENT, STAYING))) as started:
             time.sleep(0.05 * at)
             started.kill()
             rows = tables.rows_in(started.database)
@@ -266,14 +272,14 @@ def killed():
             parts[went] += 1
             found += [f"kill {at}: {it}" for it in wrong_part(started.before, started.database, UNTIL)]
             started.start()
-            found += difference(f"kill {at}: the rest", started.wait(count - went)[SWEPT], f"{count - went}")
+            found += difference(f"kill {at}: the rest", started.wait(count - went)[PURGED], f"{count - went}")
             found += difference(f"kill {at}: rows", started.rows() == after, True)
-    print(f"a service that was killed as it let go left so much swept: {dict(sorted(parts.items()))}")
+    print(f"a service that was killed during a purge left these parts: {dict(sorted(parts.items()))}")
     return found
 
 
-class Refusing(Keeping):
-    """Such a service whose files take no more from some call of these kinds on, after those of a start."""
+class Refusing(Retaining):
+    """The same service, whose files take no more from some call of these kinds on, after those of a start."""
 
     def __init__(self):
         super().__init__(far(many(WENT, STAYING)), None)
@@ -281,7 +287,8 @@ class Refusing(Keeping):
         self.environment |= self.page.environment(library("fail_files", self.folder))
 
     def refuse(self, at, kinds):
-        """Starts it anew over what it had; what is counted once that call was made as it let go, or no client is answered any more."""
+        """Starts it again over its original rows. Returns the metrics once that call was made during a purge, or no
+        client gets a response."""
         self.kill()
         self.database.write_bytes(self.saved)
         self.database.with_name("dss.db-wal").unlink(missing_ok=True)
@@ -296,95 +303,97 @@ class Refusing(Keeping):
         return until_counted(self, FAULTS, "1")
 
     def left(self, went):
-        """What is wrong with what it left, once it was killed and can write again: so much went, and the next start makes the rest."""
+        """Returns what is wrong with its rows, once it was killed and can write again: that many were purged, and the
+        next start purges the rest."""
         count, after = due(self)
         self.page.set()
         self.kill()
         found = wrong_part(self.before, self.database, UNTIL)
         found += difference("what went", sum(gone(self.before, tables.rows_in(self.database))), went)
         self.start()
-        found += difference("the rest", self.wait(count - went)[SWEPT], f"{count - went}")
+        found += difference("the rest", self.wait(count - went)[PURGED], f"{count - went}")
         return found + difference("rows", self.rows() == after, True)
 
 
 def full_disk():
-    """A disk that is full from some growth of a file on, as it refuses no write into what a file has: what went stays gone, a fault is
-    counted, the service goes on wherever that comes, and the next start makes the rest."""
+    """The disk is full from some growth of a file on, and still takes writes within a file: purged rows stay purged, a
+    fault is counted, the service continues wherever that happens, and the next start purges the rest."""
     found, parts = [], collections.Counter()
     reading = wire.request("GET", f"{wire.INTENTS}/{ID(WENT)}", "Bearer tok-a")
     with Refusing() as started:
         for at in FULL:
             counted = started.refuse(at, GROWTHS)
-            went = int(counted[SWEPT])
+            went = int(counted[PURGED])
             parts[went] += 1
             found += difference(f"{at}: faults", counted[FAULTS], "1")
             found += [] if 0 <= went < due(started)[0] else [f"{at}: {went} went"]
             found += difference(f"{at}: health", started.asked(HEALTH), said(200, SERVING))
             found += difference(f"{at}: a reading", started.ask([reading])[0][:12], b"HTTP/1.1 200")
             found += [f"{at}: {it}" for it in started.left(went)]
-    print(f"a disk that was full as it let go left so much swept: {dict(sorted(parts.items()))}")
+    print(f"a disk that was full during a purge left these parts: {dict(sorted(parts.items()))}")
     return found
 
 
 def refused_writes():
-    """Files that take no write at all any more: where the database can tell that nothing was changed it goes on, and else stops; what went
-    stays gone, and the next start makes the rest."""
+    """Files take no write at all: if the database can tell that nothing was changed the service continues, and
+    otherwise it stops. Purged rows stay purged, and the next start purges the rest."""
     found, ends = [], collections.Counter()
     reading = wire.request("GET", f"{wire.INTENTS}/{ID(WENT)}", "Bearer tok-a")
     with Refusing() as started:
         for at in REFUSED:
             counted = started.refuse(at, WRITES | SIZES)
-            went, answer = int(counted[SWEPT]), started.ask([reading])[0]
+            went, answer = int(counted[PURGED]), started.ask([reading])[0]
             ends[answer[:12]] += 1
             goes_on = answer.startswith(b"HTTP/1.1 200")
             found += [] if goes_on or answer == wire.answer(*STOPPED) else [f"{at}: {answer!r}"]
             found += difference(f"{at}: faults", counted[FAULTS], "1")
             found += [f"{at}: {it}" for it in started.left(went)]
-    print(f"no write was taken as it let go: {dict(ends)}")
+    print(f"no write succeeded during a purge: {dict(ends)}")
     return found
 
 
 def without_memory():
-    """Growths of memory are refused, each alone, while it goes: what went is gone, what did not stays, and clients are answered; the next
-    start makes the rest."""
+    """Memory allocations are refused, each alone, during a purge: purged rows stay purged, others stay, and clients get
+    responses. The next start purges the rest."""
     found, ends = [], collections.Counter()
-    with Keeping(far(many(WENT // 4, STAYING)), None) as started:
+    with Retaining(far(many(WENT // 4, STAYING)), None) as started:
         page, saved = Page(started.folder), started.database.read_bytes()
         started.environment |= page.environment(library("refuse_memory", started.folder))
         started.kill()
         page.set()
-        # a start that takes the same words, and lets nothing go
+        # A start that takes the same arguments, and purges nothing.
         started.options = ("--retention", f"{10**11}")
         started.start()
         opening, reading = page.get("calls"), wire.request("GET", f"{wire.AVAILABILITY}/uss-a", "Bearer tok-a")
         count, after = due(started)
         started.options = ("--retention", f"{DAY}")
-        for at in range(opening + 1, opening + GROWTHS, GROWTHS // 12):
+        for at in range(opening + 1, opening + ALLOCATIONS, ALLOCATIONS // 12):
             started.kill()
             started.database.write_bytes(saved)
             started.database.with_name("dss.db-wal").unlink(missing_ok=True)
             page.set(at=at, row=1)
             started.start()
-            # a piece takes milliseconds, and after a fault none is made for a minute
+            # A chunk takes milliseconds, and after a fault there is none for a minute.
             time.sleep(2)
             page.set()
             counted = started.counted()
-            went = int(counted[SWEPT])
+            went = int(counted[PURGED])
             ends[went == count, counted[FAULTS], counted["dss_mirror_up"]] += 1
-            found += difference(f"growth {at}: a reading", started.ask([reading])[0][:12], b"HTTP/1.1 200")
+            found += difference(f"allocation {at}: a reading", started.ask([reading])[0][:12], b"HTTP/1.1 200")
             started.kill()
-            found += [f"growth {at}: {it}" for it in wrong_part(started.before, started.database, UNTIL)]
-            found += difference(f"growth {at}: what went", sum(gone(started.before, tables.rows_in(started.database))), went)
+            found += [f"allocation {at}: {it}" for it in wrong_part(started.before, started.database, UNTIL)]
+            found += difference(f"allocation {at}: what went", sum(gone(started.before, tables.rows_in(started.database))), went)
             started.start()
-            found += difference(f"growth {at}: the rest", started.wait(count - went)[SWEPT], f"{count - went}")
+            found += difference(f"allocation {at}: the rest", started.wait(count - went)[PURGED], f"{count - went}")
         found += difference("rows", started.rows() == after, True)
-    print(f"growths refused while it went; whether all went, faults, a copy: {dict(ends)}")
+    print(f"allocations refused during a purge; all purged, faults, a mirror: {dict(ends)}")
     return found
 
 
-def without_copy():
-    """Over tables that SQLite wrote anew there is no copy in memory, and nothing goes: it is counted, and calls are answered."""
-    with Keeping(far(many(64, 4))) as started:
+def without_mirror():
+    """Over tables that SQLite rewrote there is no mirror, and nothing is purged: that is counted, and calls get
+    responses."""
+    with Retaining(far(many(64, 4))) as started:
         started.wait(due(started)[0])
         started.rows()
         before = made_of(started.folder / "other.db", far(many(64, 4)))
@@ -393,22 +402,22 @@ def without_copy():
             database.execute("VACUUM")
         started.start()
         counted = until_counted(started, FAULTS, "1")
-        found = difference("counted", [counted[it] for it in (SWEPT, FAULTS, "dss_mirror_up")], ["0", "1", "0"])
+        found = difference("counted", [counted[it] for it in (PURGED, FAULTS, "dss_mirror_up")], ["0", "1", "0"])
         reading = wire.request("GET", f"{wire.INTENTS}/{ID(1)}", "Bearer tok-a")
         found += difference("a reading", started.ask([reading])[0][:12], b"HTTP/1.1 200")
         return found + difference("rows", started.rows() == before, True)
 
 
 CASES = {
-    "keep-lets-go": goes,
-    "keep-by-the-clock": by_the_clock,
-    "keep-once-a-minute": once_a_minute,
-    "keep-beside-one-that-keeps-all": pairs,
-    "keep-gives-room-again": room_again,
-    "keep-is-told-nowhere": told_nowhere,
-    "keep-and-kills": killed,
-    "keep-on-a-full-disk": full_disk,
-    "keep-while-no-write-is-taken": refused_writes,
-    "keep-without-memory": without_memory,
-    "keep-without-a-copy": without_copy,
+    "retention-purges": goes,
+    "retention-by-the-clock": by_the_clock,
+    "purge-once-a-minute": once_a_minute,
+    "retention-compared-with-none": pairs,
+    "retention-frees-the-quota": room_again,
+    "retention-is-reported-nowhere": reported_nowhere,
+    "retention-and-kills": killed,
+    "retention-on-a-full-disk": full_disk,
+    "retention-while-no-write-succeeds": refused_writes,
+    "retention-without-memory": without_memory,
+    "retention-without-a-mirror": without_mirror,
 }

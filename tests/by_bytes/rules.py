@@ -1,9 +1,8 @@
-"""What each rule denies and what it lets pass, one request a row, as the tables of rules and scopes in docs/POLICY.md
-have it.
+"""What each rule denies and permits, one request a row, as in the tables of docs/POLICY.md.
 
-A row begins on an empty airspace with requests that are done, and ends with the one whose whole answer is compared.
-P15 has no row: no stream of a hundred requests comes to the greatest serial or version. Forms (P5) are in
-bodies.py, changes of state (P12) in meanings.py, rows on subscriptions in subscriptions.py."""
+A row begins on an empty airspace with requests that succeed, and ends with the one whose whole response is compared.
+P15 has no row: no stream of a hundred requests reaches the maximum serial or version. Forms (P5) are in bodies.py,
+changes of state (P12) in meanings.py, rows on subscriptions in subscriptions.py."""
 import subscriptions
 import wire
 from connections import ask, volume
@@ -14,7 +13,7 @@ from wire import CONSTRAINTS, INTENTS, SUBSCRIPTIONS
 NOW = 1000
 URL = "https://a.example"
 NO_SUBSCRIPTION = "00000000-0000-4000-8000-000000000000"
-# those of the worked examples, and two more
+# Those of the worked examples, and two more.
 TOKENS = {
     **wire.TOKENS,
     "tok-d": ("uss-d", {wire.MANAGEMENT}),
@@ -32,7 +31,7 @@ def id_of(end):
 
 
 def target(path, end, over=None):
-    """The path of an entity, with the OVN of a serial, or another text, where one is given."""
+    """Returns the path of an entity, with the OVN of a serial, or another text, if one is given."""
     word = wire.ovn(over) if isinstance(over, int) else over
     return f"{path}/{id_of(end)}" + (f"/{word}" if word else "")
 
@@ -41,7 +40,7 @@ def target(path, end, over=None):
 
 
 def intent(end, token, state="Accepted", key=(), volumes=(volume(),), over=None):
-    """A put of an intent, with the OVNs of some serials as its key."""
+    """Returns a put of an intent, with the OVNs of some serials as its key."""
     members = {"extents": volumes, "key": [wire.ovn(it) for it in key], "state": state, "uss_base_url": URL}
     return ask("PUT", target(INTENTS, end, over), token, wire.compact(members))
 
@@ -67,12 +66,12 @@ def setting(uss, availability, old=""):
     return ask("PUT", f"{wire.AVAILABILITY}/{uss}", "tok-v", wire.compact(members))
 
 
-# ---- answers
+# ---- responses
 
 
 def seen(end, manager, serial=None, state="Accepted", version=1, times=(900, 2000), availability="Unknown", url=URL):
-    """What is told of an intent, with the OVN of a serial where the reader is its manager; of a constraint where it
-    has no state."""
+    """Returns an intent in a response, with the OVN of a serial if the reader is its manager; a constraint if it has no
+    state."""
     told = {"id": id_of(end), "manager": manager, "time_start": times[0], "time_end": times[1], "version": version}
     told |= {"uss_availability": availability, "uss_base_url": url}
     told |= {"ovn": wire.ovn(serial)} if serial else {}
@@ -88,7 +87,8 @@ def done(status, value):
 
 
 def put(reference, status=201, told=()):
-    """The answer to a change, which notifies subscriptions of one address: the ends of their ids, and their indexes."""
+    """Returns the response to a change, which notifies subscriptions of one address: the ends of their ids, and their
+    indexes."""
     states = [{"notification_index": index, "subscription_id": id_of(end)} for end, index in told]
     subscribers = [{"subscriptions": states, "uss_base_url": URL}] if told else []
     return done(status, {f"{kind_of(reference)}_reference": reference, "subscribers": subscribers})
@@ -114,7 +114,7 @@ def missing(*references):
     return done(409, {"message": "P14 KEY", **lists})
 
 
-# ---- rows: the name, the requests that are done, the last one, and its answer
+# ---- rows: the name, the requests that succeed, the last one, and its response
 
 A1 = intent("a1", "tok-a")
 B1_ABOVE = intent("b1", "tok-b", volumes=(HIGH,))
@@ -171,7 +171,7 @@ ENTITIES = (
     ("P8: a constraint", (C1,), constraint("c1", "tok-d"), denied(8)),
     ("ids apart: a constraint of an intent's id", (A1,), constraint("a1", "tok-c"), put(seen("a1", "uss-c", 2, None))),
     (
-        "ids apart: the intent is deleted alone",
+        "ids apart: only the intent is deleted",
         (A1, constraint("a1", "tok-c"), removal(INTENTS, "a1", "tok-a", 1)),
         reading(CONSTRAINTS, "a1", "tok-c"),
         found(seen("a1", "uss-c", 2, None)),
@@ -195,7 +195,7 @@ ENTITIES = (
     ("P10: update of a constraint", (C1,), constraint("c1", "tok-c", over=2), denied(10)),
     ("P10: deletion of a constraint", (C1,), removal(CONSTRAINTS, "c1", "tok-c", 2), denied(10)),
     (
-        "P10: a version of another supplier",
+        "P10: a version of another USS",
         (setting("uss-a", "Down"),),
         setting("uss-b", "Down", wire.ovn(1)),
         denied(10),
@@ -318,7 +318,7 @@ KEYS = (
         put(seen("b1", "uss-b", 3, version=2), 200),
     ),
     (
-        "P14: all that is missing, by rising ids",
+        "P14: all that is missing, in the order of their ids",
         (intent("b2", "tok-b"), intent("a1", "tok-a", key=(1,)), constraint("c2", "tok-d"), C1),
         intent("b1", "tok-bc"),
         missing(SEEN_A1, seen("b2", "uss-b", 1), seen("c1", "uss-c", state=None), seen("c2", "uss-d", state=None)),
@@ -442,7 +442,7 @@ VIEWS = (
         found(seen("c1", "uss-c", state=None)),
     ),
     (
-        "all that meet, by rising ids",
+        "all that meet, in the order of their ids",
         (intent("b2", "tok-b"), B1_ABOVE, intent("a1", "tok-a", key=(1,)), C1),
         query(INTENTS, "tok-b", QUARTERS),
         listed(SEEN_A1, seen("b1", "uss-b", 2), seen("b2", "uss-b", 1)),
@@ -451,7 +451,7 @@ VIEWS = (
 
 
 def stream(requests):
-    """The answers to requests on one connection."""
+    """Returns the responses to requests on one connection."""
     status, output, error = serve(b"".join(requests), NOW, wire.token_file(TOKENS))
     answers = wire.answers_of(output)
     if status or error or b"".join(answers) != output:
@@ -460,7 +460,7 @@ def stream(requests):
 
 
 def rows():
-    """The last answer of each row is the one wanted, and all before it were done."""
+    """The last response of each row is the expected one, and all requests before it succeed."""
     wrong = []
     of_subscriptions = subscriptions.rows(intent, constraint, seen, put, missing, denied)
     for name, first, last, wanted in AREAS + ENTITIES + ROLES + KEYS + SPARED + VIEWS + of_subscriptions:
@@ -473,12 +473,12 @@ def rows():
 
 # ---- scopes
 
-# Tokens of one scope each, and one of none.
+# Tokens of one scope each, and one without scopes.
 HOLDERS = ("tok-a", "tok-bm", "tok-p", "tok-c", "tok-v", "tok-n")
 STRATEGIC_OR_MONITORING = {"tok-a", "tok-bm"}
 STRATEGIC_OR_PROCESSING = {"tok-a", "tok-p"}
 UNKNOWN = done(200, {"status": {"availability": "Unknown", "uss": "uss-b"}, "version": ""})
-# An operation, a body that is not its form where it has one, its answer where it is open, and to whom that is.
+# An operation, a malformed body if it has one, its response if it is permitted, and the tokens that permit it.
 OPERATIONS = (
     ("POST", f"{INTENTS}/query", "[", denied(5), STRATEGIC_OR_MONITORING),
     ("GET", target(INTENTS, "a1"), None, denied(7), STRATEGIC_OR_MONITORING),
@@ -501,7 +501,7 @@ OPERATIONS = (
 
 
 def scopes():
-    """Each operation is open to the scopes of its row, and denied to each other one and to a caller without scopes."""
+    """The scopes of an operation's row permit it. Each other scope, and a caller without scopes, is denied."""
     found = []
     for token in HOLDERS:
         requests = [ask(method, path, token, body) for method, path, body, _, _ in OPERATIONS]
@@ -515,19 +515,19 @@ def scopes():
 
 # The most that 2,048 cells cover within 16,384: a cell covers a power of 4, so that their sum is 2 modulo 3.
 LEVELS = {11: 700, 12: 1278, 13: 70}
-MOST_BODY = 1_048_576
+MAX_BODY = 1_048_576
 
 
 def tokens_at(level, count):
-    """The first cells of a level on the first face."""
+    """Returns the first cells of a level on the first face."""
     shift = 60 - 2 * level
     return [format((2 * at + 1) << shift, "016x").rstrip("0") for at in range(count)]
 
 
 def all_limits():
-    """An intent with all that one may have is created, found, needed, updated and deleted: 32 volumes of 64 cells, a
-    key of 4,096 entries of 128 bytes (the last one another's OVN, where that is needed), an address of 255 bytes, and
-    spaces up to the greatest body."""
+    """An intent at all limits is created, found, needed in a key, updated and deleted: 32 volumes of 64 cells, a key of
+    4,096 entries of 128 bytes (the last one is another intent's OVN, if that is needed), an address of 255 bytes,
+    and spaces up to the maximum body."""
     cells = [it for level, count in LEVELS.items() for it in tokens_at(level, count)]
     volumes = [volume(cells[at::32], (-100_000, 1_000_000), (at, 253_402_300_799)) for at in range(32)]
     url = "!" * 255
@@ -535,7 +535,7 @@ def all_limits():
 
     def put_limits(key, over=None):
         members = {"extents": volumes, "key": key, "state": "Accepted", "uss_base_url": url}
-        return ask("PUT", target(INTENTS, "a1", over), "tok-a", wire.compact(members).ljust(MOST_BODY))
+        return ask("PUT", target(INTENTS, "a1", over), "tok-a", wire.compact(members).ljust(MAX_BODY))
 
     def told(manager="uss-a", serial=None, version=1):
         return seen("a1", manager, serial, version=version, times=(0, 253_402_300_799), url=url)

@@ -1,4 +1,4 @@
-"""Streams of requests with what is wanted of each, and the bodies that they are made of."""
+"""Streams of requests with their expected responses, and the bodies that they are made of."""
 import dataclasses
 import json
 
@@ -19,7 +19,7 @@ NOTHING_LISTED = (200, '{"operational_intent_references":[]}')
 
 @dataclasses.dataclass
 class Scene:
-    """Requests, one after the other in a stream, and the answers wanted."""
+    """Requests, one after the other in a stream, and the expected responses."""
 
     name: str
     requests: list
@@ -32,7 +32,7 @@ class Scene:
         self.wanted.append(wanted)
 
     def created(self, body, path=INTENTS, token="tok-a", times=(900, 2000), state="Accepted", url="u"):
-        """A creation that is wanted, and the deletion after it, so that nothing is kept."""
+        """Adds an expected creation, and the deletion after it, so that nothing stays stored."""
         self.serial += 2
         kept = wire.ovn(self.serial - 1)
         uss = wire.TOKENS[token][0]

@@ -1,5 +1,6 @@
-"""Drawn calls over `serve` and its database are answered as in memory: by one service, and by one that ends, or is killed, and is
-started anew between any two of them."""
+"""Drawn calls over `serve` and its database get the same responses as in memory.
+
+One service answers all of them, or one that exits, or is killed, and is started again between any two of them."""
 import time
 
 import drawn_calls
@@ -10,19 +11,19 @@ from program import first_difference
 from serving import Service
 
 SEED, CONNECTIONS, STARTS = 11, 20, 240
-# the service has the clock of the machine, so all times that are drawn lie around a moment far ahead of it
+# The service uses the machine's clock, so all drawn times are around a time far ahead of it.
 AHEAD = 4_000_000_000
 
 
 class Asked:
-    """Drawn calls around a moment far ahead of the machine's clock, and what the plain policy answers."""
+    """Drawn calls around a time far ahead of the machine's clock, and the plain policy's responses."""
 
     def __init__(self, seed):
         self.airspace = plain_policy.Airspace(int(time.time()), drawn_calls.ALL_TOKENS)
         self.drawn = drawn_calls.Drawn(drawn_calls.Draw(seed), self.airspace, AHEAD)
 
     def calls(self, count):
-        """So many calls, each drawn over the airspace after the one before it."""
+        """Returns that many calls, each drawn over the airspace after the one before it."""
         drawn = []
         for _ in range(count):
             drawn.append(self.drawn.call())
@@ -30,12 +31,12 @@ class Asked:
         return drawn
 
     def differs(self, service, count):
-        """How so many calls over one connection are answered otherwise than they should be."""
+        """Returns how the responses to that many calls over one connection differ from the expected ones."""
         requests, wanted = [], []
         for number in range(1, count + 1):
             call = self.drawn.call()
             requests.append(wire.request(*call))
-            wanted.append(self.airspace.ask(*call).text(closes=number == wire.MOST_REQUESTS))
+            wanted.append(self.airspace.ask(*call).text(closes=number == wire.MAX_REQUESTS))
         why = first_difference(wanted, service.ask(requests))
         return [why] if why else []
 
@@ -45,13 +46,13 @@ def without_a_restart():
     asked, found = Asked(SEED), []
     with Service(drawn_calls.ALL_TOKENS) as service:
         for at in range(CONNECTIONS):
-            found += [f"connection {at}: {it}" for it in asked.differs(service, wire.MOST_REQUESTS)]
+            found += [f"connection {at}: {it}" for it in asked.differs(service, wire.MAX_REQUESTS)]
         service.kill()
         return found + tables.wrong_in(service.folder / "dss.db")
 
 
 def with_restarts():
-    """The service ends, or is killed, after each call, and goes on from its database when it is started again."""
+    """The service exits, or is killed, after each call, and continues from its database when it is started again."""
     asked, found = Asked(SEED + 1), []
     with Service(drawn_calls.ALL_TOKENS) as service:
         for at in range(STARTS):
@@ -60,8 +61,8 @@ def with_restarts():
                 status, _, errors = service.ended()
                 found += [] if (status, errors) == (0, service.listening) else [f"start {at}: {status}, {errors!r}"]
             service.kill()
-            # the next one ends by itself, and the one after it does not
-            service.count = 1 if service.count > 1 else wire.MOST_REQUESTS
+            # The next one exits by itself, and the one after it does not.
+            service.count = 1 if service.count > 1 else wire.MAX_REQUESTS
             service.start()
         service.kill()
         return found + tables.wrong_in(service.folder / "dss.db")

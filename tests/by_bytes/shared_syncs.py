@@ -1,80 +1,82 @@
-"""Changes of many clients at once share a sync, no answer to one goes out before it, and each is what the plain policy answers in some
-order of the calls."""
+"""Changes of many clients at once share a sync. No response to a change goes out before it.
+
+Each response is the plain policy's in some order of the calls."""
 import tempfile
 
 import drawn_calls
 import plain_policy
 import wire
-from at_once import CLIENTS, FAR, NOW, STOPS, TOKENS, AtOnce, Judged, is_change
+from at_once import CLIENTS, FAR, NOW, STOPS, TOKENS, AtOnce, Checked, is_change
 from devices import library
-from many_clients import Round
+from many_clients import Batch
 
 SEED = 71
-# rounds of changes; of so many changes at least one shares its sync with the others, also where the log is copied into the file
-ROUNDS, SHARED_BY = 12, 4
-# changes of a client that is alone, each of which has a sync; a copy of the log has some more
+# Batches of changes. Of so many changes at least one shares its sync with the others, also during checkpoints.
+BATCHES, SHARED_BY = 12, 4
+# Changes of a single client, each of which has a sync; a checkpoint has some more.
 ALONE, MORE = 40, 6
 MANY = 200
-# seconds in which what may go out would have come
+# Seconds in which a response that may go out would have arrived.
 SOON = 0.4
-DRAWN_ROUNDS, DRAWN_CLIENTS = 25, 24
+DRAWN_BATCHES, DRAWN_CLIENTS = 25, 24
 
 
-class Rounds(AtOnce):
+class Batches(AtOnce):
     """A service whose calls on files are counted, and may wait."""
 
     def __init__(self, folder, clients=CLIENTS, tokens=TOKENS):
         super().__init__(library("fail_files", folder), clients, tokens)
 
-    def judged(self, airspace, calls, **numbers):
-        """What a round came to."""
+    def checked(self, airspace, calls, **numbers):
+        """Returns the outcome of a batch."""
         self.send_at_once(calls, **numbers)
-        return Judged(airspace, calls, self.told(), self.found(calls))
+        return Checked(airspace, calls, self.told(), self.found(calls))
 
 
 def shared():
-    """Sixteen clients at once need fewer syncs than changes, and one alone as many as it makes changes."""
+    """Sixteen clients at once need fewer syncs than changes, and a single one as many as it makes changes."""
     found, syncs = [], 0
     with tempfile.TemporaryDirectory() as folder:
-        with Rounds(folder) as service:
+        with Batches(folder) as service:
             airspace = service.fill()
-            for turn in range(ROUNDS):
-                judged = service.judged(airspace, service.changes(airspace, turn))
+            for turn in range(BATCHES):
+                checked = service.checked(airspace, service.changes(airspace, turn))
                 syncs += service.page.get("syncs")
-                found += judged.wrong + ([] if judged.made == CLIENTS else [f"{judged.made} changes were made"])
-                airspace = judged.after
-        with Rounds(folder, clients=1) as service:
+                found += checked.wrong + ([] if checked.made == CLIENTS else [f"{checked.made} changes were made"])
+                airspace = checked.after
+        with Batches(folder, clients=1) as service:
             airspace = service.fill()
             alone = 0
             for turn in range(ALONE):
-                judged = service.judged(airspace, service.changes(airspace, turn))
+                checked = service.checked(airspace, service.changes(airspace, turn))
                 alone += service.page.get("syncs")
-                airspace = judged.after
-    print(f"{ROUNDS * CLIENTS} changes of {CLIENTS} clients at once took {syncs} syncs, {ALONE} of one client {alone}")
-    found += [] if syncs * SHARED_BY <= ROUNDS * CLIENTS else [f"{ROUNDS * CLIENTS} changes at once took {syncs} syncs"]
+                airspace = checked.after
+    print(f"{BATCHES * CLIENTS} changes of {CLIENTS} clients at once took {syncs} syncs, {ALONE} of one client {alone}")
+    found += [] if syncs * SHARED_BY <= BATCHES * CLIENTS else [f"{BATCHES * CLIENTS} changes at once took {syncs} syncs"]
     return found + ([] if ALONE <= alone <= ALONE + MORE else [f"{ALONE} changes of one client took {alone} syncs"])
 
 
 def early(service, airspace, turn, **numbers):
-    """What goes out too early of a round whose sync waits, or what is wrong with it; and the airspace after it."""
+    """Returns which responses of a batch go out too early while its sync waits, or what is wrong with it; and the
+    airspace after it."""
     calls = service.mixed(airspace, turn)
     service.send_at_once(calls, **numbers)
     soon = service.told(SOON / len(calls))
     service.page.set()
     told = [it or service.told_to(kept, 30) for it, kept in zip(soon, service.kept)]
-    judged = Judged(airspace, calls, told, service.found(calls))
+    checked = Checked(airspace, calls, told, service.found(calls))
     before = [airspace.ask(*it).text() if not is_change(it) else None for it in calls]
     found = [f"{call}: {answer!r} before the sync" for call, answer, may in zip(calls, soon, before) if answer not in (None, may)]
-    # the first one saw no change
+    # The first one saw no change.
     found += [] if soon[0] else ["a reading before the first change waited"]
-    return found + judged.wrong, judged.after
+    return found + checked.wrong, checked.after
 
 
-def held_back():
-    """While the sync waits, no change is answered and no reading that saw one, and a reading before them is. A sync that is told as
-    done and is not shows that this would be seen."""
+def deferred():
+    """While the sync waits, no change gets its response and no read that saw one, but a read before them does. A sync
+    that is reported as done and is not shows that the case would find early responses."""
     found = []
-    with tempfile.TemporaryDirectory() as folder, Rounds(folder) as service:
+    with tempfile.TemporaryDirectory() as folder, Batches(folder) as service:
         airspace = service.fill()
         for turn in range(5):
             wrong, airspace = early(service, airspace, turn, waits=1)
@@ -84,23 +86,23 @@ def held_back():
 
 
 def two_hundred():
-    """Of more clients at once than have their answers held back together, each has its answer."""
-    with tempfile.TemporaryDirectory() as folder, Rounds(folder, MANY) as service:
+    """More clients at once than can have their responses deferred together all get their response."""
+    with tempfile.TemporaryDirectory() as folder, Batches(folder, MANY) as service:
         airspace = service.fill(2)
-        judged = service.judged(airspace, service.changes(airspace, 2))
+        checked = service.checked(airspace, service.changes(airspace, 2))
         syncs = service.page.get("syncs")
         print(f"{MANY} changes at once took {syncs} syncs")
-        found = judged.wrong + ([] if judged.made == MANY else [f"{judged.made} changes were made"])
+        found = checked.wrong + ([] if checked.made == MANY else [f"{checked.made} changes were made"])
         return found + ([] if syncs * SHARED_BY <= MANY else [f"{MANY} changes at once took {syncs} syncs"])
 
 
 def is_explained(calls, told):
-    """Whether some order of calls on a new airspace explains what was told."""
-    return Round(plain_policy.Airspace(NOW, drawn_calls.ALL_TOKENS), calls, told).order is not None
+    """Returns whether some order of calls on a new airspace explains the responses."""
+    return Batch(plain_policy.Airspace(NOW, drawn_calls.ALL_TOKENS), calls, told).order is not None
 
 
 def planted():
-    """Two settings over one version: the second is denied, and that both are made is not explained."""
+    """Two availability changes over one version: the second is denied, and no order explains that both are made."""
     setting = "PUT", f"{wire.AVAILABILITY}/uss-a", "Bearer tok-v", b'{"availability":"Down","old_version":""}'
     made = [wire.compact({"status": {"availability": "Down", "uss": "uss-a"}, "version": wire.ovn(it)}) for it in (1, 2)]
     made, denied = [wire.answer(200, it) for it in made], wire.answer(409, '{"message":"P10 VERSION"}')
@@ -109,26 +111,26 @@ def planted():
 
 
 def drawn():
-    """Drawn calls of 24 clients at once, readings and denials among them: some order of each round's explains each answer by the plain
-    policy."""
+    """Drawn calls of 24 clients at once, with reads and denials: some order of each batch explains each response by the
+    plain policy."""
     airspace, draw = plain_policy.Airspace(NOW, drawn_calls.ALL_TOKENS), drawn_calls.Draw(SEED)
-    with tempfile.TemporaryDirectory() as folder, Rounds(folder, DRAWN_CLIENTS, drawn_calls.ALL_TOKENS) as service:
-        for number in range(DRAWN_ROUNDS):
+    with tempfile.TemporaryDirectory() as folder, Batches(folder, DRAWN_CLIENTS, drawn_calls.ALL_TOKENS) as service:
+        for number in range(DRAWN_BATCHES):
             drawn = drawn_calls.Drawn(draw, airspace, FAR)
             calls = [drawn.call() for _ in range(DRAWN_CLIENTS)]
             service.send_at_once(calls)
             told = service.told()
-            after = Round(airspace, calls, told).order
+            after = Batch(airspace, calls, told).order
             if after is None or STOPS in told:
                 return [f"round {number}: no order explains {list(zip(calls, told))!r}"]
             airspace = after
-    print(f"{DRAWN_ROUNDS * DRAWN_CLIENTS} drawn calls at once, serial {airspace.serial}")
+    print(f"{DRAWN_BATCHES * DRAWN_CLIENTS} drawn calls at once, serial {airspace.serial}")
     return planted()
 
 
 CASES = {
     "at-once-share-a-sync": shared,
-    "at-once-held-back": held_back,
+    "at-once-deferred": deferred,
     "at-once-two-hundred": two_hundred,
     "at-once-drawn": drawn,
 }

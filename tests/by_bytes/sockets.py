@@ -1,5 +1,6 @@
-"""The program behind sockets, `serve` on a free port of this machine, and `self`: each connection is served and ended so that its
-last answer is read, whatever its client does."""
+"""The program behind sockets: `serve` on a free port of this machine, and `self`.
+
+Each connection is served and closed so that its last response can be read, whatever its client does."""
 import json
 import pathlib
 import socket
@@ -18,7 +19,7 @@ ANSWER, LAST = wire.answer(200, READING), wire.answer(200, READING, closes=True)
 SOCKET = b"dss: socket\n"
 CLOCK = b"dss: stream: fault 3 Clock\n"
 TOO_LONG = b"dss: self: request too long\n"
-MOST_BYTES = 16_384
+MAX_BYTES = 16_384
 
 
 def difference(name, got, wanted):
@@ -26,12 +27,12 @@ def difference(name, got, wanted):
 
 
 def silent(started, faults=b""):
-    """The service has ended with status 0, and told nothing but that it listens, and faults of streams."""
+    """The service exits with status 0, and prints only that it listens, and faults of streams."""
     return difference("the service", started.ended(), (0, b"", started.listening + faults))
 
 
 def one_connection():
-    """One connection with two requests is answered, and the program ends."""
+    """One connection with two requests is answered, and the program exits."""
     with Service(count=1) as started:
         found = difference("answers", started.exchange(ASKED + CLOSING, ends=False), ANSWER + LAST)
         return found + silent(started)
@@ -52,8 +53,8 @@ def one_after_the_other():
 
 
 def broken_clients():
-    """A client that says nothing, one that sends half a head and one that sends half a body get no answer, one that
-    resets its connection is told as a failed read, and the next client is served."""
+    """A client that sends nothing, one that sends half a head and one that sends half a body get no response. One that
+    resets its connection is reported as a failed read. The next client is served."""
     put = wire.request("PUT", f"{wire.AVAILABILITY}/uss-b", "Bearer tok-v", b'{"old_version":"","availability":"Down"}')
     with Service(count=5) as started:
         found = difference("nothing", started.exchange(b""), b"")
@@ -66,7 +67,8 @@ def broken_clients():
 
 
 def pipelined():
-    """A hundred requests that are sent at once on each of ten connections are answered, and the last of them closes."""
+    """A hundred requests that are sent at once on each of ten connections get responses, and the last one closes its
+    connection."""
     found = []
     with Service(count=10) as started:
         for at in range(1, 11):
@@ -76,8 +78,8 @@ def pipelined():
 
 
 def last_answer():
-    """What a client sends after the request that closes its connection, or breaks a rule of the wire, does not take
-    its answer away."""
+    """Bytes that a client sends after the request that closes its connection, or breaks a protocol rule, do not remove
+    its response."""
     too_large = wire.request("GET", f"{wire.AVAILABILITY}/uss-b", "Bearer tok-a", fields=["Content-Length: 1048577"])
     refused = wire.answer(413, wire.compact({"message": "H5 BODYSIZE"}), closes=True)
     more = b"x" * 300_000
@@ -88,8 +90,8 @@ def last_answer():
 
 
 def clock_that_fails():
-    """A reading of the clock that fails ends its connection before the request is answered. What breaks a rule of the
-    wire needs none. The next connection is served."""
+    """If reading the clock fails, the connection ends before the request is answered. A broken protocol rule is
+    answered without the clock. The next connection is served."""
     broken, refused = b"GET / HTTP/2\r\n", wire.answer(400, wire.compact({"message": "H1 HEAD"}), closes=True)
     found = []
     for name, at, sent, wanted, faults in (
@@ -109,7 +111,7 @@ def clock_that_fails():
 
 
 def second_service():
-    """A second program on the port ends with its fault, and the first goes on."""
+    """A second program on the port exits with its fault, and the first continues."""
     with Service(count=1) as started, tempfile.TemporaryDirectory() as room:
         pathlib.Path(room, "tokens.toml").write_text(wire.token_file())
         found = difference("the second", run(words(room, started.port, 1)), (1, b"", SOCKET))
@@ -117,7 +119,7 @@ def second_service():
 
 
 def faults_in_order():
-    """Tokens are looked at first, then the database, and then the port."""
+    """Tokens are checked first, then the database, and then the port."""
     found = []
     with tempfile.TemporaryDirectory() as room, socket.socket() as taken:
         taken.bind(("127.0.0.1", 0))
@@ -134,28 +136,28 @@ def faults_in_order():
 
 
 def through_itself():
-    """`self` gives for the first step of each worked example what `run` gives, unless it has too many bytes."""
+    """`self` gives the output of `run` for the first step of each worked example, unless it has too many bytes."""
     found = []
     for example in json.loads((TOP / "tests" / "data" / "worked_examples.json").read_text()):
         step = example["steps"][0]
         asked = [BUILT, "self", "--tokens", "examples/tokens.toml", "--now", str(example["now"]), "-"]
         request, answer = step["request"].encode("latin-1"), step["answer"].encode("latin-1")
-        wanted = (0, answer, b"") if len(request) <= MOST_BYTES else (1, b"", TOO_LONG)
+        wanted = (0, answer, b"") if len(request) <= MAX_BYTES else (1, b"", TOO_LONG)
         found += difference(example["name"], run(asked, request), wanted)
     return found
 
 
 def through_itself_within_limits():
-    """`self` takes 16,384 bytes and no more, and gives back no more than that."""
+    """`self` takes at most 16,384 bytes, and returns at most as many."""
     asked = [BUILT, "self", "--tokens", "examples/tokens.toml", "--now", "1000"]
     short = wire.request("GET", f"{wire.AVAILABILITY}/uss-b", "Bearer tok-a", b"", ["Connection: close"])
-    room = MOST_BYTES - len(short) - len("16000") + 1
+    room = MAX_BYTES - len(short) - len("16000") + 1
     greatest = wire.request("GET", f"{wire.AVAILABILITY}/uss-b", "Bearer tok-a", b" " * room, ["Connection: close"])
-    found = [] if len(greatest) == MOST_BYTES else [f"the request has {len(greatest)} bytes"]
+    found = [] if len(greatest) == MAX_BYTES else [f"the request has {len(greatest)} bytes"]
     name = "u" * 64
     reading = wire.compact({"status": {"availability": "Unknown", "uss": name}, "version": ""})
     many = wire.request("GET", f"{wire.AVAILABILITY}/{name}", "Bearer tok-a")
-    fits = MOST_BYTES // len(wire.answer(200, reading))
+    fits = MAX_BYTES // len(wire.answer(200, reading))
     with tempfile.TemporaryDirectory() as room:
         file = pathlib.Path(room, "requests")
         for name, sent, wanted in (
@@ -179,7 +181,7 @@ CASES = {
     "serve-one-after-the-other": one_after_the_other,
     "serve-broken-clients": broken_clients,
     "serve-pipelined": pipelined,
-    "serve-last-answer": last_answer,
+    "serve-last-response": last_answer,
     "serve-clock-that-fails": clock_that_fails,
     "serve-second-on-the-port": second_service,
     "serve-faults-in-order": faults_in_order,

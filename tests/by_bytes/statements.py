@@ -1,42 +1,43 @@
-"""The statements of queries and changes ask for rows of `cell` and of `subscription_cell` by their places, by their
-entity or by their subscription, never for all of them: what a call costs is then what it finds, not what is kept.
+"""SQL statements of queries and changes read rows of `cell` and `subscription_cell` by index only.
 
-Whole tables are read in space_sql_load alone, in the module that opening a database and listing all entities of a kind
-need. What finds, reads single things and changes them stands in the other crates over tables, which must not call it."""
+They select by position, by entity or by subscription, never all rows: the cost of a call depends on what it finds,
+not on what is stored. Only space_sql_load reads whole tables, in the module that opening a database and listing all
+entities of a kind need. Code that finds, reads single rows and changes them is in the other crates over tables,
+which must not call it."""
 import re
 
 from program import TOP
 
 WHOLE_TABLES = "crates/space_sql_load/src/tables.rt"
 SOURCES = sorted(it for it in TOP.glob("crates/space_*/src/*.rt") if not str(it).endswith(WHOLE_TABLES))
-# the crates that ask for rows, and no call of which needs all
+# The crates that select rows, and whose calls never need all.
 NARROW = ("space_sql_search", "space_sql_lookup", "space_sql_write")
-# what reads whole tables
+# Functions that read whole tables.
 READS_ALL = re.compile(r"\bread_(?:airspace(?:_in)?|tables)\b")
 LITERAL = re.compile(r'"((?:[^"\\]|\\.)*)"', re.DOTALL)
 CELLS = r"(?:subscription_)?cell\b"
 ON_CELLS = re.compile(rf"\b(?:(?:from|join)\s+(?:\w+\s*,\s*)*|update\s+){CELLS}", re.IGNORECASE)
-# the first condition is on a column with an index, and what follows narrows it
+# The first condition is on a column with an index. Later ones narrow it.
 BY_INDEX = r"(?:cell\s+where\s+(?:entity|lo)|subscription_cell\s+where\s+(?:subscription|lo))\s+(?:=|between)\s+\?"
 NARROWED = re.compile(rf"\bfrom\s+{BY_INDEX}", re.IGNORECASE)
 WIDENED = re.compile(rf"\bor\b|\bunion\b|\bjoin\b|,\s*{CELLS}", re.IGNORECASE)
-# each table of cells is asked in so many statements at least: by both kinds of places, and by what it belongs to, to
-# read and to remove
-LEAST = 4
+# The fewest statements on each table of cells: by both kinds of positions, and by what it belongs to, to read and to
+# remove.
+MIN = 4
 
 
 def literals(source):
-    """The texts of a source, comments left out, those over several lines in one."""
+    """Returns the string literals of a source without comments, those over several lines joined."""
     code = re.sub(r"^\s*//.*$", "", source, flags=re.MULTILINE)
     return [re.sub(r"\\\n\s*", "", it) for it in LITERAL.findall(code)]
 
 
 def unnarrowed(source):
-    """The statements of a source that ask for rows of a table of cells by nothing that has an index."""
+    """Returns the statements of a source that select rows of a table of cells without an index."""
     return [it for it in literals(source) if ON_CELLS.search(it) and (not NARROWED.search(it) or WIDENED.search(it))]
 
 
-# What is found to be wrong where it is planted, and what is not.
+# Sources that must be reported, and some that must not.
 PLANTED = {
     '"SELECT entity FROM cell"': True,
     '"SELECT entity FROM cell WHERE hi >= ?1 AND lo <= ?2"': True,
@@ -62,17 +63,17 @@ PLANTED = {
 
 
 def on_cells():
-    """Which statements of queries and changes ask for all rows of a table of cells; a planted one is found."""
+    """No statement of a query or change reads all rows of a table of cells. A planted one is found."""
     found, seen = [], {"cell": 0, "subscription_cell": 0}
     for file in SOURCES:
         name, source = str(file.relative_to(TOP)), file.read_text()
-        found += [f"{name}: {it!r} asks for all cells" for it in unnarrowed(source)]
+        found += [f"{name}: {it!r} selects all cells" for it in unnarrowed(source)]
         asked = [it for it in literals(source) if ON_CELLS.search(it)]
         for table in seen:
             seen[table] += sum(re.search(rf"(?<!_){table}\b", it) is not None for it in asked)
         if any(f"/{it}/" in name for it in NARROW) and READS_ALL.search(source):
             found.append(f"{name} reads whole tables")
-    found += [f"{count} statements on {table} were seen" for table, count in seen.items() if count < LEAST]
+    found += [f"{count} statements on {table} found, too few" for table, count in seen.items() if count < MIN]
     for text, is_wrong in PLANTED.items():
         planted = f"fn planted() {{\n    query(\n        tx,\n        {text},\n    )\n}}\n"
         found += [f"{text}: planted, and {'not ' * is_wrong}found"] if bool(unnarrowed(planted)) != is_wrong else []

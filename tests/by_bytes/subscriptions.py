@@ -1,4 +1,4 @@
-"""Rows of rules.py on subscriptions and on the intents that name one."""
+"""Rows of rules.py about subscriptions and the intents that reference one."""
 import wire
 from connections import ask, volume
 from wire import INTENTS, SUBSCRIPTIONS
@@ -15,14 +15,14 @@ def id_of(end):
 
 
 def subscription(end, token, intents=True, constraints=False, over=None, extents=volume()):
-    """A put of a subscription, over the version of a serial where one is given."""
+    """Returns a put of a subscription, over the version of a serial if one is given."""
     flags = {"notify_for_operational_intents": intents, "notify_for_constraints": constraints}
     path = f"{SUBSCRIPTIONS}/{id_of(end)}" + (f"/{wire.ovn(over)}" if over else "")
     return ask("PUT", path, token, wire.compact({"extents": extents, "uss_base_url": URL, **flags}))
 
 
 def naming(end, token, named, state="Accepted", key=(), over=None, extents=volume()):
-    """A put of an intent that names a subscription."""
+    """Returns a put of an intent that references a subscription."""
     members = {"extents": [extents], "key": [wire.ovn(it) for it in key], "state": state, "uss_base_url": URL}
     path = f"{INTENTS}/{id_of(end)}" + (f"/{wire.ovn(over)}" if over else "")
     return ask("PUT", path, token, wire.compact({**members, "subscription_id": id_of(named)}))
@@ -45,7 +45,7 @@ def query(token, cells=ONE):
     return ask("POST", f"{SUBSCRIPTIONS}/query", token, wire.compact({"area_of_interest": {"cells": cells}}))
 
 
-# ---- answers
+# ---- responses
 
 
 def shown(end, serial, intents=True, constraints=False, times=(900, 2000), dependents=(), index=0):
@@ -76,13 +76,13 @@ def listed(*all_):
     return wire.answer(200, wire.compact({"subscriptions": list(all_)}))
 
 
-# ---- rows: the name, the requests that are done, the last one, and its answer
+# ---- rows: the name, the requests that succeed, the last one, and its response
 
 D1 = subscription("d1", "tok-b")
 
 
 def rows(intent, constraint, seen, put, missing, denied):
-    """The rows, of the requests and answers that rules.py has for entities."""
+    """Returns the rows, given the functions of rules.py for requests and responses about entities."""
     a1, c1 = intent("a1", "tok-a"), constraint("c1", "tok-c")
     seen_a1, seen_c1 = seen("a1", "uss-a"), seen("c1", "uss-c", state=None)
 
@@ -123,7 +123,7 @@ def rows(intent, constraint, seen, put, missing, denied):
         ("P11: for both with one scope", (), subscription("d1", "tok-b", True, True), denied(11)),
         ("P11: update", (D1,), subscription("d1", "tok-b", True, True, over=1), denied(11)),
         (
-            "for constraints with their scope alone",
+            "for constraints only with their scope",
             (),
             subscription("d1", "tok-p", False, True),
             stored(shown("d1", 1, False, True)),
@@ -144,7 +144,7 @@ def rows(intent, constraint, seen, put, missing, denied):
         ("P16: update", (a1,), naming("a1", "tok-a", "d1", over=1), denied(16)),
         ("P13 before P16", (), naming("a1", "tok-a", "d1", extents=ENDED), denied(13)),
         ("P16 before P14", (a1,), naming("b1", "tok-b", "d1"), denied(16)),
-        ("a named one is told to all", (D1,), naming("b1", "tok-b", "d1"), put(names(seen("b1", "uss-b", 2)), 201, [("d1", 1)])),
+        ("a change notifies all, also the referenced one", (D1,), naming("b1", "tok-b", "d1"), put(names(seen("b1", "uss-b", 2)), 201, [("d1", 1)])),
         (
             "a named one is shown in a query",
             (D1, naming("b1", "tok-b", "d1")),
@@ -158,7 +158,7 @@ def rows(intent, constraint, seen, put, missing, denied):
             put(names(seen("b1", "uss-b", 4, version=2), "d2"), 200, [("d1", 2), ("d2", 2)]),
         ),
         (
-            "dependents by rising ids",
+            "dependents in the order of their ids",
             (D1, naming("b2", "tok-b", "d1"), naming("b1", "tok-b", "d1", key=(2,))),
             reading("d1", "tok-b"),
             found(shown("d1", 1, dependents=("b1", "b2"), index=2)),
@@ -226,7 +226,7 @@ def rows(intent, constraint, seen, put, missing, denied):
         ),
         ("deletion of a subscription", (D1,), removal("d1", "tok-b", 1), found(shown("d1", 1))),
         (
-            "a supplier's own subscriptions, by rising ids",
+            "a USS's own subscriptions, in the order of their ids",
             (subscription("d3", "tok-a"), subscription("d2", "tok-b"), D1),
             query("tok-b"),
             listed(shown("d1", 3), shown("d2", 2)),
@@ -237,25 +237,25 @@ def rows(intent, constraint, seen, put, missing, denied):
     high, new = subscription("d1", "tok-b", extents=HIGH), seen("a1", "uss-a", 3, version=2)
     for_constraints = subscription("d1", "tok-p", False, True)
     told = (
-        ("told: another's intent", (D1,), intent("a1", "tok-a"), put(seen("a1", "uss-a", 2), 201, [("d1", 1)])),
-        ("told: the caller's own", (subscription("d1", "tok-a"),), intent("a1", "tok-a"),
+        ("notified: another's intent", (D1,), intent("a1", "tok-a"), put(seen("a1", "uss-a", 2), 201, [("d1", 1)])),
+        ("notified: the caller's own", (subscription("d1", "tok-a"),), intent("a1", "tok-a"),
          put(seen("a1", "uss-a", 2), 201, [("d1", 1)])),
-        ("told: of intents, not of a constraint", (D1,), constraint("c1", "tok-c"), put(seen("c1", "uss-c", 2, None))),
-        ("told: of a constraint", (for_constraints,), constraint("c1", "tok-c"),
+        ("notified: of intents, not of a constraint", (D1,), constraint("c1", "tok-c"), put(seen("c1", "uss-c", 2, None))),
+        ("notified: of a constraint", (for_constraints,), constraint("c1", "tok-c"),
          put(seen("c1", "uss-c", 2, None), 201, [("d1", 1)])),
-        ("told: of constraints, not of an intent", (for_constraints,), intent("a1", "tok-a"), put(seen("a1", "uss-a", 2))),
-        ("told: nobody elsewhere", (high,), intent("a1", "tok-a"), put(seen("a1", "uss-a", 2))),
-        ("told: by one of two volumes", (high,), intent("a1", "tok-a", volumes=(volume(), HIGH)),
+        ("notified: of constraints, not of an intent", (for_constraints,), intent("a1", "tok-a"), put(seen("a1", "uss-a", 2))),
+        ("notified: none elsewhere", (high,), intent("a1", "tok-a"), put(seen("a1", "uss-a", 2))),
+        ("notified: by one of two volumes", (high,), intent("a1", "tok-a", volumes=(volume(), HIGH)),
          put(seen("a1", "uss-a", 2), 201, [("d1", 1)])),
-        ("told: by the old volumes", (D1, a1), intent("a1", "tok-a", volumes=(HIGH,), over=2), put(new, 200, [("d1", 2)])),
-        ("told: by the new volumes", (high, a1), intent("a1", "tok-a", volumes=(HIGH,), over=2), put(new, 200, [("d1", 1)])),
-        ("told: once by both", (D1, a1), intent("a1", "tok-a", over=2), put(new, 200, [("d1", 2)])),
-        ("told: of a deletion", (D1, a1), deletion("a1", "tok-a", 2), put(seen("a1", "uss-a", 2), 200, [("d1", 2)])),
-        ("told: by rising ids", (subscription("d2", "tok-a"), D1), intent("a1", "tok-a"),
+        ("notified: by the old volumes", (D1, a1), intent("a1", "tok-a", volumes=(HIGH,), over=2), put(new, 200, [("d1", 2)])),
+        ("notified: by the new volumes", (high, a1), intent("a1", "tok-a", volumes=(HIGH,), over=2), put(new, 200, [("d1", 1)])),
+        ("notified: once by both", (D1, a1), intent("a1", "tok-a", over=2), put(new, 200, [("d1", 2)])),
+        ("notified: of a deletion", (D1, a1), deletion("a1", "tok-a", 2), put(seen("a1", "uss-a", 2), 200, [("d1", 2)])),
+        ("notified: in the order of their ids", (subscription("d2", "tok-a"), D1), intent("a1", "tok-a"),
          put(seen("a1", "uss-a", 3), 201, [("d1", 1), ("d2", 1)])),
-        ("told: version and serial stay", (D1, a1), reading("d1", "tok-b"), found(shown("d1", 1, index=1))),
-        ("told: an update keeps the index", (D1, a1), subscription("d1", "tok-b", over=1, extents=HIGH),
+        ("notified: version and serial stay", (D1, a1), reading("d1", "tok-b"), found(shown("d1", 1, index=1))),
+        ("notified: an update keeps the index", (D1, a1), subscription("d1", "tok-b", over=1, extents=HIGH),
          stored(shown("d1", 3, index=1))),
-        ("told: a new one begins with 0", (D1, a1, removal("d1", "tok-b", 1)), D1, stored(shown("d1", 4), [seen_a1])),
+        ("notified: a new one begins with 0", (D1, a1, removal("d1", "tok-b", 1)), D1, stored(shown("d1", 4), [seen_a1])),
     )
     return entities + roles + named + keys + views + told

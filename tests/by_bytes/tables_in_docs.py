@@ -1,4 +1,4 @@
-"""The tables that scripts/doc_tables.py writes into documents are those of docs/openapi.yaml and of the SQL today."""
+"""The tables that scripts/doc_tables.py writes into documents match docs/openapi.yaml and the SQL."""
 import runpy
 
 from program import TOP
@@ -11,7 +11,7 @@ def tables_are_current():
         old = [it for it in made["TABLES"] if made["rewritten"](it) != (TOP / it).read_text()]
     except LookupError as error:
         return [repr(error)]
-    return [f"{it} has another table: run scripts/doc_tables.py" for it in old]
+    return [f"{it}: a table is not current: run scripts/doc_tables.py" for it in old]
 
 
 CASES = {"tables-in-docs": tables_are_current}

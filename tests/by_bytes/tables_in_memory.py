@@ -1,6 +1,7 @@
-"""What the program `test_sql_memory` is given and must print, over tables in memory, which no command of dss has: drawn
-calls with the plain policy's answers, and searches of cells of all levels. The gate runs the program on these files, which
-tests/draw_tables writes."""
+"""Input and expected output of the program `test_sql_memory` over tables in memory, which no command of dss has.
+
+They are drawn calls with the plain policy's responses, and searches of cells of all levels. The gate runs the
+program on these files, which tests/draw_tables writes."""
 import drawn_calls
 import plain_policy
 import wire
@@ -9,15 +10,15 @@ from program import TOP
 
 FOLDER = TOP / "crates" / "test_sql_memory"
 SEED, STREAMS = 7, 3
-# streams of creations that need no key, of two volumes each, and the levels of their cells
+# Streams of creations that need no key, of two volumes each, and the levels of their cells.
 CREATIONS, LEVELS = 2, range(7, 17)
-# of levels 0, 6, 13, 13 and 20 where the drawn calls are, and one elsewhere
+# Cells of levels 0, 6, 13, 13 and 20 in the area of the drawn calls, and one elsewhere.
 CELLS = ("1", "0001", "00000004", "00000304", "000003000004", "9")
 KINDS = (plain_policy.INTENT, plain_policy.CONSTRAINT)
 
 
 def extent(draw, drawn):
-    """A volume of one cell, two of three of which share a height or a time."""
+    """Returns a volume of one cell, two of three of which share an altitude or a time."""
     lower, start = 100 * draw.below(3), drawn_calls.NOW + 100 * draw.below(3)
     return {
         "cells": [drawn.cell(draw.of(LEVELS))],
@@ -29,7 +30,7 @@ def extent(draw, drawn):
 
 
 def creation(draw, drawn, number):
-    """The creation of a contingent intent of this number."""
+    """Returns the creation of a contingent intent of this number."""
     body = {
         "extents": [extent(draw, drawn), extent(draw, drawn)],
         "state": "Contingent",
@@ -40,7 +41,7 @@ def creation(draw, drawn, number):
 
 
 def searched(airspace, token):
-    """What is told of a cell."""
+    """Returns the expected output for a cell."""
     area = plain_policy.Extent((plain_policy.cell_of(token),), (None, None), (None, None))
     lines = []
     for kind in KINDS:
@@ -51,7 +52,7 @@ def searched(airspace, token):
 
 
 def files():
-    """The files of the crate by their names: tokens, streams, words, and what is printed."""
+    """Returns the files of the crate by their names: tokens, streams, arguments, and the expected output."""
     draw = Draw(SEED)
     airspace = plain_policy.Airspace(drawn_calls.NOW, drawn_calls.ALL_TOKENS)
     drawn = Drawn(draw, airspace)
@@ -59,10 +60,10 @@ def files():
     words, printed = ["tokens.toml"], b""
     for number in range(1, STREAMS + CREATIONS + 1):
         calls = []
-        for at in range(1, wire.MOST_REQUESTS + 1):
+        for at in range(1, wire.MAX_REQUESTS + 1):
             call = drawn.call() if number <= STREAMS else creation(draw, drawn, 1_000 * number + at)
             calls.append(wire.request(*call))
-            printed += airspace.ask(*call).text(closes=at == wire.MOST_REQUESTS)
+            printed += airspace.ask(*call).text(closes=at == wire.MAX_REQUESTS)
         words.append(f"{number}.http")
         found[f"data/{number}.http"] = b"".join(calls)
     for token in CELLS:
@@ -72,7 +73,7 @@ def files():
 
 
 def as_drawn():
-    """The crate's files are these."""
+    """The crate's files are those that this module makes."""
     return [
         f"crates/test_sql_memory/{name} is not what is drawn: run tests/draw_tables"
         for name, content in files().items()

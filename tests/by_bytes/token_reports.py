@@ -1,10 +1,10 @@
-"""What `dss tokens` tells of token files, line by line, and the tokens and salts that it makes."""
+"""`dss tokens` prints the expected lines about token files, and makes tokens and salts."""
 import pathlib
 import re
 import tempfile
 
 from program import BUILT, TOP, run
-from words import TOKEN_FILES
+from arguments import TOKEN_FILES
 
 SALT = "f0" * 32
 SCOPES = (
@@ -36,12 +36,12 @@ def good(tokens, suppliers, salt=64):
     return f"FILE: {tokens} token{ending(tokens)} of {suppliers} supplier{ending(suppliers)}, salt of {salt} character{ending(salt)}"
 
 
-# Texts of token files, the lines that are told of each, and the fault that the other commands tell of it.
+# Texts of token files, the lines printed about each, and the fault that the other commands report for it.
 FILES = (
     (with_salt(table()), [good(1, 1)], None),
     (with_salt(table("t"), table("u"), table("v", "uss-b")), [good(3, 2)], None),
     (with_salt(table(), salt="s" * 32), [good(1, 1, 32)], None),
-    # warnings alone
+    # Only warnings.
     (with_salt(table(), salt="s" * 31), ["line 1: " + is_short(31), good(1, 1, 31)], None),
     (with_salt(table(), salt="demo"), ["line 1: " + IS_EXAMPLE, "line 1: " + is_short(4), good(1, 1, 4)], None),
     (with_salt(table(), salt="Demo"), ["line 1: " + is_short(4), good(1, 1, 4)], None),
@@ -68,7 +68,7 @@ FILES = (
         ],
         None,
     ),
-    # mistakes
+    # Errors.
     ("salt = demo", ["line 1: no TOML: invalid value, expected a string, number, boolean, date-time, array or inline table"], "1 Toml"),
     (f'salt = "{SALT}"\n\n[[token]\n', ["line 3: no TOML: unclosed array table, expected `]]`"], "1 Toml"),
     (table(), [NO_SALT], "2 Salt"),
@@ -93,7 +93,7 @@ FILES = (
     (with_salt(table(), table("u", "uss c")), [f'line 10, token 2: uss "uss c": {NAMES}'], "4 Uss"),
     (with_salt(table(scopes='["utm.strategic_coordination", 1]')), ["line 6, token 1: scopes: not an array of strings"], "5 Scopes"),
     (with_salt(table(), table("u"), table("t", "uss-b")), ["line 14, token 3: text: that of token 1"], "6 Repeated"),
-    # all are told, with warnings after them, and of a line whatever stands above it
+    # All are reported, warnings last. What is reported for a line does not depend on the lines above it.
     (
         with_salt(table("a b", "u/v", "[]"), table("t") + "x = 1\n", '[[token]] # "t"\n"text" = """\nt"""\nuss = \'w\'\nscopes = [ # ]\n  "]", "#" ]\n', salt="demo"),
         [
@@ -108,7 +108,7 @@ FILES = (
         ],
         "3 Token",
     ),
-    # tables on one line, where none has a line of its own
+    # Tables on one line, where none has its own line.
     (
         f'salt = "{SALT}"\ntoken = [\n  {{text = "t", uss = "u", scopes = []}},\n  {{text = "t", uss = "u/", scopes = []}},\n]\n',
         [
@@ -121,7 +121,7 @@ FILES = (
 
 
 def checked(text):
-    """What is told of a text: the status, the lines, with FILE for the file's name, and standard error."""
+    """Returns what is printed about a text: the status, the lines, with FILE for the file's name, and standard error."""
     with tempfile.TemporaryDirectory() as room:
         file = pathlib.Path(room, "tokens.toml")
         file.write_text(text)
@@ -131,13 +131,13 @@ def checked(text):
 
 
 def secrets_in(text, lines):
-    """Which tokens and salts of a text stand on the lines, but those of a letter or two."""
+    """Returns the tokens and salts of a text that occur in the lines, except those of one or two letters."""
     texts = re.findall(r'(?:text"?|salt) = "+\n?([^"]*)"', text)
     return [it for it in texts if len(it) > 2 and it != "demo" and any(it in line for line in lines)]
 
 
 def reports():
-    """Of each file all is told, on a line each, and the fault that the other commands tell. No token and no salt is."""
+    """Each file gives all its lines, and the fault that the other commands report. No token and no salt is printed."""
     found = []
     for text, lines, fault in FILES:
         wanted = (1, lines, f"dss: tokens: fault {fault}\n") if fault else (0, lines, "")
@@ -149,21 +149,21 @@ def reports():
 
 
 def agreement():
-    """A file has a mistake exactly where `run` refuses it, and the fault is the same."""
+    """A file has an error exactly if `run` rejects it, and the fault is the same."""
     found = []
     for text, fault in TOKEN_FILES:
         status, lines, error = checked(text)
         wanted = (1, f"dss: tokens: fault {fault}\n") if fault else (0, "")
         if (status, error) != wanted:
             found += [f"{text!r}: wanted {wanted!r}, got {(status, error)!r}"]
-        mistakes = [it for it in lines if "warning: " not in it and not it.startswith("FILE: ")]
-        if bool(mistakes) != bool(fault) or any(it.startswith("FILE: ") for it in lines) == bool(fault):
+        errors = [it for it in lines if "warning: " not in it and not it.startswith("FILE: ")]
+        if bool(errors) != bool(fault) or any(it.startswith("FILE: ") for it in lines) == bool(fault):
             found += [f"{text!r}: {fault}, and the lines are {lines!r}"]
     return found
 
 
 def unread():
-    """A file that is not there, a folder, and bytes that are no UTF-8 are no files to read, as of the other commands."""
+    """A missing file, a directory, and bytes that are not UTF-8 cannot be read, as for the other commands."""
     found = []
     with tempfile.TemporaryDirectory() as room:
         pathlib.Path(room, "bytes").write_bytes(b'salt = "\xff"')
@@ -175,7 +175,8 @@ def unread():
 
 
 def from_nothing():
-    """A salt and some tokens make a file without a finding; each is of 64 hexadecimal digits, and no two are alike."""
+    """A salt and some tokens make a file without errors or warnings. Each is of 64 hexadecimal digits, and no two are
+    alike."""
     asked = [("uss-a", ",".join(SCOPES)), ("uss-a", SCOPES[0]), ("u" * 64, f"{SCOPES[2]},{SCOPES[1]}")]
     file, found = "", []
     for words in [["--new-salt"], *(["--new-token", uss, "--scopes", scopes] for uss, scopes in asked)]:
@@ -195,7 +196,7 @@ def from_nothing():
 
 
 def not_made():
-    """No token is made for a supplier or a scope that a token file could not have or that opens nothing."""
+    """No token is made for a USS or a scope that a token file cannot have or that permits nothing."""
     found = []
     scopes = f"there are {', '.join(SCOPES[:4])} and {SCOPES[4]}"
     for uss, names, told, fault in (
@@ -214,7 +215,7 @@ def not_made():
 
 
 def example_salts():
-    """Of the salt of each example it is told that it is one."""
+    """The salt of each example is reported as an example's."""
     found = []
     for file in sorted(TOP.glob("examples/*.toml")):
         lines = run([BUILT, "tokens", "--check", str(file)])[1].decode().splitlines()
@@ -224,7 +225,7 @@ def example_salts():
 
 
 def full():
-    """Lines that cannot be written are told as such."""
+    """If lines cannot be written, that is reported."""
     with open("/dev/full", "wb") as nowhere:
         import subprocess
         done = subprocess.run([BUILT, "tokens", "--new-salt"], stdout=nowhere, stderr=subprocess.PIPE)

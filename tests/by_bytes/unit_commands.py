@@ -1,6 +1,6 @@
-"""The commands that the units of the package have beside the program, and what logrotate does: tried on a service that runs.
+"""The commands of the package's units, and its logrotate configuration, work on a running service.
 
-That systemd runs them so is not tried; of a command it takes `%%` for `%`, `$$` for `$` and `\\\\` for `\\`."""
+That systemd runs them this way is not tested. systemd reads `%%` as `%`, `$$` as `$` and `\\` as `\`."""
 import datetime
 import re
 import shutil
@@ -8,7 +8,7 @@ import subprocess
 import threading
 import time
 
-from operators import STOP, Operated
+from admin_port import STOP, AdminService
 from program import BUILT, TOP, run
 from sockets import ASKED, CLOSING, LAST, difference
 
@@ -16,15 +16,15 @@ DEPLOY = TOP / "deploy"
 
 
 def command(unit, name, service):
-    """The words of a command of a unit, for the operator's port of a service."""
+    """Returns the arguments of a unit's command, for the admin port of a service."""
     text = re.search(rf"(?m)^{name}=-?/bin/bash -c '(.*)'$", (DEPLOY / unit).read_text())[1]
     for there, here in ("%%", "%"), ("$$", "$"), ("\\\\", "\\"), ("/127.0.0.1/8078", f"/127.0.0.1/{service.admin}"):
         text = text.replace(there, here)
     return ["bash", "-c", text]
 
 
-class Kept(Operated):
-    """The service with a log of requests and a folder for copies, as the unit has them."""
+class UnitService(AdminService):
+    """The service with an access log and a backup directory, as in the unit."""
 
     def command(self):
         (self.folder / "backups").mkdir(exist_ok=True)
@@ -35,10 +35,10 @@ class Kept(Operated):
 
 
 def stops():
-    """The unit's ExecStop has the service end, and waits until it has."""
-    with Operated() as started:
+    """The unit's ExecStop stops the service, and waits until it has exited."""
+    with AdminService() as started:
         found = difference("an answer", started.exchange(CLOSING, ends=False), LAST)
-        # as systemd does, so that it is no process any more once it has ended
+        # Reaps the process once it has exited, as systemd does.
         threading.Thread(target=started.program.wait, daemon=True).start()
         got = run(command("dss.service", "ExecStop", started), more={"MAINPID": f"{started.program.pid}"})
         found += difference("ExecStop", got, (0, b"", b""))
@@ -46,9 +46,9 @@ def stops():
 
 
 def copies():
-    """The unit of copies makes one of the day, which opens, and says that there is one where it is asked again."""
+    """The backup unit makes a backup of the day, which opens. A second run says that it exists."""
     day = datetime.datetime.now(datetime.timezone.utc).strftime("%Y-%m-%d")
-    with Kept() as started:
+    with UnitService() as started:
         started.exchange(CLOSING, ends=False)
         asked = command("dss-backup.service", "ExecStart", started)
         status, output, error = run(asked)
@@ -64,12 +64,12 @@ def copies():
 
 
 def rotates():
-    """logrotate moves the log away, and the service goes on in a new file of its own."""
+    """logrotate moves the log away, and the service continues in a new file of its own."""
     program = shutil.which("logrotate", path="/usr/sbin:/usr/bin")
     if not program:
-        print("logrotate is not here")
+        print("logrotate is missing, so this case is skipped: install the package logrotate")
         return []
-    with Kept() as started:
+    with UnitService() as started:
         text = (DEPLOY / "logrotate").read_text().replace("/var/log/dss/", f"{started.folder}/")
         owner = f"{started.folder.owner()} {started.folder.group()}"
         settings = started.folder / "logrotate"
@@ -86,4 +86,4 @@ def rotates():
         return found + difference("the old file", (moved.is_file() and len(moved.read_text().splitlines())), 2)
 
 
-CASES = {"unit-stops-the-service": stops, "unit-copies-the-database": copies, "logrotate-moves-the-log": rotates}
+CASES = {"unit-stops-the-service": stops, "unit-backs-up-the-database": copies, "logrotate-moves-the-log": rotates}

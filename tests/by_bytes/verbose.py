@@ -1,4 +1,6 @@
-"""`serve --verbose`: what `tokens --check` tells of the token file, the limits, and causes, before the lines that are told without it."""
+"""`serve --verbose` prints more lines before those printed without it.
+
+These are the lines of `tokens --check` about the token file, the limits, and causes."""
 import errno
 import fcntl
 import os
@@ -14,11 +16,11 @@ from serving import Service
 from sockets import difference
 from token_reports import FILES, IS_EXAMPLE, is_short
 
-TAKEN = "dss: socket\n"
+IN_USE = "dss: socket\n"
 
 
 def system(number):
-    """What the system says of an error."""
+    """Returns the system's text for an error."""
     return f"{os.strerror(number)} (os error {number})"
 
 
@@ -26,13 +28,13 @@ def cause(of, words):
     return f"dss: cause: {of}: {words}\n"
 
 
-def limits(connections="any number of connections", clients=1000, most_kept=None):
-    bound = "" if most_kept is None else f", at most {most_kept} kept of each supplier"
+def limits(connections="any number of connections", clients=1000, quota=None):
+    bound = "" if quota is None else f", at most {quota} kept of each supplier"
     return f"dss: limits: {clients} clients at once, {connections}{bound}\n"
 
 
-class Taken:
-    """A port that is taken, so that `serve` ends when it is about to listen."""
+class PortInUse:
+    """A port in use, so that `serve` exits when it is about to listen."""
 
     def __enter__(self):
         self.room = tempfile.TemporaryDirectory()
@@ -45,11 +47,11 @@ class Taken:
         self.room.cleanup()
 
     def told(self):
-        """What is told of that port, with the option."""
-        return cause(f"127.0.0.1:{self.there.getsockname()[1]}", system(errno.EADDRINUSE)) + TAKEN
+        """Returns the lines about that port, with the option."""
+        return cause(f"127.0.0.1:{self.there.getsockname()[1]}", system(errno.EADDRINUSE)) + IN_USE
 
     def serve(self, text, *options):
-        """The status, the output and the lines of standard error of `serve` with this text of a token file."""
+        """Returns the status, the output and the lines of standard error of `serve` with this text of a token file."""
         (self.folder / "tokens.toml").write_text(text)
         files = ["--tokens", f"{self.folder}/tokens.toml", "--db", f"{self.folder}/dss.db"]
         words = [BUILT, "serve", *files, "--port", f"{self.there.getsockname()[1]}", *options]
@@ -58,12 +60,13 @@ class Taken:
 
 
 def token_files():
-    """Of each token file the lines of its check, but for that of a file without a mistake; without the option the fault alone."""
+    """Each token file gives the lines of its check, except the line that reports no error. Without the option only the
+    fault is printed."""
     found = []
-    with Taken() as it:
+    with PortInUse() as it:
         for text, lines, fault in FILES:
             told = "".join(f"{line}\n" for line in lines if not line.startswith("FILE: "))
-            last = f"dss: tokens: fault {fault}\n" if fault else TAKEN
+            last = f"dss: tokens: fault {fault}\n" if fault else IN_USE
             found += difference(f"{text!r}", it.serve(text), (1, b"", last))
             wanted = told + (last if fault else limits() + it.told())
             found += difference(f"{text!r}, --verbose", it.serve(text, "--verbose"), (1, b"", wanted))
@@ -71,15 +74,15 @@ def token_files():
 
 
 def limits_of_options():
-    """The limits are those of the other options."""
+    """The printed limits are those of the other options."""
     text = wire.token_file(salt="f0" * 32)
     ways = (
         (["--max-connections", "7"], limits(clients=7)),
         (["--count", "20"], limits("20 connections")),
-        (["--quota", "1000"], limits(most_kept=1000)),
+        (["--quota", "1000"], limits(quota=1000)),
         (["--count", "1000000", "--max-connections", "1", "--quota", "4294967295"], limits("1000000 connections", 1, 4294967295)),
     )
-    with Taken() as it:
+    with PortInUse() as it:
         return [
             found for options, line in ways
             for found in difference(f"{options}", it.serve(text, "--verbose", *options), (1, b"", line + it.told()))
@@ -87,7 +90,7 @@ def limits_of_options():
 
 
 def held(path):
-    """A descriptor of a new file that holds the lock that SQLite has of a database."""
+    """Returns a descriptor of a new file that holds SQLite's lock of a database."""
     descriptor = os.open(path, os.O_RDWR | os.O_CREAT, 0o600)
     lock = struct.pack("hhqqi4x", fcntl.F_WRLCK, os.SEEK_SET, 1 << 30, 512, 0)
     fcntl.fcntl(descriptor, fcntl.F_OFD_SETLK, lock)
@@ -95,7 +98,8 @@ def held(path):
 
 
 def causes():
-    """Before the line of a fault at the start there is one that says what of, and why; without the option there is none."""
+    """Before the line of a fault at the start, a line says where it occurred, and why. Without the option there is
+    none."""
     text = wire.token_file(salt="f0" * 32)
     found = []
     with tempfile.TemporaryDirectory() as room:
@@ -132,7 +136,7 @@ class Verbose(Service):
 
 
 def listening():
-    """It listens after that, and answers as ever."""
+    """The service listens after these lines, and answers as usual."""
     call = wire.request("PUT", f"{wire.AVAILABILITY}/uss-b", "Bearer tok-v", b'{"old_version":"","availability":"Down"}')
     with Verbose(count=1) as told, Service(count=1) as plain:
         found = difference("the answer", told.ask([call]), plain.ask([call]))
@@ -142,12 +146,12 @@ def listening():
 
 
 def connection_given_up():
-    """Of a connection that is given up the second line says whose it was, and how far it was."""
+    """For an aborted connection, a second line gives its client and its phase."""
     with Verbose(count=1) as service:
         with socket.create_connection(("127.0.0.1", service.port)) as client:
             client.sendall(b"GET /")
             address = "%s:%d" % client.getsockname()
-            # the service has them by then, as it rests
+            # By then the service has read them, and rests.
             time.sleep(1)
             client.setsockopt(socket.SOL_SOCKET, socket.SO_LINGER, struct.pack("ii", 1, 0))
         wanted = f"dss: stream: fault 1 Read\ndss: stream: connection 1 of {address}, reading a request\n"
@@ -155,9 +159,9 @@ def connection_given_up():
 
 
 CASES = {
-    "verbose-tells-of-token-files": token_files,
-    "verbose-tells-limits": limits_of_options,
+    "verbose-token-files": token_files,
+    "verbose-limits": limits_of_options,
     "verbose-listens": listening,
-    "verbose-tells-causes": causes,
-    "verbose-tells-which-connection": connection_given_up,
+    "verbose-causes": causes,
+    "verbose-connections": connection_given_up,
 }

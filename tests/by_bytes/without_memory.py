@@ -1,5 +1,6 @@
-"""One growth of memory is refused, each in turn: each answer is the one that is due, or a fault that changed nothing, or the stream
-ends with `dss: memory`."""
+"""One memory allocation is refused, each in turn.
+
+Each response is the expected one, or a fault that changed nothing, or the stream ends with `dss: memory`."""
 import collections
 import gzip
 import json
@@ -12,31 +13,32 @@ import wire
 from devices import library
 from program import BUILT, CASES, TOP, content, first_difference, run
 
-MOST_GROWTHS = 20_000
+MAX_ALLOCATIONS = 20_000
 FAULT = (500, '{"message":"fault"}')
 STOPPED = (503, '{"message":"stopped"}')
 STORE = b"dss: db: fault 3 Store\n"
-# of the growths of memory of a stream over a database, one in so many is refused
+# One of so many memory allocations of a stream over a database is refused.
 STEP = 61
 NOW = 1000
 
 
 def each_environment(step=1):
-    """The environments in which each growth of memory is refused in turn, or one of each few, as long as there is such a
-    growth: the number of the growth, the environment, and a file that is there once it was refused."""
+    """Yields environments in which each memory allocation is refused in turn, or one of every few, as long as there is
+    such an allocation: its number, the environment, and a file that exists once it was refused."""
     with tempfile.TemporaryDirectory() as room:
         device, mark = library("refuse_memory", room), pathlib.Path(room, "refused")
-        for at in range(1, MOST_GROWTHS * step, step):
+        for at in range(1, MAX_ALLOCATIONS * step, step):
             mark.unlink(missing_ok=True)
             yield at, {"LD_PRELOAD": device, "REFUSE_AT": str(at), "REFUSED": str(mark)}, mark
             if not mark.exists():
                 return
-    raise ValueError(f"over {MOST_GROWTHS} growths of memory")
+    raise ValueError(f"over {MAX_ALLOCATIONS} memory allocations")
 
 
 def each_refused(command, given=b"", step=1, before=lambda: None):
-    """Runs a command with each growth of its memory refused in turn, or one of each few, after something was done.
-    Yields the number of the growth, what came, and whether there was such a growth, which is so for all but the last."""
+    """Runs a command with each of its memory allocations refused in turn, or one of every few, after calling `before`.
+    Yields the number of the allocation, the result, and whether that allocation was made, which is false only for
+    the last run."""
     for at, environment, mark in each_environment(step):
         before()
         got = run(command, given, more=environment)
@@ -44,28 +46,28 @@ def each_refused(command, given=b"", step=1, before=lambda: None):
 
 
 def case(name):
-    """Refuses each growth of memory of a case in turn: its answer comes, or a fault, and never another one."""
+    """Refuses each memory allocation of a case in turn: its response arrives, or a fault, and never another one."""
     folder = CASES / name
     given = content(folder / "stdin")
     words = content(folder / "args").decode().splitlines()
     allowed = [(0, content(folder / "stdout"), b""), (1, b"", b"dss: memory\n")]
-    # a request may be answered with a fault
+    # A request may get a fault.
     allowed += [(0, wire.answer(*FAULT, closes=True), b"")] if given else []
     for at, got, is_refused in each_refused([BUILT, *words], given):
         if not is_refused:
-            print(f"{name}: {at - 1} growths of memory refused in turn")
-            return [] if at > 10 and got == allowed[0] else [f"with {at - 1} growths: {got!r}"]
+            print(f"{name}: {at - 1} memory allocations refused in turn")
+            return [] if at > 10 and got == allowed[0] else [f"with {at - 1} allocations: {got!r}"]
         if got not in allowed:
-            return [f"growth {at} refused: {got!r}"]
+            return [f"allocation {at} refused: {got!r}"]
 
 
 def hour_of(start):
-    """The extents of the calls below: a cell for an hour."""
+    """Returns the extents of the calls below: a cell for an hour."""
     return {"cells": ["89c25904"], "altitude_lower": 0, "altitude_upper": 1200, "time_start": start, "time_end": start + 3600}
 
 
 def eight_calls(start=NOW):
-    """Calls that create, lack a key, update, query, delete and set, each of them with an effect or a denial."""
+    """Returns calls that create, lack a key, update, query, delete and set, each of them with an effect or a denial."""
     volume = hour_of(start)
     put = {"extents": [volume], "uss_base_url": "https://uss.example"}
 
@@ -87,8 +89,8 @@ def eight_calls(start=NOW):
 
 
 def notifying_calls(start=NOW):
-    """Subscriptions of two addresses, a creation that names one, an update and a deletion that notify them, an update and
-    a deletion of each of them, and what the index is of the one that is left."""
+    """Returns subscriptions of two addresses, a creation that references one, an update and a deletion that notify
+    them, an update and a deletion of each of them, and a read of the remaining one's index."""
     volume = hour_of(start)
     moved = {**volume, "cells": ["89c2590c"]}
     a1, d1, d2 = (f"00000000-0000-4000-8000-0000000000{it}" for it in ("a1", "d1", "d2"))
@@ -114,14 +116,14 @@ def notifying_calls(start=NOW):
 
 
 def changes(calls, found):
-    """The places of the answers that acknowledge a change."""
+    """Returns the positions of the responses that acknowledge a change."""
     done = (b"HTTP/1.1 200", b"HTTP/1.1 201")
     asked = [it.startswith(done) and method in ("PUT", "DELETE") for it, (method, *_) in zip(found, calls)]
     return {at for at, it in enumerate(asked) if it}
 
 
 def airspace_after(calls, faulted, serial):
-    """What the plain policy keeps of calls, of which some may be faults, as its serial is that number."""
+    """Returns what the plain policy stores after calls, of which some may be faults, so that its serial is that number."""
     airspace = plain_policy.Airspace(NOW)
     for at, call in enumerate(calls):
         if airspace.serial == serial:
@@ -132,9 +134,9 @@ def airspace_after(calls, faulted, serial):
 
 
 def lost(database, calls, found, is_cut=False):
-    """What is wrong with what a database keeps, opened again after calls of which these answers came: all that was
-    acknowledged, and at most the step of the call that stopped, or that ended the program where the answers were cut;
-    indexes and all else are as the plain policy has them."""
+    """Returns what is wrong with a reopened database after calls with these responses. It has all acknowledged changes,
+    and at most the change of the call that stopped, or that ended the program if the responses were cut. Indexes and
+    all else are those of the plain policy."""
     words = ["--tokens", str(TOP / "examples" / "tokens.toml"), "--now", str(NOW), "--db", str(database), "-"]
     seen = [("GET", "/".join(target.split("/")[:5]), token, None) for method, target, token, _ in calls if method == "PUT"]
     status, output, error = run([BUILT, "run", *words], b"".join(wire.request(*it) for it in seen))
@@ -151,7 +153,7 @@ def lost(database, calls, found, is_cut=False):
 
 
 def answers(calls, faulted=()):
-    """The answers of the plain policy, in which some of the calls may be faults, which change nothing."""
+    """Returns the responses of the plain policy, in which some of the calls may be faults, which change nothing."""
     airspace = plain_policy.Airspace(NOW)
     return [
         wire.answer(*FAULT) if at in faulted else airspace.ask(*call).text() for at, call in enumerate(calls)
@@ -159,17 +161,18 @@ def answers(calls, faulted=()):
 
 
 def stream():
-    """Of a stream of calls of each kind."""
+    """Allocations are refused to a stream of calls of each kind."""
     return stream_of("eight calls", eight_calls())
 
 
 def stream_that_notifies():
-    """Of a stream of changes that notify subscriptions: an index rises exactly where the change stands."""
+    """Allocations are refused to a stream of changes that notify subscriptions: an index rises exactly if the change is
+    made."""
     return stream_of("calls that notify", notifying_calls())
 
 
 def stream_of(name, calls):
-    """Refuses each growth of memory of a stream of calls in turn. Each answer is that of the plain policy, or a
+    """Refuses each memory allocation of a stream of calls in turn. Each response is that of the plain policy, or a
     fault that changed nothing, or the stream ends with 'dss: memory' after some of them."""
     fault = wire.answer(*FAULT)
     faults, ends, others = collections.Counter(), collections.Counter(), 0
@@ -185,32 +188,33 @@ def stream_of(name, calls):
         elif is_refused and (status, error) == (1, b"dss: memory\n") and wanted.startswith(output):
             ends[len(found)] += 1
         else:
-            return [f"growth {at}, refused: {is_refused}: {got!r}"]
+            return [f"allocation {at}, refused: {is_refused}: {got!r}"]
     each = [faults[it] for it in range(len(calls))]
-    print(f"{name}: {at - 1} growths of memory refused in turn: faults {each}, ends of the stream after so "
+    print(f"{name}: {at - 1} memory allocations refused in turn: faults {each}, ends of the stream after so "
           f"many answers {[ends[it] for it in range(len(calls))]}, without a trace {others}")
     return [] if all(each) else ["not each of the calls was answered with a fault"]
 
 
 def stream_over_database(step=STEP):
-    """Of calls of each kind over a database, for some of the growths."""
+    """Some allocations are refused to calls of each kind over a database."""
     return stream_over("eight calls", eight_calls(), step)
 
 
 def stream_that_notifies_over_database(step=STEP):
-    """Of changes that notify subscriptions, over a database: an index rises exactly where the change stands."""
+    """Some allocations are refused to changes that notify subscriptions, over a database: an index rises exactly if the
+    change is made."""
     return stream_over("calls that notify", notifying_calls(), step)
 
 
 def without(folder):
-    """Removes a database, if there is one, with what stands beside it."""
+    """Removes a database, if it exists, with the files beside it."""
     for file in pathlib.Path(folder).glob("dss.db*"):
         file.unlink()
 
 
 def stream_over(name, calls, step):
-    """The same over a database, for one growth in so many. A call may also stop the service, which then stands as before
-    that call or after it, and the database may not be opened. What was acknowledged is kept."""
+    """Does the same over a database, for one allocation in so many. A call may also stop the service, which then has
+    the state before that call or after it, and the database may not be opened. Acknowledged changes are stored."""
     fault, stopped = wire.answer(*FAULT), wire.answer(*STOPPED)
     ends = collections.Counter()
     with tempfile.TemporaryDirectory() as room:
@@ -228,19 +232,19 @@ def stream_over(name, calls, step):
             ended = {b"": "done", b"dss: memory\n": "memory", STORE: "store", b"dss: db: fault\n": "close"}.get(error)
             is_right = found == wanted[: len(found)] and ended is not None and status == (ended != "done")
             if not is_right or not is_refused and (ended, faulted, stopped in found) != ("done", None, False):
-                return [f"growth {at}, refused: {is_refused}: {got!r}"]
+                return [f"allocation {at}, refused: {is_refused}: {got!r}"]
             ends["stopped" if stopped in found else "fault" if faulted is not None else ended] += 1
             run([BUILT, "run", *words])
             wrong = lost(database, calls, found, ended == "memory")
             if wrong:
-                return [f"growth {at}: {it}" for it in wrong]
-    print(f"{name} over a database: of {at} growths of memory one in {step} refused: {dict(ends)}")
+                return [f"allocation {at}: {it}" for it in wrong]
+    print(f"{name} over a database: one of {step} of {at} memory allocations refused: {dict(ends)}")
     return [] if ends["fault"] and ends["store"] else [f"{dict(ends)}"]
 
 
 def move(step=STEP):
-    """Of the move of a database of format 1: it is made, or the database is not opened and stays as it was, and the next
-    start makes it; what is said of it is said once it stands."""
+    """Allocations are refused to the upgrade of a database of format 1: it is upgraded, or it is not opened and stays
+    as it was, and the next start upgrades it. The upgrade is reported only once it is durable."""
     ends = collections.Counter()
     with tempfile.TemporaryDirectory() as room:
         database = pathlib.Path(room, "dss.db")
@@ -260,15 +264,15 @@ def move(step=STEP):
                 (1, b"", b"dss: db: fault\n"): "close", (1, b"", b"dss: output\n"): "output",
             }.get(got)
             if ended is None or not is_refused and ended != "done":
-                return [f"growth {at}, refused: {is_refused}: {got!r}"]
+                return [f"allocation {at}, refused: {is_refused}: {got!r}"]
             ends[ended] += 1
             status, said, error = run(words)
-            # a database that was not opened stands as it was, or moved, where that could not be told
+            # A database that was not opened is as it was, or upgraded, if that could not be reported.
             is_right = (status, error) == (0, b"") and (said == held or said == moved and ended != "done")
             rows = tables.rows_in(database)
             wanted = before | {"meta": [(1, 2, before["meta"][0][2])]}
             kept = {it: rows[it] for it in before if it in rows} == wanted and not any(rows[it] for it in tables.LATER_TABLES)
             if not is_right or not kept or tables.wrong_in(database):
-                return [f"growth {at}: {got!r}, then {status}, {said!r}, {error!r}, {rows}"]
-    print(f"the move of a database: of {at} growths of memory one in {step} refused: {dict(ends)}")
+                return [f"allocation {at}: {got!r}, then {status}, {said!r}, {error!r}, {rows}"]
+    print(f"the upgrade of a database: one of {step} of {at} memory allocations refused: {dict(ends)}")
     return [] if ends["store"] else [f"{dict(ends)}"]

@@ -1,5 +1,5 @@
-/* Counts the syncs of files. At a regular end their number goes to the file that SYNCS names. To be loaded before the C
-   library. */
+/* Counts the syncs of files.
+   At a normal exit it writes their number to the file that SYNCS names. It must be loaded before the C library. */
 #define _GNU_SOURCE
 #include <stdio.h>
 #include <stdlib.h>

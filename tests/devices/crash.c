@@ -1,7 +1,8 @@
-/* Stops the machine at a call that changes a file. CRASH_AT is the number of the call; what it would have done is not
-   done, and the program ends with status 99. CRASH_KEEPS says what the disk has then: `all` that was written; only what
-   was `synced`, file by file; or `half` of the call's own bytes, too. The number of the call may also be that of a page
-   (page.h). At a regular end the number of calls goes to the file that CRASH_CALLS names. To be loaded before the C library. */
+/* Stops the machine at a call that changes a file.
+   CRASH_AT is the number of the call. The call has no effect, and the program exits with status 99. CRASH_KEEPS says what
+   the disk has persisted: `all` that was written; only what was `synced`, file by file; or additionally `half` of the
+   call's own bytes. A page (page.h) can also give the number of the call. At a normal exit the number of calls goes to the
+   file that CRASH_CALLS names. It must be loaded before the C library. */
 #define _GNU_SOURCE
 #include "page.h"
 #include <stdio.h>
@@ -9,7 +10,7 @@
 #include <sys/stat.h>
 #include <sys/syscall.h>
 
-/* What a call replaced in a file, and the file's size before it; the newest is first. */
+/* The bytes of a file that a call replaced, and the file's size before it. The newest change is first. */
 struct change {
     struct change *before;
     int file;
@@ -55,7 +56,7 @@ static void stop(void) {
     _exit(99);
 }
 
-/* Whether the call that is made now is the last. */
+/* Returns 1 if the current call is the last. */
 static int is_last(void) { return is_hit(told()); }
 
 ssize_t pwrite(int file, const void *bytes, size_t count, off_t at) {

@@ -1,7 +1,7 @@
-/* Makes standard input and output give and take few bytes a call, and fail, and the clock fail. Each is set by a
-   number in the environment: READ_BYTES and WRITE_BYTES, the most bytes of a call; READ_FIRST, those of the first
-   read; READ_FAILS, WRITE_FAILS and CLOCK_FAILS, the number of the call that fails; WRITE_STOPS, that of the first
-   that takes no byte. To be loaded before the C library. */
+/* Makes standard input and output give and take few bytes a call, and makes them and the clock fail.
+   Numbers in the environment control this: READ_BYTES and WRITE_BYTES, the maximum of a call; READ_FIRST, that of the
+   first read; READ_FAILS, WRITE_FAILS and CLOCK_FAILS, the number of the failing call; WRITE_STOPS, that of the first
+   call that takes no byte. It must be loaded before the C library. */
 #define _GNU_SOURCE
 #include <errno.h>
 #include <stdlib.h>
@@ -46,7 +46,7 @@ ssize_t write(int file, const void *bytes, size_t size) {
     return syscall(SYS_write, file, bytes, size);
 }
 
-int clock_gettime(clockid_t clock, struct timespec *moment) {
+int clock_gettime(clockid_t clock, struct timespec *time) {
     static long calls;
     if (clock == CLOCK_REALTIME) {
         calls += 1;
@@ -55,5 +55,5 @@ int clock_gettime(clockid_t clock, struct timespec *moment) {
             return -1;
         }
     }
-    return (int)syscall(SYS_clock_gettime, clock, moment);
+    return (int)syscall(SYS_clock_gettime, clock, time);
 }

@@ -1,7 +1,8 @@
-/* Makes calls on files fail: the one whose number stands in FAIL_AT, and as many in a row as FAIL_ROW says, if it is there; or by the
-   numbers of a page (page.h). Reads, writes, changes of size and syncs are counted, but for those of standard streams; by a page also
-   those writes and changes of size alone by which a file grows, which are what a full disk refuses. The number of calls goes to the
-   file that FAIL_CALLS names. To be loaded before the C library. */
+/* Makes calls on files fail.
+   FAIL_AT is the number of the first failing call, and FAIL_ROW the number of failing calls in a row [default: 1]. A page (page.h)
+   can give these numbers instead. Reads, writes, changes of size and syncs are counted, except those of standard streams. With a page
+   it is possible to count only the writes and changes of size by which a file grows, which a full disk refuses. The number of calls
+   goes to the file that FAIL_CALLS names. It must be loaded before the C library. */
 #define _GNU_SOURCE
 #include "page.h"
 #include <stdio.h>
@@ -12,7 +13,7 @@ enum { READS = 1, WRITES = 2, SIZES = 4, SYNCS = 8, GROWTHS = 16 };
 
 static struct page *told(void) { return page("FAIL_AT", "FAIL_ROW"); }
 
-/* Whether a call fails that is of any of these kinds. */
+/* Counts a call of these kinds; returns 1 and sets errno if it fails. */
 static int fails(int kinds) {
     struct page *it = told();
     if ((it->kinds && !(it->kinds & kinds)) || !is_hit(it))
@@ -21,7 +22,7 @@ static int fails(int kinds) {
     return 1;
 }
 
-/* What a call is beside its kind that makes a file as long as this, at least. */
+/* Returns GROWTHS if a call that extends a file to this length makes it larger, otherwise 0. */
 static int growth(int file, off_t length) {
     struct stat found;
     return fstat(file, &found) == 0 && length > found.st_size ? GROWTHS : 0;

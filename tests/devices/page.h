@@ -1,18 +1,19 @@
-/* What makes calls of a program fail by their numbers: numbers of the environment, or those of a file that DEVICE_PAGE names and that
-   a test maps, too, which reads and changes them while the program runs. */
+/* The numbers that control which calls of a program fail.
+   They come from the environment, or from a file that DEVICE_PAGE names. A test maps that file, too, and reads and changes the
+   numbers while the program runs. */
 #include <errno.h>
 #include <fcntl.h>
 #include <stdlib.h>
 #include <sys/mman.h>
 #include <unistd.h>
 
-/* How many calls were counted; the first that fails, where it is not 0, and how many in a row; the error; a sum of the kinds that are
-   counted, or 0 for all; how many syncs were begun, whether they wait, and whether they do nothing. */
+/* The calls counted; the first that fails, if it is not 0, and how many in a row; the error; the sum of the kinds that are
+   counted, or 0 for all; the syncs begun, whether they wait, and whether they do nothing. */
 struct page {
     volatile long calls, at, row, error, kinds, syncs, waits, lies;
 };
 
-/* The numbers; of the environment where no file is named, by the names of the first call that fails and of how many. */
+/* Returns the page. Without DEVICE_PAGE it has the numbers of the environment variables `at` and `row`. */
 static struct page *page(const char *at, const char *row) {
     static struct page own, *known;
     if (known)
@@ -30,13 +31,13 @@ static struct page *page(const char *at, const char *row) {
     return known = &own;
 }
 
-/* Counts a call; whether it is one of those that fail. */
+/* Counts a call; returns 1 if it fails. */
 static int is_hit(struct page *it) {
     long call = ++it->calls;
     return it->at > 0 && call >= it->at && call - it->at < it->row;
 }
 
-/* Waits as long as syncs do; whether they do nothing. */
+/* Counts a sync and waits while syncs wait; returns 1 if syncs do nothing. */
 static inline int is_sync_told(struct page *it) {
     it->syncs += 1;
     while (it->waits)

@@ -1,6 +1,7 @@
-/* Refuses growths of memory: the call of malloc or realloc whose number stands in REFUSE_AT, and as many in a row as
-   REFUSE_ROW says, if it is there; or by the numbers of a page (page.h). The file that REFUSED names is made when the first of
-   them comes. The number of all such calls goes to the file that GROWTHS names. To be loaded before the C library. */
+/* Refuses memory allocations.
+   REFUSE_AT is the number of the first refused call of malloc or realloc, and REFUSE_ROW the number of refused calls in a row
+   [default: 1]. A page (page.h) can give these numbers instead. The file that REFUSED names is made at the first refused call. The
+   number of all such calls goes to the file that GROWTHS names. It must be loaded before the C library. */
 #include "page.h"
 #include <stdio.h>
 

@@ -1,18 +1,20 @@
-"""What is loaded before the C library so that calls of a program fail, and the page by which a test tells a program that runs which."""
+"""Libraries that are loaded before the C library and make a program's calls fail.
+
+A test and the program communicate by a page of shared memory."""
 import mmap
 import pathlib
 import struct
 
 from program import TOP, run
 
-# the numbers of a page, as tests/devices/page.h has them
+# The numbers of a page, as in tests/devices/page.h.
 NUMBERS = ("calls", "at", "row", "error", "kinds", "syncs", "waits", "lies")
-# kinds of calls on files; growths are the writes and changes of size that make a file larger
+# Kinds of calls on files. Growths are the writes and changes of size that make a file larger.
 READS, WRITES, SIZES, SYNCS, GROWTHS = 1, 2, 4, 8, 16
 
 
 def library(name, folder):
-    """Makes the library of that name from its source in tests/devices, in a folder; its path."""
+    """Builds the library of that name from its source in tests/devices, in a directory; returns its path."""
     file = pathlib.Path(folder, f"{name}.so")
     built = run(["cc", "-shared", "-fPIC", "-O1", "-o", str(file), str(TOP / "tests" / "devices" / f"{name}.c")])
     if built[0]:
@@ -33,7 +35,7 @@ class Page:
         return struct.unpack_from("q", self.numbers, 8 * NUMBERS.index(name))[0]
 
     def set(self, **numbers):
-        """Sets the numbers that are named, and all others to 0."""
+        """Sets the named numbers, and all others to 0."""
         for at, name in enumerate(NUMBERS):
             struct.pack_into("q", self.numbers, 8 * at, numbers.get(name, 0))
 

@@ -1,5 +1,6 @@
-"""Calls that look drawn at random, the same in each run, over what the plain policy keeps. Something is
-often wrong with one, so that each rule is broken some times."""
+"""Calls that look random, the same in each run, over the contents of the plain policy.
+
+Calls often have a flaw, so that each rule is broken some times."""
 import json
 
 import plain_policy
@@ -9,7 +10,7 @@ from plain_policy import CONSTRAINT, INTENT, NEXT_STATES, NO_SUBSCRIPTION, PATHS
 NOW = 5_000
 SUPPLIERS = ("uss-a", "uss-b", "uss-c", "uss-v")
 TOKENS = tuple(wire.TOKENS)
-# Tokens whose scopes open the changes of a kind, and those that open its readings.
+# Tokens whose scopes permit the changes of a kind, and those that permit its reads.
 HANDLERS = {
     INTENT: ("tok-a", "tok-as", "tok-b", "tok-bm", "tok-bc"),
     CONSTRAINT: ("tok-c", "tok-d"),
@@ -17,7 +18,7 @@ HANDLERS = {
 }
 VIEWERS = {INTENT: HANDLERS[INTENT], CONSTRAINT: ("tok-bc", "tok-c", "tok-d"), SUBSCRIPTION: HANDLERS[SUBSCRIPTION]}
 KINDS = (INTENT,) * 5 + (CONSTRAINT,) * 2 + (SUBSCRIPTION,) * 4
-# One more supplier of constraints, beside those of the worked examples.
+# Another USS of constraints, in addition to those of the worked examples.
 MORE = {"tok-d": ("uss-d", {wire.MANAGEMENT, wire.STRATEGIC})}
 ALL_TOKENS = {**wire.TOKENS, **MORE}
 
@@ -25,7 +26,7 @@ WORKS = (
     ["create"] * 8 + ["update"] * 12 + ["query"] * 4 + ["read"] * 4 + ["delete"] * 5 + ["set"] * 5 + ["told"] * 2
     + ["route"] * 1 + ["method"] * 1
 )
-# What is wrong, so often.
+# Flaws, and how often they occur.
 FLAWS = {
     "create": ["id"] * 5 + ["key"] * 4 + ["time"] * 2 + ["state"] * 3 + ["form", "scope", "cover"]
     + ["subscription"] * 2 + [None] * 13,
@@ -59,13 +60,13 @@ class Draw:
 
 
 class Drawn:
-    """Draws calls over an airspace, with times around a moment."""
+    """Draws calls over an airspace, with times around a given one."""
 
     def __init__(self, draw, airspace, now=NOW):
         self.draw, self.airspace, self.now = draw, airspace, now
 
     def call(self):
-        """A method, a target, the value of the Authorization field or None, and a body or None."""
+        """Returns a method, a target, the value of the Authorization field or None, and a body or None."""
         work = self.draw.of(WORKS)
         flaw = self.draw.of(FLAWS[work])
         if work == "route":
@@ -109,7 +110,8 @@ class Drawn:
         return [it for (_, it) in sorted(self.airspace.entities.items()) if it.kind == kind]
 
     def target(self, kind, flaw):
-        """An entity that is there, or where there is none or the id is to be wrong, a number of one that is not."""
+        """Returns an existing entity. If none exists or the id is to be wrong, returns the number of one that does not
+        exist."""
         kept = self.kept(kind)
         if flaw == "depended" and kind == SUBSCRIPTION:
             kept = [it for it in kept if self.airspace.dependents(it.id)] or kept
@@ -126,7 +128,7 @@ class Drawn:
         return self.old_ovn() if entity is None or flaw in ("ovn", "both") else wire.ovn(entity.serial)
 
     def manager(self, entity, kind, flaw):
-        """A token of the entity's manager, or of another."""
+        """Returns a token of the entity's manager, or of another USS."""
         of_manager = [it for it in HANDLERS[kind] if entity and ALL_TOKENS[it][0] == entity.manager]
         if flaw in ("manager", "both") or not of_manager:
             others = [it for it in HANDLERS[kind] if it not in of_manager]
@@ -161,7 +163,7 @@ class Drawn:
         entity = self.target(kind, flaw)
         number = entity.id[-1] if entity else self.draw.of(self.free(kind) or "7")
         target = self.path(kind, number) + "0" * (flaw == "form") + "?more" * self.draw.one_in(8)
-        # the body of a reading is not looked at
+        # The body of a read is ignored.
         body = b"[" if self.draw.one_in(6) else None
         return "GET", target, self.draw.of(VIEWERS[kind]), body
 
@@ -185,7 +187,7 @@ class Drawn:
             del put["old_version"]
         return "PUT", target, "tok-v", self.body(put, flaw)
 
-    # ---- what bodies are made of
+    # ---- parts of bodies
 
     def put(self, kind, flaw, token, entity):
         if kind == SUBSCRIPTION:
@@ -204,7 +206,8 @@ class Drawn:
         return put
 
     def sub_put(self, flaw, token):
-        """What a subscription is to be; what the token's scopes do not allow, where the state is to be wrong."""
+        """Returns the body of a subscription's put. If the state is to be wrong, it has what the token's scopes do not
+        permit."""
         scopes = ALL_TOKENS[token][1]
         put = {"extents": self.volume(flaw), "uss_base_url": self.draw.of(("https://a.example", "https://b.example"))}
         for name, scope in (("operational_intents", wire.STRATEGIC), ("constraints", wire.PROCESSING)):
@@ -214,7 +217,7 @@ class Drawn:
         return put
 
     def named(self, flaw, token):
-        """The id of a subscription that an intent names, or nothing."""
+        """Returns the id of a subscription that an intent references, or nothing."""
         kept = self.kept(SUBSCRIPTION)
         own = [it.id for it in kept if it.manager == ALL_TOKENS[token][0]]
         others = [it.id for it in kept if it.id not in own] + ["00000000-0000-4000-8000-0000000000a9"]
@@ -229,7 +232,7 @@ class Drawn:
         return self.draw.of(STATES) if flaw == "state" or not roles else self.draw.of(roles)
 
     def key(self, flaw):
-        """All present OVNs, or where the key is to be wrong some of them, old ones among them."""
+        """Returns all current OVNs. If the key is to be wrong, returns some of them, old ones among them."""
         key = []
         for entity in self.airspace.entities.values():
             choice = self.draw.below(3) if flaw == "key" else 0
@@ -257,7 +260,7 @@ class Drawn:
         return cells + [""] * (flaw == "form" and self.draw.one_in(3))
 
     def cell(self, level):
-        """The token of a cell of that level. Its digits differ from those of others near level 13 alone, so that
+        """Returns the token of a cell of that level. Its digits differ from those of others only near level 13, so that
         two cells often touch and often do not."""
         bits = format(int(self.draw.one_in(5)), "03b")
         for at in range(1, level + 1):
@@ -283,31 +286,31 @@ class Drawn:
         return self.draw.of(broken)
 
 
-# What may come anywhere in a body, and in a target.
-PIECES = [b'"', b"\\", b"{", b"}", b"[", b"]", b",", b":", b"0", b"-", b".", b"e", b"+", b"00", b" ", b"\t", b"\n"]
-PIECES += [b"\\u0041", b"\\ud800", b"\\u0000", b"\\/", b"9" * 25, b"null", b"true", b"NaN", b"u", "é".encode()]
-PIECES += ["\ufeff".encode(), b"\x00", b"\x7f", b"\x80", b"\xff"]
+# Bytes that can occur anywhere in a mangled body or target.
+FRAGMENTS = [b'"', b"\\", b"{", b"}", b"[", b"]", b",", b":", b"0", b"-", b".", b"e", b"+", b"00", b" ", b"\t", b"\n"]
+FRAGMENTS += [b"\\u0041", b"\\ud800", b"\\u0000", b"\\/", b"9" * 25, b"null", b"true", b"NaN", b"u", "é".encode()]
+FRAGMENTS += ["\ufeff".encode(), b"\x00", b"\x7f", b"\x80", b"\xff"]
 MARKS = "/?#%aA0.-_~\"{}+|^`'"
 
 
 def mangled(draw, call):
-    """The call with a few letters less, more or other ones in its body, and now and then in its target."""
+    """Returns the call with a few letters removed, added or replaced in its body, and sometimes in its target."""
     method, target, authorization, body = call
     body = bytearray(body or b"")
     for _ in range(1 + draw.below(3) // 2 if body and draw.one_in(2) else 0):
         at = draw.below(len(body) + 1)
         beyond = at + draw.of((0, 0, 1, 1, 2, 5))
         copy = draw.below(len(body) + 1)
-        body[at:beyond] = draw.of((b"", draw.of(PIECES), draw.of(PIECES), body[copy : copy + draw.below(12)]))
+        body[at:beyond] = draw.of((b"", draw.of(FRAGMENTS), draw.of(FRAGMENTS), body[copy : copy + draw.below(12)]))
     if draw.one_in(8):
         at = draw.below(len(target) + 1)
         target = target[:at] + draw.of(MARKS) + target[at + draw.below(2) :]
     return method, target, authorization, bytes(body) if call[3] is not None else None
 
 
-def calls_of(seed, count=wire.MOST_REQUESTS, is_mangled=False, met=None, notified=None):
-    """Returns the calls of a stream, and the outcomes that the plain policy gives them. Counts in `met` what puts met, and
-    in `notified` the subscriptions that changes notified."""
+def calls_of(seed, count=wire.MAX_REQUESTS, is_mangled=False, met=None, notified=None):
+    """Returns the calls of a stream, and the outcomes that the plain policy gives them. Counts in `met` the intents
+    that puts meet, and in `notified` the subscriptions that changes notify."""
     draw = Draw(seed)
     airspace = plain_policy.Airspace(NOW, ALL_TOKENS)
     drawn = Drawn(draw, airspace)
@@ -323,7 +326,7 @@ def calls_of(seed, count=wire.MOST_REQUESTS, is_mangled=False, met=None, notifie
     return calls, outcomes
 
 
-def stream(seed, count=wire.MOST_REQUESTS, is_mangled=False, met=None, notified=None):
+def stream(seed, count=wire.MAX_REQUESTS, is_mangled=False, met=None, notified=None):
     """Returns the requests of a stream, and the outcomes that the plain policy gives them, as `calls_of` does."""
     calls, outcomes = calls_of(seed, count, is_mangled, met, notified)
     return [wire.request(*it) for it in calls], outcomes

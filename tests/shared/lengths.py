@@ -1,4 +1,4 @@
-"""How long cases run: short in each run of tests/end_to_end, longer with its option --long."""
+"""Lengths of cases: short in each run of tests/end_to_end, longer with its option --long."""
 import sys
 
 

@@ -1,6 +1,7 @@
-"""The policy as a plain program, written from the rules and formats that docs/POLICY.md states: what a
-request is answered, and what is kept after it. It reads whole lists and knows nothing of the built
-program's ways."""
+"""The policy as a plain program, written from the rules and formats in docs/POLICY.md.
+
+It gives the response to a request, and what is stored after it. It scans whole lists and shares no code or idea with
+the built program."""
 import collections
 import dataclasses
 import json
@@ -22,7 +23,7 @@ NO_SUBSCRIPTION = "00000000-0000-4000-8000-000000000000"
 
 ALTITUDES = (-100_000, 1_000_000)
 TIMES = (0, 253_402_300_799)
-MOST_COVERED = 16_384
+MAX_COVERED = 16_384
 
 RULES = {
     1: (404, "ROUTE"),
@@ -45,10 +46,10 @@ RULES = {
 
 
 class Malformed(Exception):
-    """A word or a body that has not its form."""
+    """A path parameter or a body that does not parse."""
 
 
-# ---- words and bodies
+# ---- path parameters and bodies
 
 
 def need(holds):
@@ -80,7 +81,7 @@ def ovn_of(word):
 
 @dataclasses.dataclass(frozen=True)
 class Fraction:
-    """A number that is not kept as whole."""
+    """A number that is not stored as an integer."""
 
     text: str
 
@@ -99,13 +100,13 @@ def refuse(_):
 
 
 def members_of(pairs):
-    """The members of an object. Half of a letter, which an escape can name, is no text."""
+    """Returns the members of an object. A lone surrogate, which an escape can name, is no text."""
     json.dumps(pairs, default=str, ensure_ascii=False).encode()
     return dict(pairs)
 
 
 def object_of(body):
-    """The members of a body. Where one stands twice, the last counts."""
+    """Returns the members of a body. If one occurs twice, the last counts."""
     readers = {"parse_int": whole, "parse_float": fraction, "parse_constant": refuse, "object_pairs_hook": members_of}
     try:
         value = json.loads(body.decode(), **readers)
@@ -130,12 +131,12 @@ def bounds_in(members, what, names, limits, is_needed):
 
 
 def cell_of(token):
-    """A cell: its face, and its digits below it."""
+    """Returns a cell: its face, and its digits below it."""
     need(isinstance(token, str) and 1 <= len(token) <= 16)
     need(all(it in "0123456789abcdefABCDEF" for it in token))
     bits = format(int(token.ljust(16, "0"), 16), "064b")
     face, digits = int(bits[:3], 2), bits[3:].rstrip("0")
-    # two bits a digit, and the one that ends them
+    # Two bits a digit, and the bit that ends them.
     need(face <= 5 and len(digits) % 2 == 1)
     return face, tuple(digits[at : at + 2] for at in range(0, len(digits) - 1, 2))
 
@@ -170,7 +171,7 @@ class Put:
 
 @dataclasses.dataclass(frozen=True)
 class SubPut:
-    """What a subscription is to be: where, and whether for intents and for constraints."""
+    """The body of a subscription's put: its area, and whether it is for intents and for constraints."""
 
     extents: tuple
     url: str
@@ -195,7 +196,7 @@ def sub_put_of(body):
 
 
 def named_in(members):
-    """The subscription that the put of an intent names, or None."""
+    """Returns the subscription that the put of an intent references, or None."""
     value = members.get("subscription_id")
     need(value is None or isinstance(value, str))
     return None if value is None or id_of(value) == NO_SUBSCRIPTION else id_of(value)
@@ -229,7 +230,7 @@ def setting_of(body):
     return members["availability"], old
 
 
-# ---- what meets what
+# ---- which volumes meet
 
 
 def touch(cell, other):
@@ -257,7 +258,7 @@ def some_meet(extents, others):
     return any(meet(a, b) for a in extents for b in others)
 
 
-# ---- what is kept
+# ---- stored state
 
 
 @dataclasses.dataclass(frozen=True)
@@ -280,15 +281,16 @@ class Subscription:
 
 
 def has_ended(kept, until):
-    """Whether none of its volumes ends after a moment."""
+    """Returns whether none of its volumes ends after a time."""
     return not any(it.times[1] > until for it in kept.put.extents)
 
 
-# ---- what is asked
+# ---- requests
 
 
 def route_of(target):
-    """The kind of entities or None, the words of the path, and what each method asks there; None is no route."""
+    """Returns the kind of entities or None, the path parameters, and the operation of each method; None if there is no
+    route."""
     path = target.partition("?")[0]
     for kind, prefix in PATHS.items():
         if path.startswith(prefix + "/"):
@@ -306,7 +308,7 @@ def route_of(target):
 
 
 def openers(kind, work):
-    """The scopes of which any one opens the work."""
+    """Returns the scopes any one of which permits the operation."""
     if kind == INTENT:
         return {STRATEGIC, MONITORING}
     if kind == CONSTRAINT:
@@ -317,7 +319,7 @@ def openers(kind, work):
 
 
 def token_in(authorization):
-    """The token that the value of an Authorization field bears."""
+    """Returns the bearer token in the value of an Authorization field."""
     if authorization is None:
         return None
     scheme, _, token = authorization.strip(" \t").partition(" ")
@@ -326,7 +328,7 @@ def token_in(authorization):
 
 @dataclasses.dataclass(frozen=True)
 class Asked:
-    """What the words of a path and a body say, each where its work has it."""
+    """The parsed path parameters and body of a request. Each is set if the operation has it."""
 
     id: str = None
     ovn: str = None
@@ -340,12 +342,12 @@ class Asked:
         return self.put.extents if self.put else (self.area,) if self.area else ()
 
     def state(self):
-        """The state of an intent that is put."""
+        """Returns the state of an intent in a put."""
         return self.put and self.put.state
 
 
 def asked_of(kind, work, words, body):
-    """What is asked, with all its forms read."""
+    """Parses a request with all its forms."""
     if kind is None:
         uss = uss_of(words[0])
         availability, old = setting_of(body) if work == "set" else (None, None)
@@ -360,7 +362,7 @@ def asked_of(kind, work, words, body):
 
 @dataclasses.dataclass(frozen=True)
 class Call:
-    """What is asked, and by whom. What could not be made out is None."""
+    """A request and its caller. Parts that do not parse are None."""
 
     methods: dict
     kind: str
@@ -381,7 +383,7 @@ def call_of(tokens, method, target, authorization, body):
     return Call(methods, kind, work, uss, scopes, asked)
 
 
-# ---- the rules, each asked of a call that breaks none before it
+# ---- the rules, each evaluated on a call that breaks none before it
 
 # P1 ROUTE
 def breaks_route(_airspace, call):
@@ -410,7 +412,7 @@ def breaks_form(_airspace, call):
 
 # P6 AREA
 def breaks_area(_airspace, call):
-    return sum(it.covered() for it in call.asked.extents()) > MOST_COVERED
+    return sum(it.covered() for it in call.asked.extents()) > MAX_COVERED
 
 
 # P7 FOUND
@@ -496,12 +498,12 @@ BREAKS = {
 }
 
 
-# ---- answers
+# ---- responses
 
 
 @dataclasses.dataclass
 class Outcome:
-    """What a request is answered, and why: the work that was done, or the rule that was broken."""
+    """The response to a request, and its reason: the operation that was done, or the rule that was broken."""
 
     status: int
     body: str
@@ -513,19 +515,19 @@ class Outcome:
 
 
 class Airspace:
-    """What is kept, and by which tokens it is asked."""
+    """The stored entities and subscriptions, and the tokens of callers."""
 
     def __init__(self, now, tokens=None, salt=wire.SALT):
         self.now, self.salt = now, salt
         self.tokens = wire.TOKENS if tokens is None else tokens
         self.entities, self.subscriptions, self.settings, self.serial = {}, {}, {}, 0
-        # how often a put that needs a key met an intent of each state, of a manager of each availability
+        # How often a put that needs a key met an intent of each state, of a manager of each availability.
         self.met = collections.Counter()
-        # how often a subscription was told of a change, and why
+        # How often a subscription was notified of a change, and why.
         self.notified = collections.Counter()
 
     def ask(self, method, target, authorization=None, body=b""):
-        """Answers a request, and keeps what it changes."""
+        """Answers a request, and stores what it changes."""
         call = call_of(self.tokens, method, target, authorization, body or b"")
         for rule, breaks in BREAKS.items():
             if breaks(self, call):
@@ -542,10 +544,10 @@ class Airspace:
         fields = {2: (f"Allow: {', '.join(call.methods or ())}",), 3: ("WWW-Authenticate: Bearer",)}
         return Outcome(status, wire.compact(value), fields.get(rule, ()), rule)
 
-    # ---- what is kept
+    # ---- stored state
 
     def found(self, call):
-        """The entity or the subscription that a call names, or None."""
+        """Returns the entity or the subscription of a call, or None."""
         if call.kind == SUBSCRIPTION:
             return self.subscriptions.get(call.asked.id)
         return self.entities.get((call.kind, call.asked.id))
@@ -556,9 +558,9 @@ class Airspace:
     def setting(self, uss):
         return self.settings.get(uss, ("Unknown", ""))
 
-    def sweep(self, until):
-        """Lets go of what has ended by a moment: intents and constraints, and subscriptions that no intent which stays names. It
-        tells how many of each went."""
+    def purge(self, until):
+        """Purges what has ended by a time: intents and constraints, and subscriptions that no remaining intent
+        references. Returns the number of each that was purged."""
         entities = {key: it for key, it in self.entities.items() if not has_ended(it, until)}
         named = {it.put.subscription for it in entities.values() if it.kind == INTENT}
         subscriptions = {id_: it for id_, it in self.subscriptions.items() if id_ in named or not has_ended(it, until)}
@@ -573,11 +575,11 @@ class Airspace:
         ]
 
     def is_spared(self, intent):
-        """Whether an intent is only planned, and its supplier is down."""
+        """Returns whether an intent is only planned, and its USS is down."""
         return intent.put.state == "Accepted" and self.setting(intent.manager)[0] == "Down"
 
     def missing(self, call):
-        """What a put needs and its key lacks, as the caller sees it."""
+        """Returns what a put needs and its key lacks, as the caller sees it."""
         needed = {INTENT: [], CONSTRAINT: []}
         put = call.asked.put
         if call.asked.state() in STATES[:2]:
@@ -615,7 +617,8 @@ class Airspace:
         return self.serial
 
     def told(self, call, old, new):
-        """Who is told of a change, with the new indexes: all that want the kind and meet an old or a new volume."""
+        """Returns the notified subscriptions of a change, with the new indexes: all that are for the kind and meet an
+        old or a new volume."""
         told = {}
         for id_, it in sorted(self.subscriptions.items()):
             wants = it.put.intents if call.kind == INTENT else it.put.constraints
@@ -667,7 +670,7 @@ class Airspace:
     # ---- subscriptions
 
     def dependents(self, id_):
-        """The ids of the intents that name a subscription."""
+        """Returns the ids of the intents that reference a subscription."""
         return [it.id for (_, it) in sorted(self.entities.items()) if it.put.subscription == id_]
 
     def sub_view(self, kept):
@@ -685,7 +688,7 @@ class Airspace:
             "version": self.ovn(kept),
         }
 
-    def keep_subscription(self, call, manager, index):
+    def store_subscription(self, call, manager, index):
         put = call.asked.put
         kept = Subscription(call.asked.id, manager, self.next(), index, put)
         self.subscriptions[kept.id] = kept
@@ -696,11 +699,11 @@ class Airspace:
         return 200, value
 
     def create_subscription(self, call):
-        return self.keep_subscription(call, call.uss, 0)
+        return self.store_subscription(call, call.uss, 0)
 
     def update_subscription(self, call):
         old = self.found(call)
-        return self.keep_subscription(call, old.manager, old.index)
+        return self.store_subscription(call, old.manager, old.index)
 
     def delete_subscription(self, call):
         seen = self.sub_view(self.found(call))

@@ -1,4 +1,4 @@
-"""The built program, and how it is run."""
+"""The built program, and functions that run it."""
 import os
 import pathlib
 import subprocess
@@ -9,14 +9,14 @@ import wire
 TOP = pathlib.Path(__file__).resolve().parents[2]
 CASES = TOP / "tests" / "data" / "cases"
 DSS = str(TOP / "dss")
-# what ./check says that ./dss runs, which is elsewhere where the repository cannot be written
+# ./check sets this to the program that ./dss runs, which is elsewhere if the repository cannot be written.
 BUILT = os.environ.get("DSS_PROGRAM") or str(TOP / ".dss" / "dss")
 SECONDS = 60
 
 
 def run(words, given=b"", folder=TOP, more=None, program=None):
-    """The status, standard output and standard error of a command, with more in its environment. The program
-    is the first word, if no other file is given."""
+    """Returns the status, standard output and standard error of a command with this additional environment. The program
+    is the first argument, if no other file is given."""
     environment = {**os.environ, **(more or {})}
     done = subprocess.run(
         words, executable=program, input=given, capture_output=True, cwd=folder, timeout=SECONDS, env=environment
@@ -29,7 +29,7 @@ def content(file, missing=b""):
 
 
 def serve(requests, now, tokens=None, more=None):
-    """What comes of a stream, with the text of a token file."""
+    """Returns the result of a stream, with the text of a token file."""
     with tempfile.TemporaryDirectory() as room:
         file = pathlib.Path(room, "tokens.toml")
         file.write_bytes((wire.token_file() if tokens is None else tokens).encode())
@@ -37,7 +37,7 @@ def serve(requests, now, tokens=None, more=None):
 
 
 def first_difference(wanted, got):
-    """Where two lists of answers differ first, in words, or None."""
+    """Describes where two lists of responses differ first; None if they do not."""
     for at, (want, have) in enumerate(zip(wanted, got)):
         if want != have:
             return f"answer {at + 1}\n    wanted {want!r}\n    got    {have!r}"

@@ -5,8 +5,8 @@ import os
 import random
 
 VARIABLE = "DSS_TEST_SEED"
-# new seeds are above all fixed ones
-LEAST, BEYOND = 1_000_000, 2**48
+# New seeds are above all fixed ones.
+MIN, BEYOND = 1_000_000, 2**48
 
 
 def base():
@@ -19,4 +19,4 @@ def base():
 def new(name, count):
     """Returns new seeds for the case of this name."""
     draw = random.Random(f"{base()} {name}")
-    return [draw.randrange(LEAST, BEYOND) for _ in range(count)]
+    return [draw.randrange(MIN, BEYOND) for _ in range(count)]

@@ -1,4 +1,4 @@
-"""The service as it listens, over a database in a folder of its own."""
+"""A running service over a database in its own directory."""
 import os
 import pathlib
 import socket
@@ -11,36 +11,36 @@ from ports import free_port
 from program import BUILT, SECONDS
 
 
-def words(folder, port, count, clients=None, most_kept=None):
-    """The command line of the service over a folder with its token file and its database, for so many clients at once, and with
-    a bound of what is kept of each supplier."""
+def words(folder, port, count, clients=None, quota=None):
+    """Returns the command line of the service over a directory with its token file and its database, for that many
+    connections, and with a quota."""
     at_once = [] if clients is None else ["--max-connections", f"{clients}"]
-    bound = [] if most_kept is None else ["--quota", f"{most_kept}"]
+    bound = [] if quota is None else ["--quota", f"{quota}"]
     files = ["--tokens", f"{folder}/tokens.toml", "--db", f"{folder}/dss.db"]
     return [BUILT, "serve", *files, "--port", f"{port}", "--count", f"{count}", *at_once, *bound]
 
 
 def until_closed(connection):
-    """What comes until the other side closes."""
+    """Returns the bytes that arrive until the other side closes."""
     came = b""
     try:
-        while piece := connection.recv(1 << 16):
-            came += piece
+        while chunk := connection.recv(1 << 16):
+            came += chunk
     except ConnectionResetError:
         pass
     return came
 
 
 class Service:
-    """`dss serve` on a free port, for so many connections at most, with more in its environment."""
+    """`dss serve` on a free port, with a limit of connections and an additional environment."""
 
-    # the seconds in which it has to listen, where it does, further options, and what is told before it listens
+    # The seconds in which it must listen, its address, further options, and the lines before it listens.
     patience, address, options, preface = SECONDS, "127.0.0.1", (), b""
 
-    def __init__(self, tokens=None, count=1_000_000, disk=None, more=None, clients=None, most_kept=None):
+    def __init__(self, tokens=None, count=1_000_000, disk=None, more=None, clients=None, quota=None):
         self.room = tempfile.TemporaryDirectory(dir=disk)
         self.folder, self.count, self.clients = pathlib.Path(self.room.name), count, clients
-        self.most_kept = most_kept
+        self.quota = quota
         self.environment = {**os.environ, **(more or {})}
         (self.folder / "tokens.toml").write_text(wire.token_file(tokens))
 
@@ -53,8 +53,8 @@ class Service:
         self.room.cleanup()
 
     def command(self):
-        """The command line of the program."""
-        return [*words(self.folder, self.port, self.count, self.clients, self.most_kept), *self.options]
+        """Returns the command line of the program."""
+        return [*words(self.folder, self.port, self.count, self.clients, self.quota), *self.options]
 
     def start(self):
         """Starts the program, and waits until it listens."""
@@ -77,7 +77,7 @@ class Service:
         self.program.wait()
 
     def ended(self):
-        """The status, the output and the error, once all connections were served."""
+        """Returns the status, the output and the error, once all connections were served."""
         status = self.program.wait(timeout=SECONDS)
         return status, (self.folder / "output").read_bytes(), (self.folder / "errors").read_bytes()
 
@@ -85,7 +85,8 @@ class Service:
         return socket.create_connection(("127.0.0.1", self.port), timeout=SECONDS)
 
     def exchange(self, sent, ends=True):
-        """What comes back on a connection of its own; ends says whether the client sends its end, too."""
+        """Returns the bytes that arrive on a separate connection. `ends` says whether the client also closes its
+        sending side."""
         with self.connect() as connection:
             connection.sendall(sent)
             if ends:
@@ -93,10 +94,10 @@ class Service:
             return b"".join(iter(lambda: connection.recv(1 << 16), b""))
 
     def ask(self, requests):
-        """The answers to requests over one connection."""
+        """Returns the responses to requests over one connection."""
         return wire.answers_of(self.exchange(b"".join(requests)))
 
     def memory(self):
-        """The memory that the program holds, in kilobytes."""
+        """Returns the memory of the program, in kilobytes."""
         status = pathlib.Path(f"/proc/{self.program.pid}/status").read_text()
         return next(int(it.split()[1]) for it in status.splitlines() if it.startswith("VmRSS:"))

@@ -1,9 +1,9 @@
-"""The tables of a database in both formats, as docs/DATABASE.md has them, and files of SQLite with them."""
+"""The tables of a database in both formats, as in docs/DATABASE.md, and SQLite files with them."""
 import contextlib
 import re
 import sqlite3
 
-# The tables of format 1, and those that came with format 2, in the order in which the program makes them.
+# The tables of format 1, and those that format 2 added, in the order in which the program makes them.
 FIRST = """
 CREATE TABLE meta (one INTEGER PRIMARY KEY NOT NULL CHECK (one = 1), format INTEGER NOT NULL,
   serial INTEGER NOT NULL CHECK (serial >= 0)) STRICT;
@@ -44,7 +44,7 @@ def statements(text):
 
 
 def named(text):
-    """The statements that make tables and indexes, by the names of these."""
+    """Returns the statements that make tables and indexes, by the names of these."""
     return {re.match(r"CREATE \w+ (\w+)", it)[1]: it for it in statements(text)}
 
 
@@ -59,7 +59,7 @@ FORMATS = {1: FIRST, 2: FIRST + LATER}
 
 @contextlib.contextmanager
 def opened(file):
-    """A connection of SQLite itself, whose changes are committed and which is closed at the end."""
+    """Opens a connection of SQLite itself. Its changes are committed and it is closed at the end."""
     database = sqlite3.connect(file)
     try:
         with database:
@@ -70,7 +70,7 @@ def opened(file):
 
 @contextlib.contextmanager
 def unguarded(file):
-    """The same, with the checks and references of the tables off."""
+    """Opens the same, with the checks and references of the tables off."""
     with opened(file) as database:
         database.execute("PRAGMA foreign_keys = OFF")
         database.execute("PRAGMA ignore_check_constraints = ON")
@@ -79,7 +79,7 @@ def unguarded(file):
 
 
 def make(file, number, rows=None):
-    """Makes a file with the tables of a format, and with rows, by their tables, beside that of meta; with a log, as the
+    """Makes a file with the tables of a format, and with rows by table in addition to that of meta; with a log, as the
     program makes it."""
     with opened(file) as database:
         database.execute("PRAGMA journal_mode = WAL")
@@ -91,26 +91,26 @@ def make(file, number, rows=None):
 
 
 def rows_in(file):
-    """The rows of each table, by its name, in one order."""
+    """Returns the rows of each table, by its name, sorted."""
     with opened(file) as database:
         names = [it for (it,) in database.execute("SELECT name FROM sqlite_schema WHERE type = 'table' ORDER BY name")]
         return {it: sorted(database.execute(f"SELECT * FROM {it}").fetchall()) for it in names}
 
 
 def columns_in(file):
-    """The columns of the tables, each with its table."""
+    """Returns the columns of the tables, each with its table."""
     with opened(file) as database:
         return [(table, it) for table in TABLES for (it,) in database.execute(f"SELECT name FROM pragma_table_info('{table}')")]
 
 
 def schema_in(file):
-    """The statements by which SQLite says that tables and indexes were made, without their blanks, by the names."""
+    """Returns SQLite's statements for tables and indexes, without blanks, by the names."""
     with opened(file) as database:
         return {name: "".join(text.split()) for name, text in database.execute("SELECT name, sql FROM sqlite_schema WHERE sql NOT NULL")}
 
 
 def wrong_in(file):
-    """What SQLite finds wrong with a file."""
+    """Returns what SQLite finds wrong with a file."""
     with opened(file) as database:
         found = [it for statement in ("integrity_check", "foreign_key_check") for it in database.execute(f"PRAGMA {statement}")]
     return [] if found == [("ok",)] else [f"SQLite: {found}"]

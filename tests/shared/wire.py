@@ -1,4 +1,4 @@
-"""Requests and answers as bytes, and the token file that they go with."""
+"""Requests and responses as bytes, and their token file."""
 import hashlib
 import json
 
@@ -8,7 +8,7 @@ PROCESSING = "utm.constraint_processing"
 MANAGEMENT = "utm.constraint_management"
 ARBITRATION = "utm.availability_arbitration"
 
-# The suppliers and scopes of the worked examples, by token.
+# The USSs and scopes of the worked examples, by token.
 TOKENS = {
     "tok-a": ("uss-a", {STRATEGIC}),
     "tok-as": ("uss-a", {STRATEGIC, MONITORING}),
@@ -42,12 +42,12 @@ REASONS = {
     503: "Service Unavailable",
 }
 
-# A connection closes after so many requests.
-MOST_REQUESTS = 100
+# A connection closes after this many requests.
+MAX_REQUESTS = 100
 
 
 def token_file(tokens=None, salt=SALT):
-    """The text of a token file."""
+    """Returns the text of a token file."""
     lines = [f"salt = {json.dumps(salt)}"]
     for text, (uss, scopes) in (TOKENS if tokens is None else tokens).items():
         lines += ["", "[[token]]", f"text = {json.dumps(text)}", f"uss = {json.dumps(uss)}"]
@@ -56,17 +56,17 @@ def token_file(tokens=None, salt=SALT):
 
 
 def ovn(serial, salt=SALT):
-    """The OVN of a serial."""
+    """Returns the OVN of a serial."""
     return hashlib.sha256(f"dss-ovn|{salt}|{serial}".encode()).hexdigest()
 
 
 def compact(value):
-    """The JSON text of an answer."""
+    """Returns the JSON text of a response."""
     return json.dumps(value, separators=(",", ":"), sort_keys=True, ensure_ascii=False)
 
 
 def request(method, target, authorization=None, body=None, fields=()):
-    """A request that leaves its connection open, with the value of its Authorization field."""
+    """Returns a request that leaves its connection open, with the value of its Authorization field."""
     lines = [f"{method} {target} HTTP/1.1"]
     lines += [f"Authorization: {authorization}"] if authorization is not None else []
     lines += fields
@@ -75,7 +75,7 @@ def request(method, target, authorization=None, body=None, fields=()):
 
 
 def answer(status, body, fields=(), closes=False):
-    """An answer with the text of its body."""
+    """Returns a response with the text of its body."""
     lines = [f"HTTP/1.1 {status} {REASONS[status]}", "Content-Type: application/json"]
     lines += [f"Content-Length: {len(body.encode())}", *fields]
     lines += ["Connection: close"] if closes else []
@@ -83,7 +83,7 @@ def answer(status, body, fields=(), closes=False):
 
 
 def answers_of(output):
-    """The answers of a stream, one after the other; what follows the last whole one is left out."""
+    """Returns the responses of a stream, one after the other. What follows the last whole one is left out."""
     answers = []
     while output:
         head, mark, rest = output.partition(b"\r\n\r\n")

@@ -1,5 +1,6 @@
-"""A client that draws changes and compares each answer with the plain policy's, also where it cannot know whether a change
-was made; and watches that read on each host all the while."""
+"""A client that draws changes and compares each response with the plain policy's.
+
+Watches read on each host meanwhile. It also handles changes whose outcome it cannot know."""
 import collections
 import copy
 import dataclasses
@@ -16,17 +17,17 @@ from machines import Failed
 from plain_policy import CONSTRAINT
 from program import BUILT, run
 
-# all times that are drawn lie around a moment far ahead of the machine's clock
+# All drawn times are around a time far ahead of the machine's clock.
 AHEAD = 4_000_000_000
 MARKED = f"{wire.AVAILABILITY}/uss-n"
 READ = ("GET", MARKED, "Bearer tok-v", None)
-# a change that may have been made or not doubles what the airspace may be
-MOST_CANDIDATES = 64
+# Each change of unknown outcome doubles the possible airspaces. These are the most.
+MAX_CANDIDATES = 64
 PAUSE = 0.1
 
 
 def exchange(connection, call):
-    """The status and the body of an answer, or None where the connection ends before it is whole."""
+    """Returns the status and the body of a response, or None if the connection ends before it is whole."""
     connection.sendall(wire.request(*call))
     got = b""
     while True:
@@ -42,7 +43,7 @@ def exchange(connection, call):
 
 
 def ask_once(connect, call):
-    """The answer; None where the service was not reached, and False where nobody knows what became of the call."""
+    """Returns the response; None if the service was not reached, and False if the outcome of the call is unknown."""
     try:
         connection = connect()
     except OSError:
@@ -56,7 +57,7 @@ def ask_once(connect, call):
 
 @dataclasses.dataclass
 class Candidate:
-    """What the airspace may be, and which calls of unknown outcome were made in it."""
+    """A possible airspace, and which calls of unknown outcome were made in it."""
 
     airspace: plain_policy.Airspace
     made: frozenset
@@ -72,7 +73,8 @@ class Client:
     def __init__(self, seed):
         self.draw = drawn_calls.Draw(seed)
         self.candidates = [Candidate(plain_policy.Airspace(int(time.time()), drawn_calls.ALL_TOKENS), frozenset())]
-        # changes that were acknowledged, and when the last calls of a mark were: the serial, before and after the call
+        # The number of acknowledged changes, and the times of the last calls of a mark: the serial, before and after
+        # the call.
         self.acknowledged, self.marks, self.unknown = 0, [], 0
         self.answers = collections.Counter()
         self.lock = threading.Lock()
@@ -82,8 +84,9 @@ class Client:
         return self.candidates[0].airspace
 
     def ask(self, connect, call, may_be_old=False):
-        """Asks for one call, and keeps what it may have done. Whether its answer came, which may be an old one where that
-        is said: then it may refuse by what was, and may not do what is not kept."""
+        """Makes one call, and records what it may have done. Returns whether its response arrived. With `may_be_old`
+        the response may be an old one: it may deny by the earlier state, but may not report as done what is not
+        stored."""
         with self.lock:
             before = [it.copied() for it in self.candidates]
             texts = [it.airspace.ask(*call) for it in self.candidates]
@@ -95,7 +98,7 @@ class Client:
         serials = [it.airspace.serial for it in before]
         if not got or got[0] in (500, 502, 503, 504):
             self.answers["not reached" if got is None else "lost" if not got else str(got[0])] += 1
-            # a fault changed nothing; what HAProxy or a service that has stopped says leaves it open
+            # A fault changed nothing. A response of HAProxy or of a stopped service leaves the outcome open.
             is_open = got is not None and not (got and got[0] == 500)
             self.open_up(before, serials) if is_open else self.keep(before)
             return False
@@ -109,7 +112,7 @@ class Client:
             return True
         if not found:
             wanted = [(it.status, it.body) for it in outcomes]
-            raise Failed(f"{call}: an acknowledged change is lost, or one that was not is there: {got}, wanted {wanted}")
+            raise Failed(f"{call}: an acknowledged change is lost, or an unacknowledged one is stored: got {got}, wanted {wanted}")
         self.keep(found)
         if self.airspace.serial > serials[0] or len(found) > 1 and got[0] in (200, 201) and call[0] in ("PUT", "DELETE"):
             self.acknowledged += 1
@@ -119,7 +122,7 @@ class Client:
         return True
 
     def open_up(self, before, serials):
-        """Nobody knows whether the call was made."""
+        """Records a call of unknown outcome."""
         self.unknown += 1
         made = [
             Candidate(it.airspace, it.made | {self.unknown})
@@ -128,25 +131,25 @@ class Client:
         self.keep(before + made)
 
     def keep(self, candidates):
-        if len(candidates) > MOST_CANDIDATES:
+        if len(candidates) > MAX_CANDIDATES:
             raise Failed("too many calls of unknown outcome")
         self.candidates = candidates
 
     def mark(self, connect):
-        """A change that the watches read."""
+        """Makes a change that the watches read."""
         old = self.airspace.settings.get("uss-n", ("", ""))[1]
         value = {"old_version": old, "availability": self.draw.of(("Normal", "Down"))}
         return self.ask(connect, ("PUT", MARKED, "Bearer tok-v", json.dumps(value).encode()))
 
     def old_changes(self, connect, seconds):
-        """Asks a host for drawn calls that may not know yet that it was given up."""
+        """Sends drawn calls to a host that may not know yet that it was replaced."""
         end = time.monotonic() + seconds
         while time.monotonic() < end:
             self.ask(connect, drawn_calls.Drawn(self.draw, self.airspace, AHEAD).call(), may_be_old=True)
             time.sleep(PAUSE)
 
     def changes(self, connect, seconds, many=1 << 30):
-        """Asks for drawn calls for a time, up to the first that is not answered; so many were answered."""
+        """Sends drawn calls for a time, up to the first without a response; returns the number of responses."""
         end, count = time.monotonic() + seconds, 0
         while time.monotonic() < end and count < many:
             drawn = drawn_calls.Drawn(self.draw, self.airspace, AHEAD)
@@ -157,23 +160,23 @@ class Client:
         return count
 
     def reads(self, connect):
-        """Whether a reading is answered."""
+        """Returns whether a read gets a response."""
         got = ask_once(connect, READ)
         return bool(got) and got[0] == 200
 
     def sought(self, ways, limit):
-        """Waits until a change by one of the ways is answered: how long it took, or None."""
+        """Waits until a change over one of the ways gets a response: returns the time that it took, or None."""
         began = time.monotonic()
         while time.monotonic() - began < limit:
             for way in ways:
-                # 409 tells which of the candidates it is
+                # 409 tells which of the candidates it is.
                 if self.reads(way) and self.mark(way):
                     return time.monotonic() - began
             time.sleep(PAUSE)
         return None
 
     def reached(self, ways, limit):
-        """The same where it has to be answered."""
+        """Does the same, and requires a response."""
         took = self.sought(ways, limit)
         if took is None:
             raise Failed(f"after {limit} s no host serves: {dict(self.answers)}")
@@ -182,7 +185,7 @@ class Client:
     # ---- the file
 
     def compare(self, folder):
-        """What is wrong with a copy of the database; the candidates that it is not are dropped."""
+        """Returns what is wrong with a copy of the database. Drops the candidates that differ from it."""
         file = pathlib.Path(folder, "dss.db")
         status, output, error = run([BUILT, "report", "--db", str(file)])
         wrong = tables.wrong_in(file)
@@ -198,7 +201,8 @@ class Client:
 
 
 def rows_of(file):
-    """The serial, and what the tables have of entities, subscriptions with their indexes, names and availabilities."""
+    """Returns the serial, and the entities, subscriptions with their indexes, references and availabilities in the
+    tables."""
     with tables.opened(file) as database:
         ask = lambda text: sorted(database.execute(text).fetchall())
         return {
@@ -242,8 +246,8 @@ class Watch(threading.Thread):
             time.sleep(PAUSE)
 
     def old(self, marks):
-        """The readings that were answered by an older mark than one that was acknowledged before they were asked for: when they
-        were answered, and how long the later mark had been acknowledged when they were asked for."""
+        """Returns the reads that got an older mark than one acknowledged before their request: when their response
+        arrived, and how long the later mark had been acknowledged at their request."""
         places = {version: at for at, (version, _, _) in enumerate(marks)}
         found = []
         for asked, answered, version in self.readings:

@@ -1,5 +1,6 @@
-"""What runs on a host in namespaces of its own: it does with the units of deploy/hosts what systemd does with them, since that
-does not run there.
+"""The process that runs on a host in its own namespaces.
+
+It does with the units of deploy/hosts what systemd does, because systemd does not run there.
 
   host.py ROOM NUMBER PROGRAM DEPLOY     waits for a line, and runs the host
   host.py start|stop                     starts and stops glusterd there"""
@@ -12,10 +13,10 @@ import sys
 import threading
 import time
 
-# the user of the service, who need not be among those of the machine
+# The user of the service, which need not be a user of the machine.
 USER = 790
 AS_USER = {"user": USER, "group": USER, "extra_groups": []}
-# seconds between two tries to open the database
+# Seconds between two tries to open the database.
 TRY = 3
 GLUSTERD = pathlib.Path("/run/glusterd.pid")
 
@@ -36,12 +37,12 @@ def stop_glusterd():
 
 
 def stopped(name):
-    """The file that says that a service was stopped by hand."""
+    """Returns the file that marks a service as stopped by hand."""
     return pathlib.Path(f"/run/{name}.stopped")
 
 
 def unit(*files):
-    """The values of a unit's settings, in the order in which its files give them; an empty one takes back those before."""
+    """Returns the values of a unit's settings, in the order of its files. An empty value removes those before it."""
     found = {}
     for line in "\n".join(it.read_text() for it in files).splitlines():
         name, mark, value = line.partition("=")
@@ -54,12 +55,12 @@ class Host:
     def __init__(self, room, number, program, deploy):
         self.room, self.number, self.deploy = pathlib.Path(room), number, pathlib.Path(deploy)
         self.own = self.room / f"host{number}"
-        # where the files of a host stand here
+        # Where the files of a host are here.
         self.places = {"/usr/bin/dss": program, "/etc/dss": room, "/usr/local/lib/dss": deploy, **self.folders()}
         self.events = (self.own / "events").open("a", buffering=1)
 
     def folders(self):
-        """The folders that systemd makes for the service, which are each host's own."""
+        """Makes the directories that systemd makes for the service, which are each host's own."""
         places = {"/var/log/dss": self.own / "requests", "/var/lib/dss/backups": self.own / "backups"}
         for folder in places.values():
             folder.mkdir(exist_ok=True)
@@ -99,7 +100,7 @@ class Host:
         return True
 
     def once(self, name, settings):
-        """Starts a service, notes what it says, and waits until it ends."""
+        """Starts a service, records its output, and waits until it exits."""
         if not self.may_start(settings):
             return
         process = self.begin(self.words(settings["ExecStart"][-1]), AS_USER if settings.get("User") else {})
@@ -116,7 +117,7 @@ class Host:
     def keep(self, name, settings):
         while True:
             try:
-                # what was stopped by hand is not started
+                # A service that was stopped by hand is not started.
                 if not stopped(name).exists():
                     self.once(name, settings)
             except OSError as error:
@@ -124,7 +125,7 @@ class Host:
             time.sleep(float(settings["RestartSec"][-1]))
 
     def stand_by(self):
-        """Tries to open the database all the while, past the check of health: the lock alone has to refuse it."""
+        """Tries to open the database all the time, without the check of health: only the lock must prevent it."""
         words = self.words("/usr/bin/dss report --db /srv/dss/dss.db")
         while True:
             time.sleep(TRY)

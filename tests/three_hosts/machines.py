@@ -1,4 +1,6 @@
-"""Three hosts in namespaces of their own, on one switch, and how they fail. All that they run ends with this process."""
+"""Three hosts in namespaces of their own, on one switch, and functions that make them fail.
+
+All their processes end with this one."""
 import contextlib
 import ctypes
 import os
@@ -21,13 +23,13 @@ NUMBERS = (1, 2, 3)
 DISK = 192 << 20
 NEW_NETWORK = 0x40000000
 LIBRARY = ctypes.CDLL(None, use_errno=True)
-# ended with the thread that started it, which has to be the main one
+# Ends with the thread that started it, which must be the main one.
 WITH_US = ["setpriv", "--pdeathsig", "KILL", "--"]
 MOST = 180
 
 
 class Failed(Exception):
-    """What was found wrong."""
+    """The error of a failed expectation."""
 
 
 def command(*words, limit=MOST):
@@ -38,7 +40,7 @@ def command(*words, limit=MOST):
 
 
 def lacking():
-    """Why there can be no hosts here, or None."""
+    """Returns why no hosts are possible here, or None."""
     if os.geteuid():
         return "the hosts need root"
     if not pathlib.Path("/dev/fuse").exists():
@@ -51,7 +53,7 @@ def lacking():
 
 
 def until(holds, what, limit=MOST):
-    """Waits until something holds, and returns it."""
+    """Waits until a function returns a true value, and returns that."""
     end = time.monotonic() + limit
     while not (found := holds()):
         if time.monotonic() > end:
@@ -67,7 +69,7 @@ def child_of(process):
 
 @contextlib.contextmanager
 def network_of(pid):
-    """In the network of a process, for the thread that asks."""
+    """Moves the calling thread into the network of a process for a while."""
     with open("/proc/thread-self/ns/net") as here, open(f"/proc/{pid}/ns/net") as there:
         if LIBRARY.setns(there.fileno(), NEW_NETWORK):
             raise OSError(ctypes.get_errno(), "setns")
@@ -78,7 +80,7 @@ def network_of(pid):
 
 
 def connect(pid, address, port, limit):
-    """A connection from the network of a process."""
+    """Returns a connection from the network of a process."""
     with network_of(pid):
         connection = socket.socket()
     try:
@@ -108,7 +110,7 @@ class Host:
     def start(self):
         namespaces = ["unshare", "--net", "--mount", "--uts", "--pid", "--fork", "--kill-child", "--mount-proc"]
         words = ["python3", "-B", HOST, self.room, self.number, BUILT, DEPLOY]
-        # the shell collects processes that have lost their parents
+        # The shell reaps processes that have lost their parents.
         shell = ["bash", "-c", 'exec 3<&0; "$@" <&3 & wait', "host"]
         with (self.own / "said").open("ab") as said:
             self.process = subprocess.Popen(
@@ -144,7 +146,7 @@ class Host:
         with (self.own / "events").open("a") as events:
             events.write(f"{time.time():.3f} dss ended with its host\n")
         self.process.stdin.close()
-        # sockets that wait for an answer may keep the network, and the cable in it, for some time
+        # Sockets that wait for a response may hold the network, and the cable in it, for some time.
         with contextlib.suppress(OSError):
             command("nsenter", "-t", self.switch, "-n", "ip", "link", "del", f"v{self.number}")
         self.process = self.pid = None
@@ -156,7 +158,7 @@ class Host:
         self.new_disk()
 
     def pids(self, name=None):
-        """The processes of the host, or those of a name."""
+        """Returns the processes of the host, or those of a name."""
         own = os.readlink(f"/proc/{self.pid}/ns/pid")
         found = []
         for entry in pathlib.Path("/proc").iterdir():
@@ -172,7 +174,7 @@ class Host:
                 os.kill(pid, which)
 
     def stop_service(self):
-        """As `systemctl stop dss` does it."""
+        """Stops the service as `systemctl stop dss` does."""
         self.run("touch", "/run/dss.stopped")
         self.signal(signal.SIGTERM, "dss-health")
         until(lambda: not self.pids("dss-health") and not self.pids("dss"), "the service has ended")
@@ -182,7 +184,7 @@ class Host:
 
     @contextlib.contextmanager
     def serving_alone(self, file, port=8080):
-        """Serves a file of the host, as one host does it."""
+        """Serves a file of the host, as a single host does."""
         words = [BUILT, "serve", "--tokens", self.room / "tokens.toml", "--db", file, "--port", port, "--count", "1000000"]
         as_user = ["setpriv", "--reuid", "790", "--regid", "790", "--clear-groups", "--pdeathsig", "KILL", "--"]
         with (self.own / "said").open("ab") as said:
@@ -193,7 +195,7 @@ class Host:
         try:
             yield
         finally:
-            # nsenter has the program as its child
+            # The program is a child of nsenter.
             os.kill(child_of(process), signal.SIGTERM)
             process.wait()
 
@@ -205,12 +207,12 @@ class Host:
         return connect(self.pid, "127.0.0.1", port, limit)
 
     def events(self, name, since=0.0):
-        """What a service said, and when."""
+        """Returns the output of a service, with times."""
         found = [it.split(" ", 2) for it in (self.own / "events").read_text().splitlines()]
         return [(float(at), text) for at, who, text in found if who == name and float(at) >= since]
 
     def served(self, since=0.0):
-        """From when to when its programs listened, with what ended each, or None."""
+        """Returns from when to when its programs listened, with what ended each, or None."""
         found = []
         for at, text in self.events("dss"):
             if "listening on" in text:
@@ -224,14 +226,14 @@ class Host:
 
 
 class Hosts:
-    """The hosts with one volume, on which each starts the service again and again."""
+    """The hosts with one volume. Each starts the service again and again."""
 
     def __enter__(self):
         self.room = pathlib.Path(tempfile.mkdtemp(prefix="dss-hosts."))
-        # the user of the service reads it
+        # The user of the service reads it.
         self.room.chmod(0o755)
         (self.room / "tokens.toml").write_text(wire.token_file(drawn_calls.ALL_TOKENS))
-        # what outlives the first failure is ended all the same
+        # What outlives the first failure is ended as well.
         self.hosts, self.outside = [], None
         try:
             self.outside = subprocess.Popen([*WITH_US, "unshare", "--net", "sleep", "infinity"], stdin=subprocess.DEVNULL)
@@ -262,17 +264,17 @@ class Hosts:
         return [it for it in self.hosts if it is not host]
 
     def through(self, host, limit=30):
-        """A connection from outside to a host's proxy."""
+        """Returns a connection from outside to a host's proxy."""
         return connect(self.outside.pid, host.address, 80, limit)
 
     def replace(self, host):
-        """Takes a host back that has lost its disk and runs again, as docs/HOSTS.md has it."""
+        """Takes a host back that has lost its disk and runs again, as in docs/HOSTS.md."""
         other = self.others(host)[0]
         environment = [f"{it.upper()}=python3 -B {HOST} {it}" for it in ("stop", "start")]
         host.run(DEPLOY / "replace-host", host.address, other.address, environment=environment)
 
     def unhealed(self, host):
-        """How many entries a copy lacks, or None where that is not told."""
+        """Returns the number of entries that a replica lacks, or None if that is not reported."""
         with contextlib.suppress(OSError, subprocess.TimeoutExpired):
             told = host.run("gluster", "volume", "heal", "dss", "info", limit=60)
             counts = [it.rpartition(" ")[2] for it in told.splitlines() if it.startswith("Number of entries:")]
@@ -281,6 +283,6 @@ class Hosts:
         return None
 
     def copies(self):
-        """The sums of the database and its log on each host's disk."""
+        """Returns the sums of the database and its log on each host's disk."""
         files = "cd /srv/brick/dss && sha256sum dss.db $(ls dss.db-wal 2>/dev/null)"
         return [it.run("bash", "-c", files) for it in self.hosts]

@@ -1,4 +1,6 @@
-"""Rounds in which hosts fail, drawn by a seed: what was acknowledged stays, one host serves at a time, tables are sound."""
+"""Rounds in which hosts fail, drawn by a seed.
+
+Acknowledged changes stay, one host serves at a time, and tables are sound."""
 import collections
 import signal
 import statistics
@@ -9,8 +11,8 @@ import time
 from client import Client, Watch
 from machines import Failed, Hosts, until
 
-# seconds within which another host serves, and within which it does where a copy is still being healed, or nobody does; how long
-# a program may go on whose lock another one had, until it is ended
+# Seconds within which another host serves, and within which it does if a replica is still being healed, or no host
+# serves; and how long a program may continue whose lock another one had, until it is ended.
 TAKEN, HEALED, BOUND = 120, 40, 4.0
 
 
@@ -18,12 +20,12 @@ class Rounds:
     def __init__(self, hosts, seed):
         self.hosts, self.client = hosts, Client(seed)
         self.draw, self.number = self.client.draw, 0
-        # by kinds of failure: rounds, changes, seconds until clients are served again
+        # By kinds of failure: rounds, changes, and seconds until clients are served again.
         self.rounds, self.changes = collections.Counter(), collections.Counter()
         self.took = collections.defaultdict(list)
         self.kind = None
         self.tries = self.readings = self.silent = 0
-        # when a host went on that had stood still, and how long after that it answered what was old
+        # When a paused host continued, and how long after that it gave old responses.
         self.went_on, self.late = {}, []
 
     # ---- ways to the service
@@ -32,17 +34,18 @@ class Rounds:
         return lambda: host.connect()
 
     def ways(self, hosts=None):
-        """From outside, by the proxies of hosts."""
+        """Returns ways from outside, by the proxies of hosts."""
         hosts = [it for it in (hosts or self.hosts.hosts) if it.pid]
         return [lambda it=it: self.hosts.through(it) for it in hosts]
 
     def serving(self, hosts=None):
-        """The host that serves."""
+        """Returns the host that serves."""
         reads = lambda it: it.pid and self.client.reads(self.direct(it))
         return until(lambda: next(filter(reads, hosts or self.hosts.hosts), None), "one serves")
 
     def busy(self, hosts=None, many=None):
-        """Some changes over a proxy that reaches the service; all must be answered, where the check of health ends no program."""
+        """Makes some changes over a proxy that reaches the service. All must get a response, unless the check of health
+        ends a program."""
         way, left, began = self.draw.of(self.ways(hosts)), many or 20 + self.draw.below(30), time.time()
         for _ in range(4):
             self.client.reached([way], TAKEN)
@@ -51,10 +54,10 @@ class Rounds:
                 return
             if not any("is ended: for" in text for it in self.hosts.hosts for _, text in it.events("dss", began - BOUND)):
                 break
-        raise Failed(f"{left} calls are not answered, while nothing failed: {dict(self.client.answers)}")
+        raise Failed(f"{left} calls got no response although nothing failed: {dict(self.client.answers)}")
 
     def again(self, hosts=None, since=None):
-        """Waits until clients are served, over the proxies of hosts, and notes how long that took."""
+        """Waits until clients are served, over the proxies of hosts, and records how long that took."""
         since = since or time.time()
         self.client.reached(self.ways(hosts), TAKEN)
         self.took[self.kind].append(time.time() - since)
@@ -62,7 +65,8 @@ class Rounds:
     # ---- kinds of failure
 
     def taken_over(self, fail, old, reachable):
-        """The host that serves fails under changes: another one serves. What it still answers as done has to last."""
+        """The serving host fails during changes: another one serves. Changes that the failing host still acknowledges
+        must last."""
         inside = threading.Thread(target=self.client.changes, args=(self.direct(old), 3))
         inside.start()
         time.sleep(0.2 + self.draw.below(60) / 100)
@@ -107,8 +111,8 @@ class Rounds:
         other.join()
 
     def kill_after_return(self):
-        """A standby is cut off, comes back, and its copy is whole again; then the host that serves is killed, whose handles
-        have known that copy no more since."""
+        """A standby is cut off, comes back, and its replica is whole again. Then the serving host is killed, whose file
+        handles have not known that replica since."""
         other = self.draw.of(self.hosts.others(self.serving()))
         other.cut()
         time.sleep(5)
@@ -131,17 +135,17 @@ class Rounds:
             self.client.changes(self.direct(old), 1)
             time.sleep(1)
             if any(self.client.reads(self.direct(it)) for it in others):
-                raise Failed("a host serves that reaches no other")
+                raise Failed("a host serves that reaches no other host")
         if self.client.acknowledged != acknowledged:
-            raise Failed(f"{self.client.acknowledged - acknowledged} changes are acknowledged without a majority")
+            raise Failed(f"{self.client.acknowledged - acknowledged} changes were acknowledged without a majority")
         for it in others:
             it.join()
         self.again()
         self.busy()
 
     def cut_in_turn(self):
-        """Each is cut off while the one before it is still being healed: where the only whole copy is cut off, nobody serves
-        until that is back."""
+        """Each host is cut off while the one before it is still being healed. If the only whole replica is cut off, no
+        host serves until that is back."""
         for host in self.hosts.hosts:
             host.cut()
             rest = self.hosts.others(host)
@@ -156,7 +160,7 @@ class Rounds:
         self.busy()
 
     def cut_others_in_turn(self):
-        """The program takes its lock while one host is away; then that is back, and the other is cut off and back."""
+        """The program takes its lock while one host is away. Then that is back, and the other is cut off and back."""
         first = self.hosts.others(self.serving())[0]
         first.cut()
         rest = self.hosts.others(first)
@@ -190,7 +194,7 @@ class Rounds:
         self.busy(rest)
 
     def fill_disk(self):
-        """The disk of one host is full: the other two copies take the changes."""
+        """The disk of one host is full: the other two replicas take the changes."""
         host = self.draw.of(self.hosts.hosts)
         fill = "head -c 1G /dev/zero >/srv/brick/fill 2>/dev/null; sync"
         host.run("bash", "-c", fill)
@@ -202,7 +206,7 @@ class Rounds:
         self.busy()
 
     def pause_host(self):
-        """The host stands still, as a machine that its host does not run, and its network with it; then it goes on."""
+        """The host is paused, like a virtual machine that does not run, and its network with it. Then it continues."""
         old = self.serving()
         self.busy()
         began = time.time()
@@ -218,26 +222,26 @@ class Rounds:
         finally:
             old.join()
             old.signal(signal.SIGCONT)
-        # at once, before anything there sees that time has passed
+        # At once, before any process there sees that time has passed.
         self.went_on[old] = time.time()
         self.client.old_changes(self.direct(old), BOUND)
         self.client.reached(self.ways(), TAKEN)
         self.busy()
 
     def pause_program(self):
-        """The program alone stands still, with its lock: nobody else serves."""
+        """Only the program is paused, with its lock: no other host serves."""
         old = self.serving()
         began = time.time()
         old.signal(signal.SIGSTOP, "dss")
         time.sleep(1 + self.draw.below(9))
         if any(self.client.reads(self.direct(it)) for it in self.hosts.others(old)):
-            raise Failed("another serves while the program stands still that has the lock")
+            raise Failed("another host serves while the paused program has the lock")
         old.signal(signal.SIGCONT, "dss")
         self.again(since=began)
         self.busy()
 
     def cut_short(self):
-        """The host is cut off for a while, and is back: around the time after which the volume gives up a host."""
+        """The host is cut off for about the time after which the volume drops a host, and is back."""
         old = self.serving()
         inside = threading.Thread(target=self.client.changes, args=(self.direct(old), 12))
         if self.draw.one_in(2):
@@ -253,7 +257,7 @@ class Rounds:
         self.busy()
 
     def move_file(self):
-        """The file goes to one host, is served there, and comes back, as docs/HOSTS.md has it."""
+        """The file goes to one host, is served there, and comes back, as in docs/HOSTS.md."""
         for it in self.hosts.hosts:
             it.stop_service()
         host = self.draw.of(self.hosts.hosts)
@@ -276,13 +280,13 @@ class Rounds:
     # ---- after each
 
     def settle(self):
-        """Waits until all hosts are there and all copies are whole."""
+        """Waits until all hosts are there and all replicas are whole."""
         is_up = lambda it: it.run("bash", "-c", "mountpoint -q /srv/dss && echo up || true").strip() == "up"
         until(lambda: all(is_up(it) for it in self.hosts.hosts), "the volume is mounted on each host")
         until(lambda: self.hosts.unhealed(self.hosts.hosts[0]) == 0, "all copies are whole")
 
     def look(self):
-        """Compares the file as it stands on the host that serves, and its copies on the disks."""
+        """Compares the file on the serving host, and its replicas on the disks."""
         self.client.reached(self.ways(), TAKEN)
         host = self.serving()
         with tempfile.TemporaryDirectory(dir=self.hosts.room) as folder:
@@ -293,22 +297,22 @@ class Rounds:
         until(lambda: len(set(self.hosts.copies())) == 1, "the copies are the same", 60)
 
     def is_late(self, host, at):
-        """Whether the host has just gone on that had stood still, so that its check of health may not have seen it yet."""
+        """Returns whether a paused host has just continued, so that its check of health may not have noticed yet."""
         return 0 <= at - self.went_on.get(host, 0) < BOUND
 
     def served(self, since):
-        """From when to when a program listened on a host, but for those of a host that has just gone on."""
+        """Returns from when to when a program listened on a host, except on a host that has just continued."""
         served = [(*it[:2], host) for host in self.hosts.hosts for it in host.served(since) if not self.is_late(host, it[1])]
         return sorted(served, key=lambda it: it[:2])
 
     def look_at_tries(self, since):
-        """How often a try to open the database was refused, all the while; one that was not refused must have been the end of
+        """Returns how often a try to open the database was refused. One that was not refused must have been the end of
         the program that had it before."""
         tries = [it.split(" ", 3) for host in self.hosts.hosts for _, it in host.events("try", since)]
         for began in (float(it[0]) for it in tries if it[1] == "0"):
             for listened, ended, host in self.served(since):
                 if listened < began and began + 2 * BOUND < min(ended, time.time()):
-                    raise Failed(f"host {host.number} went on to serve when another had the lock, at {began}")
+                    raise Failed(f"host {host.number} continued to serve when another had the lock, at {began}")
         return sum("fault 3 Store" in " ".join(it) for it in tries)
 
     def look_at_programs(self, since):
@@ -320,13 +324,13 @@ class Rounds:
                 raise Failed(f"{both} serve at once, from {listened}, for {min(ended, time.time()) - listened:.2f} s")
 
     def look_at_readings(self, watches):
-        """No reading may lack what was acknowledged before it was asked for, but for a short time where a host goes on that had
-        stood still."""
+        """No read may lack what was acknowledged before its request, except for a short time after a paused host
+        continues."""
         self.readings += sum(len(it.readings) for it in watches)
         for watch in watches:
             for answered, old in watch.old(self.client.marks):
                 if not self.is_late(watch.host, answered):
-                    raise Failed(f"host {watch.host.number} answers at {answered} what is old by {old:.2f} s")
+                    raise Failed(f"host {watch.host.number} gave a response at {answered} that was old by {old:.2f} s")
                 self.late.append(answered - self.went_on[watch.host])
 
     def one(self, kind):
@@ -356,7 +360,7 @@ class Rounds:
             f" {time.time() - began:.0f} s", flush=True,
         )
         if not refused:
-            raise Failed("no standby tried")
+            raise Failed("no standby tried to open the database")
 
     def report(self):
         print(
@@ -371,7 +375,8 @@ class Rounds:
 
 
 def run(many, seed, names):
-    """What is wrong in so many rounds, of which the first have each kind once, or each of those named."""
+    """Returns what is wrong in that many rounds. The first rounds have each kind of failure once, or each of those
+    named."""
     passed, wrong = 0, []
     with Hosts() as hosts:
         rounds = Rounds(hosts, seed)

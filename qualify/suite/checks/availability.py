@@ -1,4 +1,4 @@
-"""Whether suppliers are there."""
+"""The availability of USSs."""
 from suite.check import AVAILABILITY as OPERATIONS, INTENT, check
 from suite.checks.keys import lacks
 from suite.trial import AVAILABILITY, INTENTS
@@ -7,11 +7,11 @@ from suite.trial import AVAILABILITY, INTENTS
 def is_told(answer, uss, availability, version=None):
     status = answer.part("status")
     answer.need(status["uss"] == uss and status["availability"] == availability, f"{uss} is {availability}")
-    answer.need(version is None or answer.value["version"] == version, "the version that was given")
+    answer.need(version is None or answer.value["version"] == version, "the version that was returned")
     return answer.value["version"]
 
 
-@check("A supplier of whom nothing was said is Unknown, under the empty version", "What is kept", [OPERATIONS["get"]])
+@check("A USS whose availability was never set is Unknown, with the empty version", "What is kept", [OPERATIONS["get"]])
 def nothing_said_is_unknown(it):
     uss = f"qualify-{it.id()[:8]}"
     for supplier in (it.a, it.b_monitoring, it.arbiter):
@@ -20,7 +20,7 @@ def nothing_said_is_unknown(it):
         answer.need(it.dialect.is_standard or version == "", "the empty version")
 
 
-@check("A setting over the present version is answered and read, and gives a new version; over another it is 409", "P10 VERSION",
+@check("Setting an availability over its current version succeeds and gives a new version; over another it is 409", "P10 VERSION",
        [OPERATIONS["set"], OPERATIONS["get"]])
 def an_availability_is_set(it):
     uss = it.b.uss
@@ -36,18 +36,18 @@ def an_availability_is_set(it):
         is_told(it.b.availability(uss).must(200), uss, availability, version)
 
 
-@check("Only an arbiter sets an availability: 403 else, and nothing is changed", "P4 SCOPE", [OPERATIONS["set"], OPERATIONS["get"]])
+@check("Only an arbiter sets an availability; for others it is 403 and changes nothing", "P4 SCOPE", [OPERATIONS["set"], OPERATIONS["get"]])
 def only_an_arbiter_sets(it):
     uss = it.b.uss
     told = it.arbiter.availability(uss).must(200)
     for supplier in (it.a, it.b, it.b_monitoring, it.b_processing, it.manager):
         supplier.set_availability(uss, "Down", told.value["version"]).must(403, "P4 SCOPE")
     read = it.arbiter.availability(uss).must(200)
-    read.need(read.value == told.value, "what it was")
+    read.need(read.value == told.value, "the previous value")
     it.manager.availability(uss).must(403, "P4 SCOPE")
 
 
-@check("A setting to another word, or without one, is 400", "P5 FORM", [OPERATIONS["set"]])
+@check("Setting an availability to an unknown value, or without a value, is 400", "P5 FORM", [OPERATIONS["set"]])
 def a_wrong_setting_is_refused(it):
     uss = it.b.uss
     told = it.arbiter.availability(uss).must(200)
@@ -56,10 +56,10 @@ def a_wrong_setting_is_refused(it):
     for body in (over | {"availability": "Up"}, over | {"availability": "down"}, over, "[]"):
         it.arbiter.ask("PUT", f"{AVAILABILITY}/{uss}", body).must(400, "P5 FORM")
     read = it.arbiter.availability(uss).must(200)
-    read.need(read.value == told.value, "what it was")
+    read.need(read.value == told.value, "the previous value")
 
 
-@check("References show the availability that their manager has now", "References", [INTENT["get"], INTENT["query"], OPERATIONS["set"]])
+@check("References show the current availability of their manager", "References", [INTENT["get"], INTENT["query"], OPERATIONS["set"]])
 def references_show_the_present_availability(it):
     id_, site, uss = it.id(), it.site(), it.b.uss
     version = it.arbiter.availability(uss).must(200).value["version"]
@@ -74,7 +74,7 @@ def references_show_the_present_availability(it):
         found.need(shown == [availability], f"uss_availability {availability}")
 
 
-@check("What a supplier that is Down has only planned holds up nobody, and what it has activated does", "P14 KEY", only="profile")
+@check("No key needs the planned intents of a USS that is Down, but keys need its activated ones", "P14 KEY", only="profile")
 def plans_of_who_is_down_are_spared(it):
     planned, active, site, uss = it.id(), it.id(), it.site(), it.b.uss
     version = it.arbiter.availability(uss).must(200).value["version"]

@@ -1,4 +1,4 @@
-"""Bodies and limits, as the profile has them."""
+"""Bodies and limits, as the profile defines them."""
 import json
 
 from suite.check import check
@@ -7,7 +7,7 @@ from suite.trial import INTENTS
 VERSION = "0123456789abcdef0123456789abcdef"
 
 
-@check("In a body other members are ignored, null counts as absent, the last of a member counts, and numbers are whole",
+@check("In a body unknown members are ignored, null counts as absent, the last of equal members counts, and numbers are integers",
        "Formats", only="profile")
 def a_body_is_read_as_json(it):
     site = it.site()
@@ -26,7 +26,7 @@ def a_body_is_read_as_json(it):
         it.a.delete(INTENTS, id_, told["ovn"]).must(200)
 
 
-@check("Limits hold on both their sides: cells, volumes, entries of a key, addresses, altitudes, times", "Formats", only="profile")
+@check("Values at each limit are accepted, and beyond it denied: cells, volumes, entries of a key, addresses, altitudes, times", "Formats", only="profile")
 def limits_hold(it):
     cells = [it.site()]
     wide = it.volume(*cells)

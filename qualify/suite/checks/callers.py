@@ -1,4 +1,4 @@
-"""Who may ask for what, and what a caller gets that may not."""
+"""Which callers may request what, and what a denied caller receives."""
 from suite.callers import ARBITRATION, MANAGEMENT, MONITORING, PROCESSING, STRATEGIC, Caller
 from suite.check import AVAILABILITY as SETTINGS, CONSTRAINT, INTENT, SUBSCRIPTION, check
 from suite.trial import AVAILABILITY, CONSTRAINTS, INTENTS, SUBSCRIPTIONS, Supplier
@@ -8,7 +8,8 @@ VERSION = "0123456789abcdef0123456789abcdef"
 
 
 def requests(it):
-    """A request of each operation, in its form, with the scopes of which it takes any one: nothing that it names is there."""
+    """Returns a well-formed request of each operation, with the scopes of which it needs any one. Nothing that it names
+    exists."""
     volume, area = it.volume(it.site()), {"area_of_interest": it.dialect.area([it.site()])}
     flights, constraints = {STRATEGIC, MONITORING}, {PROCESSING, MANAGEMENT}
     intent, constraint = it.intent_body(volume), {"extents": [volume], "uss_base_url": "https://uss-a.qualify.example"}
@@ -26,14 +27,14 @@ def requests(it):
         ("PUT", f"{AVAILABILITY}/qualify", setting, {ARBITRATION})]
 
 
-@check("No operation is answered to a caller without a token: 401", "P3 TOKEN", OPERATIONS)
+@check("Each operation without a token is 401", "P3 TOKEN", OPERATIONS)
 def a_token_is_needed(it):
     for method, path, body, _ in requests(it):
         answer = it.nobody.ask(method, path, body).must(401, "P3 TOKEN")
         answer.need(it.dialect.is_standard or answer.exchange.fields.get("www-authenticate") == "Bearer", "WWW-Authenticate: Bearer")
 
 
-@check("No operation is answered to a token that nobody gave: 401", "P3 TOKEN", OPERATIONS)
+@check("Each operation with an unknown token is 401", "P3 TOKEN", OPERATIONS)
 def a_token_must_be_known(it):
     good = it.a.caller
     known = {caller.token for caller in it.run.callers.values()}
@@ -45,7 +46,7 @@ def a_token_must_be_known(it):
             forger.ask(method, path, body).must(401, "P3 TOKEN")
 
 
-@check("A token whose words were changed after it was signed is 401", "P3 TOKEN", OPERATIONS, only="standard")
+@check("A token that was changed after it was signed is 401", "P3 TOKEN", OPERATIONS, only="standard")
 def a_token_is_signed(it):
     own, other = it.a.caller.token.split("."), it.b.caller.token.split(".")
     for text in (".".join([own[0], other[1], own[2]]), ".".join([own[0], own[1], other[2]]), ".".join([own[0], own[1], ""])):
@@ -54,7 +55,7 @@ def a_token_is_signed(it):
             forger.ask(method, path, body).must(401)
 
 
-@check("Each operation takes its scopes: 403 for each token that has none of them", "P4 SCOPE", OPERATIONS)
+@check("Each operation is 403 for each token with none of its scopes", "P4 SCOPE", OPERATIONS)
 def each_operation_takes_its_scopes(it):
     for method, path, body, scopes in requests(it):
         for supplier in it.suppliers.values():
@@ -62,7 +63,7 @@ def each_operation_takes_its_scopes(it):
                 supplier.ask(method, path, body).must(403, "P4 SCOPE")
 
 
-@check("Each operation is open to each token that has one of its scopes", "P4 SCOPE, P7 FOUND, P10 VERSION", OPERATIONS)
+@check("Each operation permits each token with one of its scopes", "P4 SCOPE, P7 FOUND, P10 VERSION", OPERATIONS)
 def each_operation_is_open_to_its_scopes(it):
     for method, path, body, scopes in requests(it):
         if method == "PUT" and path.count("/") == 4 and AVAILABILITY not in path:
@@ -70,13 +71,13 @@ def each_operation_is_open_to_its_scopes(it):
         wanted = 200 if path.endswith("/query") or AVAILABILITY in path and method == "GET" else 409 if AVAILABILITY in path else 404
         for supplier in it.suppliers.values():
             if scopes & supplier.caller.scopes:
-                # an update in the standard may ask for a subscription first
+                # In the standard an update may request a subscription first.
                 is_update = method == "PUT" and wanted == 404
                 standard = (wanted, 403, 409) if is_update else (wanted,)
                 supplier.ask(method, path, body).must(wanted, standard=standard)
 
 
-@check("The first rule that is broken is told: route, method, token, scope, form, area, found, manager, version, state, end, key",
+@check("A denial names the first broken rule: route, method, token, scope, form, area, found, manager, version, state, end, key",
        "The rules in their order", only="profile")
 def the_first_broken_rule_is_told(it):
     site, id_, gone = it.site(), it.id(), it.id()
@@ -103,4 +104,4 @@ def the_first_broken_rule_is_told(it):
             (it.a, "PUT", f"{path}/{ovn}", it.intent_body(it.volume(site), state="Activated"), 409, "P14 KEY")):
         supplier.ask(method, target, body).must(status, message)
     read = it.a.get(INTENTS, id_).must(200)
-    read.need(read.reference["ovn"] == ovn and read.reference["version"] == 2, "the intent as it was: nothing that was denied changed it")
+    read.need(read.reference["ovn"] == ovn and read.reference["version"] == 2, "the intent as it was: no denied request changed it")

@@ -1,4 +1,6 @@
-"""Paths, methods and connections, as the profile has them: what a proxy in front of the service may answer by rules of its own."""
+"""Paths, methods and connections, as the profile defines them.
+
+A proxy in front of the service may answer them by its own rules."""
 from suite.check import check
 from suite.trial import AVAILABILITY, CONSTRAINTS, INTENTS, SUBSCRIPTIONS
 
@@ -9,7 +11,7 @@ def raw(it, supplier, *head, body=b""):
     return it.taken(supplier, it.client.raw(supplier.caller, head, body))
 
 
-@check("A path that is none is 404, with a token or without", "P1 ROUTE", only="profile")
+@check("An unknown path is 404, with a token or without", "P1 ROUTE", only="profile")
 def a_path_that_is_none(it):
     id_ = it.id()
     for path in ("/dss/v1/reports", INTENTS, f"{INTENTS}/", f"{INTENTS}/{id_}/", f"{INTENTS}/{id_}/{VERSION}/x",
@@ -20,7 +22,7 @@ def a_path_that_is_none(it):
     it.a.ask("GET", f"{INTENTS}/{id_}?x=%2f").must(404, "P7 FOUND")
 
 
-@check("A method that a path does not take is 405, and those that it takes are told", "P2 METHOD", only="profile")
+@check("A method that a path does not have is 405, and Allow lists its methods", "P2 METHOD", only="profile")
 def a_method_that_is_not_taken(it):
     id_ = it.id()
     for method, path, allowed in (
@@ -31,7 +33,7 @@ def a_method_that_is_not_taken(it):
         answer.need(answer.exchange.fields.get("allow") == allowed, f"Allow: {allowed}")
 
 
-@check("What is no request of HTTP is refused by the rule that it breaks, and the connection closes",
+@check("A malformed HTTP request is rejected by the protocol rule that it breaks, and the connection closes",
        "H1 HEAD, H2 HEADSIZE, H3 TRANSFER, H4 LENGTH, H5 BODYSIZE", only="profile")
 def what_is_no_request(it):
     line = f"GET {AVAILABILITY}/uss-a HTTP/1.1"
@@ -48,21 +50,21 @@ def what_is_no_request(it):
         answer.need(answer.exchange.fields.get("connection") == "close", "Connection: close")
 
 
-@check("A connection takes a hundred requests, closes after the hundredth, and after one that asks for it", "Formats", only="profile")
+@check("A connection closes after a hundred requests, and after one with Connection: close", "Formats", only="profile")
 def a_connection_takes_a_hundred(it):
     uss = it.a.uss
     last = it.a.ask("GET", f"{AVAILABILITY}/{uss}", fields={"Connection": "close"}).must(200)
-    last.need(last.exchange.fields.get("connection") == "close", "Connection: close, as was asked")
+    last.need(last.exchange.fields.get("connection") == "close", "Connection: close, as requested")
     older = raw(it, it.a, f"GET {AVAILABILITY}/{uss} HTTP/1.0").must(200)
     older.need(older.exchange.fields.get("connection") == "close", "Connection: close after HTTP/1.0")
     for exchange in it.client.many(it.a.caller, "GET", f"{AVAILABILITY}/{uss}", 100):
         answer = it.taken(it.a, exchange).must(200)
         wanted = "close" if exchange.number == 100 else None
         said = "Connection: close" if wanted else "no field Connection"
-        answer.need(exchange.fields.get("connection") == wanted, f"{said} in answer {exchange.number} of the connection")
+        answer.need(exchange.fields.get("connection") == wanted, f"{said} in response {exchange.number} of the connection")
 
 
-@check("The word Bearer may have any case, and two fields Authorization are none", "P3 TOKEN", only="profile")
+@check("Bearer is accepted in any case, and two fields Authorization count as none", "P3 TOKEN", only="profile")
 def a_token_is_one_field(it):
     path, field = f"{AVAILABILITY}/{it.a.uss}", f"{it.a.caller.token}"
     for value, status in ((f"bEaReR   {field}", 200), (f"Basic {field}", 401), (field, 401), (f"Bearer {field} {field}", 401)):

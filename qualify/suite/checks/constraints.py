@@ -1,11 +1,11 @@
-"""Constraints: what is kept, and who has to know of them."""
+"""Constraints: what is stored, and which USSs must know them."""
 from suite.check import CONSTRAINT, INTENT, check
 from suite.checks.keys import lacks
 from suite.dialect import URL
 from suite.trial import CONSTRAINTS, INTENTS
 
 
-@check("A constraint is created with 201, read and found, and its OVN is shown to its manager alone", "Effects, References",
+@check("A created constraint is 201, can be read and found, and only its manager sees its OVN", "Effects, References",
        [CONSTRAINT["create"], CONSTRAINT["get"], CONSTRAINT["query"]])
 def a_constraint_is_created_and_read(it):
     id_, site = it.id(), it.site()
@@ -18,7 +18,7 @@ def a_constraint_is_created_and_read(it):
     read.need(read.reference == told, "the same reference")
     seen = it.b_processing.get(CONSTRAINTS, id_).must(200)
     hidden = {name: value for name, value in told.items() if name != "ovn"}
-    seen.need({name: value for name, value in seen.reference.items() if name != "ovn"} == hidden, "the same reference but for its OVN")
+    seen.need({name: value for name, value in seen.reference.items() if name != "ovn"} == hidden, "the same reference except for its OVN")
     seen.need(it.dialect.is_standard or "ovn" not in seen.reference, "no OVN")
     found = it.b_processing.query(CONSTRAINTS, site).must(200)
     found.need(found.ids == [id_], "the constraint, and nothing else")
@@ -26,7 +26,7 @@ def a_constraint_is_created_and_read(it):
     elsewhere.need(elsewhere.ids == [], "nothing elsewhere")
 
 
-@check("A constraint is updated over its present OVN alone, and deleted over it; then it is gone", "P10 VERSION, P7 FOUND",
+@check("A constraint is updated and deleted only over its current OVN; then it does not exist", "P10 VERSION, P7 FOUND",
        [CONSTRAINT["update"], CONSTRAINT["delete"]])
 def a_constraint_is_updated_and_deleted(it):
     id_, site = it.id(), it.site()
@@ -38,7 +38,7 @@ def a_constraint_is_updated_and_deleted(it):
     it.manager.constraint(id_, it.volume(site), over=first["ovn"]).must(409, "P10 VERSION")
     it.manager.delete(CONSTRAINTS, id_, first["ovn"]).must(409, "P10 VERSION")
     read = it.manager.get(CONSTRAINTS, id_).must(200)
-    read.need(read.reference == second, "what the update made")
+    read.need(read.reference == second, "the result of the update")
     deleted = it.manager.delete(CONSTRAINTS, id_, second["ovn"]).must(200)
     deleted.need(deleted.reference == second, "the reference as it was")
     it.manager.get(CONSTRAINTS, id_).must(404, "P7 FOUND")
@@ -47,14 +47,14 @@ def a_constraint_is_updated_and_deleted(it):
     it.manager.delete(CONSTRAINTS, id_, second["ovn"]).must(404, "P7 FOUND")
 
 
-@check("A constraint's id is created once: 409", "P8 FRESH", [CONSTRAINT["create"]])
+@check("Creating a constraint with an existing id is 409", "P8 FRESH", [CONSTRAINT["create"]])
 def a_constraint_is_created_once(it):
     id_, volume = it.id(), it.volume(it.site())
     it.manager.constraint(id_, volume).must(201)
     it.manager.constraint(id_, volume).must(409, "P8 FRESH")
 
 
-@check("Constraints are put by who manages them and seen by who processes them: 403 else", "P4 SCOPE",
+@check("Constraint management puts constraints and constraint processing sees them; other scopes are 403", "P4 SCOPE",
        [CONSTRAINT["create"], CONSTRAINT["get"], CONSTRAINT["query"], CONSTRAINT["update"], CONSTRAINT["delete"]])
 def constraints_have_scopes(it):
     id_, site = it.id(), it.site()
@@ -69,7 +69,7 @@ def constraints_have_scopes(it):
     read.need(read.ids == [id_], "the constraint, still there")
 
 
-@check("An intent whose subscription is for constraints needs the constraints that it meets", "P14 KEY", [INTENT["create"]])
+@check("An intent whose subscription is for constraints needs the constraints that it meets in its key", "P14 KEY", [INTENT["create"]])
 def a_constraint_is_needed_by_who_is_told_of_them(it):
     id_, site, named = it.id(), it.site(), it.id()
     ovn = it.manager.constraint(id_, it.volume(site)).must(201).reference["ovn"]
@@ -79,7 +79,7 @@ def a_constraint_is_needed_by_who_is_told_of_them(it):
     it.b_processing.intent(it.id(), it.volume(site), subscription=named, key=[ovn]).must(201)
 
 
-@check("An intent and two constraints that it meets: all that is missing is told, of both kinds", "P14 KEY", [INTENT["create"]])
+@check("An intent that meets an intent and two constraints: the denial lists all missing entities of both kinds", "P14 KEY", [INTENT["create"]])
 def both_kinds_are_told(it):
     site, one, two, first, named = it.site(), it.id(), it.id(), it.id(), it.id()
     ovn = it.manager.constraint(one, it.volume(site)).must(201).reference["ovn"]
@@ -90,7 +90,7 @@ def both_kinds_are_told(it):
     lacks(it, it.b_processing.intent(it.id(), it.volume(site), subscription=named, key=[ovn]), first, constraints=[two])
 
 
-@check("Whoever names no subscription needs constraints exactly where the token processes them", "P14 KEY", only="profile")
+@check("An intent without a subscription needs constraints in its key exactly if the token permits constraint processing", "P14 KEY", only="profile")
 def constraints_are_needed_by_scope(it):
     id_, site = it.id(), it.site()
     it.manager.constraint(id_, it.volume(site)).must(201)
@@ -110,7 +110,7 @@ def a_constraint_needs_no_key(it):
     it.manager.constraint(it.id(), it.volume(site)).must(201)
 
 
-@check("A constraint of too large an area, or that has ended, is refused",
+@check("A constraint with too large an area, or that has ended, is denied",
        "P6 AREA, P13 ENDED", [CONSTRAINT["create"], CONSTRAINT["query"]])
 def wrong_constraints_are_refused(it):
     id_ = it.id()

@@ -1,4 +1,4 @@
-"""Operational intents: what is kept, who is shown what, and what is found where."""
+"""Operational intents: what is stored, what each USS sees, and what queries find."""
 from suite.check import INTENT, check
 from suite.dialect import ENDS, STARTS, URL, ZERO
 from suite.trial import INTENTS
@@ -7,7 +7,7 @@ HOUR = 3600
 
 
 def is_as_put(it, answer, supplier, id_, state="Accepted", url="a"):
-    """That a reference is of what was put."""
+    """Checks that a reference matches the put."""
     told = answer.reference
     answer.need(told["id"] == id_, f"id {id_}")
     answer.need(told.get("state") == state, f"state {state}")
@@ -17,26 +17,26 @@ def is_as_put(it, answer, supplier, id_, state="Accepted", url="a"):
     known = it.knowledge.names.setdefault(supplier.uss, told["manager"] if it.dialect.is_standard else supplier.uss)
     answer.need(told["manager"] == known, f"manager {known}")
     others = [name for uss, name in it.knowledge.names.items() if uss != supplier.uss]
-    answer.need(told["manager"] not in others, "a manager of its own for each supplier")
+    answer.need(told["manager"] not in others, "a different manager for each USS")
     return told
 
 
-@check("An intent that is created is answered with 201 and its reference, and is read as it was put", "Effects, References",
+@check("A created intent is 201 with its reference, and is read as it was put", "Effects, References",
        [INTENT["create"], INTENT["get"]])
 def an_intent_is_created_and_read(it):
     id_, volume = it.id(), it.volume(it.site())
     created = it.a.intent(id_, volume).must(201)
     told = is_as_put(it, created, it.a, id_)
     created.need("ovn" in told, "its OVN, shown to its manager")
-    created.need(isinstance(created.part("subscribers"), list), "who is to be told")
+    created.need(isinstance(created.part("subscribers"), list), "the subscriptions to notify")
     if not it.dialect.is_standard:
         created.need(told["version"] == 1, "version 1")
-        created.need(told["subscription_id"] == ZERO, "the zero id, as no subscription is named")
+        created.need(told["subscription_id"] == ZERO, "the zero id, as it references no subscription")
     read = it.a.get(INTENTS, id_).must(200)
     read.need(is_as_put(it, read, it.a, id_) == told, "the same reference")
 
 
-@check("Another supplier reads an intent without its OVN, and all else of its reference as its manager does",
+@check("Another USS reads an intent's reference without its OVN, and otherwise the same",
        "References", [INTENT["get"]])
 def an_ovn_is_shown_to_the_manager_alone(it):
     id_, site = it.id(), it.site()
@@ -45,7 +45,7 @@ def an_ovn_is_shown_to_the_manager_alone(it):
     for answer in (it.b.get(INTENTS, id_), it.b_processing.get(INTENTS, id_)):
         seen = answer.must(200).reference
         answer.need(seen.get("ovn") != ovn and (it.dialect.is_standard or "ovn" not in seen), "no OVN")
-        answer.need({name: value for name, value in seen.items() if name != "ovn"} == told, "the same reference but for its OVN")
+        answer.need({name: value for name, value in seen.items() if name != "ovn"} == told, "the same reference except for its OVN")
     found = it.b.query(INTENTS, site).must(200)
     found.need(found.ids == [id_], "the intent, and nothing else")
     found.need(it.dialect.is_standard or "ovn" not in found.part("operational_intent_references")[0], "no OVN")
@@ -53,7 +53,7 @@ def an_ovn_is_shown_to_the_manager_alone(it):
     own.need(own.ids == [id_] and own.part("operational_intent_references")[0].get("ovn") == ovn, "the OVN, in its manager's own query")
 
 
-@check("A query finds the intents that meet its area, and none that is elsewhere, at other altitudes or at another time", "Effects",
+@check("A query finds the intents that meet its area, and none elsewhere, at other altitudes or at another time", "Effects",
        [INTENT["query"]])
 def a_query_finds_what_meets_its_area(it):
     site, other = it.site(), it.site()
@@ -73,14 +73,14 @@ def a_query_finds_what_meets_its_area(it):
         found.need(set(found.ids) == wanted and len(found.ids) == len(wanted), f"{what}, each once")
 
 
-@check("A query answers references by rising ids", "Effects", [INTENT["query"]], only="profile")
+@check("A query returns references in the order of their ids", "Effects", [INTENT["query"]], only="profile")
 def a_query_answers_by_rising_ids(it):
     site, key = it.site(), []
     ids = [it.id() for _ in range(4)]
     for id_ in ids:
         key.append(it.a.intent(id_, it.volume(site), key=key).must(201).reference["ovn"])
     found = it.b.query(INTENTS, site).must(200)
-    found.need(found.ids == sorted(ids), "all four, by rising ids")
+    found.need(found.ids == sorted(ids), "all four, in the order of their ids")
 
 
 @check("An update replaces an intent, raises its version and gives a new OVN", "Effects", [INTENT["update"], INTENT["get"]])
@@ -102,7 +102,7 @@ def an_update_replaces_an_intent(it):
     there.need(there.ids == [id_], "the intent where it is")
 
 
-@check("An update or a deletion with an OVN that is not the present one is 409, and changes nothing", "P10 VERSION",
+@check("An update or a deletion with an old or unknown OVN is 409, and changes nothing", "P10 VERSION",
        [INTENT["update"], INTENT["delete"]])
 def an_old_ovn_changes_nothing(it):
     id_, volume = it.id(), it.volume(it.site())
@@ -112,10 +112,10 @@ def an_old_ovn_changes_nothing(it):
     it.a.delete(INTENTS, id_, first["ovn"]).must(409, "P10 VERSION")
     it.a.delete(INTENTS, id_, "no-ovn-of-this-service").must(409, "P10 VERSION")
     read = it.a.get(INTENTS, id_).must(200)
-    read.need(read.reference == second, "what the last update made")
+    read.need(read.reference == second, "the result of the last update")
 
 
-@check("A supplier cannot update or delete another's intent: 403, and nothing is changed",
+@check("Updating or deleting another USS's intent is 403, and changes nothing",
        "P9 MANAGER", [INTENT["update"], INTENT["delete"]])
 def only_the_manager_changes_an_intent(it):
     id_, volume = it.id(), it.volume(it.site())
@@ -126,7 +126,7 @@ def only_the_manager_changes_an_intent(it):
     read.need(read.reference == told, "the intent as it was")
 
 
-@check("A deletion answers the reference as it was, and the intent is gone: read 404, found by no query", "Effects, P7 FOUND",
+@check("A deletion returns the last reference; then a read is 404, and no query finds the intent", "Effects, P7 FOUND",
        [INTENT["delete"], INTENT["get"]])
 def a_deleted_intent_is_gone(it):
     id_, site = it.id(), it.site()
@@ -141,7 +141,7 @@ def a_deleted_intent_is_gone(it):
     it.a.intent(id_, it.volume(site), over=told["ovn"]).must(404, "P7 FOUND", standard=(404, 409))
 
 
-@check("An id that is there is not created again: 409, and what is there stays", "P8 FRESH", [INTENT["create"]])
+@check("Creating an intent with an existing id is 409, and the existing intent stays", "P8 FRESH", [INTENT["create"]])
 def an_id_is_created_once(it):
     id_, site = it.id(), it.site()
     told = it.a.intent(id_, it.volume(site)).must(201).reference
@@ -151,7 +151,7 @@ def an_id_is_created_once(it):
     read.need(read.reference == told, "the intent as it was")
 
 
-@check("An intent that is Nonconforming or Contingent takes the scope of conformance monitoring, and one that is Accepted or Activated "
+@check("A Nonconforming or Contingent intent needs the scope of conformance monitoring, and an Accepted or Activated one "
        "that of strategic coordination: 403 without", "P11 ROLE", [INTENT["create"]])
 def a_state_takes_its_scope(it):
     for state in ("Nonconforming", "Contingent"):
@@ -165,7 +165,7 @@ def a_state_takes_its_scope(it):
         it.b_monitoring.intent(it.id(), it.volume(it.site()), state=state, **more).must(403, "P11 ROLE", standard=(400, 403))
 
 
-@check("States change only as they may: none goes back to Accepted, and a Contingent intent stays so", "P12 CHANGE", only="profile")
+@check("States change only as permitted: none back to Accepted, and none from Contingent", "P12 CHANGE", only="profile")
 def states_change_only_as_they_may(it):
     states = ("Accepted", "Activated", "Nonconforming", "Contingent")
     allowed = {"Accepted": states, "Activated": states[1:], "Nonconforming": states[1:], "Contingent": states[3:]}
@@ -182,7 +182,7 @@ def states_change_only_as_they_may(it):
             it.a_monitoring.delete(INTENTS, id_, ovn).must(200)
 
 
-@check("An intent that has ended is not put: 400", "P13 ENDED", [INTENT["create"], INTENT["update"]])
+@check("Putting an intent that has ended is 400", "P13 ENDED", [INTENT["create"], INTENT["update"]])
 def what_has_ended_is_not_put(it):
     id_, site = it.id(), it.site()
     past = it.volume(site, start=-2 * HOUR, end=-HOUR)
@@ -194,15 +194,15 @@ def what_has_ended_is_not_put(it):
     read.need(read.reference == told, "the intent as it was")
 
 
-@check("The times of an intent of several volumes are the least start and the greatest end", "References", [INTENT["create"]])
+@check("The times of an intent with several volumes are the earliest start and the latest end", "References", [INTENT["create"]])
 def times_are_those_of_all_volumes(it):
     one, two = it.volume(it.site(), start=STARTS + 600), it.volume(it.site(), end=ENDS + 600)
     created = it.a.intent(it.id(), one, two).must(201)
     told = [it.dialect.second(created.reference[name]) for name in ("time_start", "time_end")]
-    created.need(told == [it.dialect.moment + STARTS, it.dialect.moment + ENDS + 600], "from the least start to the greatest end")
+    created.need(told == [it.dialect.moment + STARTS, it.dialect.moment + ENDS + 600], "from the earliest start to the latest end")
 
 
-@check("A body without what is needed, or with a wrong value, is 400, and nothing is kept", "P5 FORM", [INTENT["create"]])
+@check("A body without a required member, or with a wrong value, is 400, and nothing is stored", "P5 FORM", [INTENT["create"]])
 def a_wrong_body_is_refused(it):
     id_, volume = it.id(), it.volume(it.site())
     good = it.intent_body(volume)
@@ -218,7 +218,7 @@ def a_wrong_body_is_refused(it):
     it.a.get(INTENTS, id_).must(404, "P7 FOUND")
 
 
-@check("An area that is too large is 413, in a query and in a put", "P6 AREA", [INTENT["query"], INTENT["create"]])
+@check("Too large an area is 413, in a query and in a put", "P6 AREA", [INTENT["query"], INTENT["create"]])
 def an_area_too_large_is_refused(it):
     home, id_ = it.run.home, it.id()
     it.a.query(INTENTS, area=it.dialect.too_large(home)).must(413, "P6 AREA")
@@ -226,7 +226,7 @@ def an_area_too_large_is_refused(it):
     it.a.get(INTENTS, id_).must(404, "P7 FOUND")
 
 
-@check("Ids in upper case name the same intents as in lower case, and are printed in lower case", "Formats", only="profile")
+@check("Ids in upper case mean the same intents as in lower case, and are returned in lower case", "Formats", only="profile")
 def ids_have_no_case(it):
     id_, volume = it.id(), it.volume(it.site())
     created = it.a.intent(id_.upper(), volume).must(201)

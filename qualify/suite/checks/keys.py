@@ -1,11 +1,11 @@
-"""Keys: what a put has to show that it knows, and what meets what."""
+"""Keys: which OVNs a put must list, and which volumes meet."""
 from suite.check import INTENT, check
 from suite.dialect import ENDS, STARTS, cell, number_of, parent, token
 from suite.trial import CONSTRAINTS, INTENTS
 
 
 def lacks(it, put, *ids, constraints=()):
-    """That a put is refused for its key, with exactly these missing."""
+    """Checks that a put is denied for its key, with exactly these missing."""
     put.must(409, "P14 KEY")
     told = [entity["id"] for entity in put.missing()]
     put.need(sorted(told) == sorted(ids), f"missing: the intents {', '.join(sorted(ids)) or 'none'}")
@@ -13,12 +13,12 @@ def lacks(it, put, *ids, constraints=()):
     put.need(sorted(told) == sorted(constraints), f"missing: the constraints {', '.join(sorted(constraints)) or 'none'}")
     if not it.dialect.is_standard:
         is_sorted = all(ids == sorted(ids) for ids in ([entity["id"] for entity in put.missing(kind)] for kind in (INTENTS, CONSTRAINTS)))
-        put.need(is_sorted, "by rising ids")
+        put.need(is_sorted, "in the order of their ids")
         put.need(set(put.value) == {"message", "missing_constraints", "missing_operational_intents"}, "both lists, also an empty one")
     return put
 
 
-@check("An intent that meets another's, put without its OVN, is 409 and told of it, without the OVN, and is not kept", "P14 KEY",
+@check("Putting an intent that meets another's without its OVN is 409; the denial lists it without its OVN, and nothing is stored", "P14 KEY",
        [INTENT["create"]])
 def a_key_is_needed(it):
     first, second, site = it.id(), it.id(), it.site()
@@ -31,7 +31,7 @@ def a_key_is_needed(it):
     it.b.get(INTENTS, second).must(404, "P7 FOUND")
 
 
-@check("With the OVN of what it meets, an intent is put", "P14 KEY", [INTENT["create"], INTENT["query"]])
+@check("An intent with the OVN of what it meets is put", "P14 KEY", [INTENT["create"], INTENT["query"]])
 def a_key_opens(it):
     first, second, site = it.id(), it.id(), it.site()
     ovn = it.a.intent(first, it.volume(site)).must(201).reference["ovn"]
@@ -40,10 +40,10 @@ def a_key_opens(it):
         found = supplier.query(INTENTS, site).must(200)
         shown = {entity["id"]: entity.get("ovn") for entity in found.part("operational_intent_references")}
         found.need(set(shown) == {first, second}, "both intents")
-        found.need(shown[own] in it.knowledge.given and shown[other] not in it.knowledge.given, "the OVN of one's own alone")
+        found.need(shown[own] in it.knowledge.given and shown[other] not in it.knowledge.given, "an OVN only for the USS's own")
 
 
-@check("All that is missing is told, and what the key has is not", "P14 KEY", [INTENT["create"]])
+@check("A denial lists all missing entities, and none that the key has", "P14 KEY", [INTENT["create"]])
 def all_that_is_missing_is_told(it):
     site, ids, key = it.site(), [it.id() for _ in range(4)], []
     for id_ in ids:
@@ -57,18 +57,18 @@ def all_that_is_missing_is_told(it):
     it.b.intent(new, it.volume(site), key=key[::-1]).must(201)
 
 
-@check("An OVN that was replaced is no key: who has not seen the update is told of it", "P14 KEY", [INTENT["create"], INTENT["update"]])
+@check("An OVN from before an update does not count in a key: the denial lists the updated intent", "P14 KEY", [INTENT["create"], INTENT["update"]])
 def a_stale_key_is_refused(it):
     first, second, site = it.id(), it.id(), it.site()
     old = it.a.intent(first, it.volume(site)).must(201).reference["ovn"]
     new = it.a.intent(first, it.volume(site), over=old, state="Activated").must(200).reference
     denied = lacks(it, it.b.intent(second, it.volume(site), key=[old]), first)
-    denied.need(denied.missing()[0]["version"] == new["version"], f"version {new['version']}, the present one")
-    denied.need(denied.missing()[0]["state"] == "Activated", "its present state")
+    denied.need(denied.missing()[0]["version"] == new["version"], f"version {new['version']}, the current one")
+    denied.need(denied.missing()[0]["state"] == "Activated", "its current state")
     it.b.intent(second, it.volume(site), key=[new["ovn"]]).must(201)
 
 
-@check("What is deleted is needed no more", "P14 KEY", [INTENT["create"], INTENT["delete"]])
+@check("No key needs a deleted intent", "P14 KEY", [INTENT["create"], INTENT["delete"]])
 def what_is_gone_is_not_needed(it):
     first, second, site = it.id(), it.id(), it.site()
     ovn = it.a.intent(first, it.volume(site)).must(201).reference["ovn"]
@@ -77,7 +77,7 @@ def what_is_gone_is_not_needed(it):
     it.b.intent(second, it.volume(site)).must(201)
 
 
-@check("An update needs a key, too: of all others that meet its new volumes, and not of itself", "P14 KEY", [INTENT["update"]])
+@check("An update needs a key with all others that meet its new volumes, but not with itself", "P14 KEY", [INTENT["update"]])
 def an_update_needs_a_key(it):
     first, second, site, other = it.id(), it.id(), it.site(), it.site()
     ovn = it.a.intent(first, it.volume(site)).must(201).reference["ovn"]
@@ -90,7 +90,7 @@ def an_update_needs_a_key(it):
     it.a.intent(first, it.volume(site), over=ovn, key=[moved["ovn"]]).must(200)
 
 
-@check("A supplier's own intents are needed as another's are, and their OVNs are told", "P14 KEY", only="profile")
+@check("Keys need a USS's own intents as well, and denials list their OVNs", "P14 KEY", only="profile")
 def own_intents_are_needed(it):
     first, site = it.id(), it.site()
     told = it.a.intent(first, it.volume(site)).must(201).reference
@@ -98,7 +98,7 @@ def own_intents_are_needed(it):
     denied.need(denied.missing()[0] == told, "the reference with its OVN")
 
 
-@check("What does not meet is not needed: another place, other altitudes, another time", "P14 KEY", [INTENT["create"]])
+@check("No key needs what does not meet: another place, other altitudes, another time", "P14 KEY", [INTENT["create"]])
 def what_does_not_meet_is_not_needed(it):
     site = it.site()
     it.a.intent(it.id(), it.volume(site)).must(201)
@@ -107,7 +107,7 @@ def what_does_not_meet_is_not_needed(it):
     it.b.intent(it.id(), it.volume(site, start=ENDS + 1800, end=ENDS + 3600)).must(201)
 
 
-@check("A Nonconforming or a Contingent intent needs no key, and is needed by others", "P14 KEY", [INTENT["create"]])
+@check("A Nonconforming or a Contingent intent needs no key, and keys of others need it", "P14 KEY", [INTENT["create"]])
 def off_nominal_intents_need_no_key(it):
     for state in ("Nonconforming", "Contingent"):
         site, own = it.site(), it.id()
@@ -116,7 +116,7 @@ def off_nominal_intents_need_no_key(it):
         lacks(it, it.b.intent(it.id(), it.volume(site), key=[first["ovn"]]), own)
 
 
-@check("An intent of several volumes needs what any of them meets", "P14 KEY", [INTENT["create"]])
+@check("The key of an intent with several volumes needs what any of them meets", "P14 KEY", [INTENT["create"]])
 def each_volume_needs_a_key(it):
     one, two, other, first, second = it.site(), it.site(), it.site(), it.id(), it.id()
     a = it.a.intent(first, it.volume(one)).must(201).reference["ovn"]
@@ -127,14 +127,14 @@ def each_volume_needs_a_key(it):
     it.b.intent(id_, *volumes, key=[a, b]).must(201)
 
 
-@check("Volumes are never merged: what meets one's place and another's altitude only is not needed", "P14 KEY", only="profile")
+@check("Volumes are never merged: no key needs what meets only the place of one and the altitude of another", "P14 KEY", only="profile")
 def volumes_are_not_merged(it):
     one, two = it.site(), it.site()
     it.a.intent(it.id(), it.volume(one), it.volume(two, low=200, high=300)).must(201)
     it.b.intent(it.id(), it.volume(one, low=200, high=300), it.volume(two)).must(201)
 
 
-@check("Ranges hold both their ends: what ends at a second or an altitude meets what begins there, and not a decimetre or a second on",
+@check("Ranges include both ends: a volume that ends at a second or altitude meets one that begins there, but not one a second or decimetre later",
        "Cells volumes and areas", only="profile")
 def ranges_hold_their_ends(it):
     for bounds, beside in (
@@ -149,7 +149,7 @@ def ranges_hold_their_ends(it):
         it.b.intent(it.id(), volume).must(201)
 
 
-@check("Cells are compared at level 13: a finer cell counts as the one that holds it, a coarser one as all inside it",
+@check("Cells are compared at level 13: a finer cell counts as the one that contains it, a coarser one as all inside it",
        "Cells volumes and areas",
        only="profile")
 def cells_are_compared_at_level_13(it):
@@ -160,7 +160,7 @@ def cells_are_compared_at_level_13(it):
     found.need(first in found.ids, "the intent in one of the cells inside")
 
 
-@check("Drawn volumes of two suppliers: each refusal names exactly what meets and the key lacks, and each query finds exactly what meets",
+@check("Drawn volumes of two USSs: each denial lists exactly what meets and the key lacks, and each query finds exactly what meets",
        "P14 KEY, Effects", [INTENT["create"], INTENT["query"]])
 def drawn_volumes_meet_as_they_are(it):
     draw, sites, there = it.run.draw, [it.site() for _ in range(3)], {}
@@ -181,7 +181,7 @@ def drawn_volumes_meet_as_they_are(it):
 
 
 def draw_box(draw, sites):
-    """Places, levels of 100 m and spans of 20 minutes, which lie apart where they differ."""
+    """Draws places, altitude bands of 100 m and spans of 20 minutes. Different values do not overlap."""
     places = draw.sample(sites, draw.randint(1, len(sites)))
     return places, draw.randint(0, 2), draw.randint(0, 2)
 

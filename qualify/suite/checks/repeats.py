@@ -1,10 +1,10 @@
-"""Answers that were lost, requests that are sent again, and two suppliers at once."""
+"""Lost responses, repeated requests, and two USSs at once."""
 from suite.check import AVAILABILITY as SETTINGS, INTENT, SUBSCRIPTION, check
 from suite.trial import AVAILABILITY, INTENTS, SUBSCRIPTIONS
 
 
 def sent_twice(it, supplier, method, path, body=None):
-    """The answer to a request that was sent before, and whose answer was lost."""
+    """Returns the response to a repeated request, whose first response was lost."""
     if method == "PUT":
         it.may_be_kept(supplier, path)
     lost = it.client.lose(supplier.caller, method, path, body)
@@ -12,7 +12,7 @@ def sent_twice(it, supplier, method, path, body=None):
     return supplier.ask(method, path, body)
 
 
-@check("A creation whose answer was lost is done once: sent again it is 409, and the reference is one's own",
+@check("A creation whose response was lost is done once: repeated it is 409, and the reference is the caller's own",
        "P8 FRESH", [INTENT["create"], INTENT["get"]])
 def a_lost_creation_is_done_once(it):
     id_, site = it.id(), it.site()
@@ -23,7 +23,7 @@ def a_lost_creation_is_done_once(it):
     it.a.delete(INTENTS, id_, read.reference["ovn"]).must(200)
 
 
-@check("An update whose answer was lost is done once: sent again it is 409, and its OVN is read",
+@check("An update whose response was lost is done once: repeated it is 409, and a read gives its OVN",
        "P10 VERSION", [INTENT["update"], INTENT["get"]])
 def a_lost_update_is_done_once(it):
     id_, site = it.id(), it.site()
@@ -31,18 +31,18 @@ def a_lost_update_is_done_once(it):
     body = it.intent_body(it.volume(site), state="Activated")
     sent_twice(it, it.a, "PUT", f"{INTENTS}/{id_}/{first['ovn']}", body).must(409, "P10 VERSION")
     read = it.a.get(INTENTS, id_).must(200)
-    read.need(read.reference["state"] == "Activated" and read.reference["ovn"] != first["ovn"], "what the update made")
+    read.need(read.reference["state"] == "Activated" and read.reference["ovn"] != first["ovn"], "the result of the update")
     read.need(it.dialect.is_standard or read.reference["version"] == 2, "version 2")
 
 
-@check("A deletion whose answer was lost is done: sent again it is 404", "P7 FOUND", [INTENT["delete"]])
+@check("A deletion whose response was lost is done: repeated it is 404", "P7 FOUND", [INTENT["delete"]])
 def a_lost_deletion_is_done(it):
     id_ = it.id()
     ovn = it.a.intent(id_, it.volume(it.site())).must(201).reference["ovn"]
     sent_twice(it, it.a, "DELETE", f"{INTENTS}/{id_}/{ovn}").must(404, "P7 FOUND")
 
 
-@check("A subscription whose answer was lost is there once, and tells",
+@check("A subscription whose response was lost exists once, and is notified",
        "P8 FRESH, P10 VERSION", [SUBSCRIPTION["create"], SUBSCRIPTION["update"]])
 def a_lost_subscription_is_there_once(it):
     id_, site = it.id(), it.site()
@@ -55,7 +55,7 @@ def a_lost_subscription_is_there_once(it):
     answer.need(answer.indexes.get(id_) == 1, "the subscription, once, with index 1")
 
 
-@check("A setting whose answer was lost is done once: sent again it is 409, and what it set is read",
+@check("An availability change whose response was lost is done once: repeated it is 409, and a read gives its value",
        "P10 VERSION", [SETTINGS["set"], SETTINGS["get"]])
 def a_lost_setting_is_done_once(it):
     uss = it.b.uss
@@ -70,7 +70,7 @@ def a_lost_setting_is_done_once(it):
 
 
 def at_once(it, *asked):
-    """The answers to requests that are sent at once."""
+    """Returns the responses to requests that are sent at once."""
     for supplier, method, path, _ in asked:
         if method == "PUT":
             it.may_be_kept(supplier, path)
@@ -78,7 +78,7 @@ def at_once(it, *asked):
     return [it.taken(supplier, exchange) for (supplier, *_), exchange in zip(asked, exchanges)]
 
 
-@check("Of two suppliers that put what meets at once, one is kept, and the other is told of it", "P14 KEY", [INTENT["create"]])
+@check("Of two USSs that put intents that meet at once, one succeeds, and the other's denial lists that intent", "P14 KEY", [INTENT["create"]])
 def one_of_two_is_kept(it):
     for _ in range(4):
         site, ids = it.site(), (it.id(), it.id())
@@ -89,10 +89,10 @@ def one_of_two_is_kept(it):
         denied = answers[1 - won[0]].must(409, "P14 KEY")
         denied.need([entity["id"] for entity in denied.missing()] == [ids[won[0]]], "the other's intent is missing")
         found = it.a.query(INTENTS, site).must(200)
-        found.need(found.ids == [ids[won[0]]], "the one that is kept")
+        found.need(found.ids == [ids[won[0]]], "the stored one")
 
 
-@check("Of two updates over one OVN that are sent at once, one is done", "P10 VERSION", [INTENT["update"]])
+@check("Of two updates over one OVN that are sent at once, one succeeds", "P10 VERSION", [INTENT["update"]])
 def one_of_two_updates_is_done(it):
     id_, site = it.id(), it.site()
     first = it.a.intent(id_, it.volume(site)).must(201).reference
@@ -103,10 +103,10 @@ def one_of_two_updates_is_done(it):
     answers[-1].need(len(won) == 1, "one 200 of the two")
     answers[1 - won[0]].must(409, "P10 VERSION")
     read = it.a.get(INTENTS, id_).must(200)
-    read.need(read.reference["state"] == ("Accepted", "Activated")[won[0]], "what the one that was done made")
+    read.need(read.reference["state"] == ("Accepted", "Activated")[won[0]], "the result of the successful update")
 
 
-@check("Changes that are sent at once each tell a subscription by an index of its own, none twice and none left out",
+@check("Changes that are sent at once notify a subscription with different indexes, without a gap",
        "Effects", [INTENT["create"]])
 def indexes_of_changes_at_once_differ(it):
     id_, site = it.id(), it.site()

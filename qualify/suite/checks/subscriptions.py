@@ -1,4 +1,4 @@
-"""Subscriptions: what is kept, who is told of which change, and by which index."""
+"""Subscriptions: what is stored, which changes notify them, and with which index."""
 from suite.check import CONSTRAINT, INTENT, SUBSCRIPTION, check
 from suite.dialect import ENDS, STARTS, URL
 from suite.trial import CONSTRAINTS, INTENTS, SUBSCRIPTIONS
@@ -10,7 +10,7 @@ def index_of(it, supplier, id_):
 
 
 def tells(it, answer, id_, index):
-    """That a change tells a subscription, with this index, and that it has it from then on."""
+    """Checks that a change notifies a subscription with this index, and that it has the index from then on."""
     answer.need(answer.indexes.get(id_) == index, f"the subscription with index {index}")
     read = it.a.get(SUBSCRIPTIONS, id_).must(200)
     read.need(read.reference["notification_index"] == index, f"index {index}")
@@ -22,7 +22,7 @@ def tells_not(it, answer, id_, index):
     read.need(read.reference["notification_index"] == index, f"index {index}, as before")
 
 
-@check("A subscription is created with index 0, read as it was put, and lists what its volume meets", "Effects",
+@check("A created subscription has index 0, is read as it was put, and lists what its volume meets", "Effects",
        [SUBSCRIPTION["create"], SUBSCRIPTION["get"]])
 def a_subscription_is_created_and_read(it):
     id_, site, there = it.id(), it.site(), it.id()
@@ -33,7 +33,7 @@ def a_subscription_is_created_and_read(it):
     created.need(told["id"] == id_ and told["notification_index"] == 0, "its id, and index 0")
     created.need(told["uss_base_url"] == URL.format("a") and bool(told["version"]), "its address, and a version")
     flags = told.get("notify_for_operational_intents"), told.get("notify_for_constraints") or False
-    created.need(flags == (True, False), "for intents alone")
+    created.need(flags == (True, False), "only for intents")
     times = [it.dialect.second(told.get(name)) for name in ("time_start", "time_end")]
     created.need(times == [it.dialect.moment + STARTS, it.dialect.moment + ENDS], "the times that were put")
     created.need([entity["id"] for entity in created.value.get("operational_intent_references", ())] == [there], "the intent that is there")
@@ -42,7 +42,7 @@ def a_subscription_is_created_and_read(it):
     read.need(read.reference == told, "the same subscription")
 
 
-@check("Only its own supplier reads, updates or deletes a subscription, and finds it in a query", "P9 MANAGER",
+@check("Only its own USS reads, updates or deletes a subscription, and finds it in a query", "P9 MANAGER",
        [SUBSCRIPTION["get"], SUBSCRIPTION["update"], SUBSCRIPTION["delete"], SUBSCRIPTION["query"]])
 def a_subscription_is_its_suppliers_alone(it):
     one, two, site = it.id(), it.id(), it.site()
@@ -53,14 +53,14 @@ def a_subscription_is_its_suppliers_alone(it):
     it.b.delete(SUBSCRIPTIONS, one, told["version"]).must(403, "P9 MANAGER", standard=(403, 404))
     for supplier, own in ((it.a, one), (it.b, two)):
         found = supplier.query(SUBSCRIPTIONS, site).must(200)
-        found.need(found.ids == [own], "its own alone")
+        found.need(found.ids == [own], "only its own")
     found = it.a.query(SUBSCRIPTIONS, it.site()).must(200)
     found.need(found.ids == [], "none elsewhere")
     read = it.a.get(SUBSCRIPTIONS, one).must(200)
     read.need(read.reference == told, "the subscription as it was")
 
 
-@check("An update over the present version keeps the index and gives another version; over an old one it is 409",
+@check("An update over the current version keeps the index and gives another version; over an old one it is 409",
        "P10 VERSION, Effects",
        [SUBSCRIPTION["update"]])
 def a_subscription_is_updated(it):
@@ -73,12 +73,12 @@ def a_subscription_is_updated(it):
     updated.need(second["uss_base_url"] == URL.format("f"), "the new address")
     it.a.subscription(id_, it.volume(site), over=first["version"]).must(409, "P10 VERSION")
     read = it.a.get(SUBSCRIPTIONS, id_).must(200)
-    read.need(read.reference == second, "what the update made")
+    read.need(read.reference == second, "the result of the update")
     tells_not(it, it.b.intent(it.id(), it.volume(site, low=200, high=250)).must(201), id_, 1)
     tells(it, it.b.intent(it.id(), it.volume(other)).must(201), id_, 2)
 
 
-@check("A subscription is created once, deleted over its present version alone, and then gone", "P8 FRESH, P10 VERSION, P7 FOUND",
+@check("A subscription is created once, and deleted only over its current version; then it does not exist", "P8 FRESH, P10 VERSION, P7 FOUND",
        [SUBSCRIPTION["create"], SUBSCRIPTION["delete"]])
 def a_subscription_is_deleted(it):
     id_, site = it.id(), it.site()
@@ -92,10 +92,10 @@ def a_subscription_is_deleted(it):
     found.need(found.ids == [], "nothing")
     it.a.delete(SUBSCRIPTIONS, id_, told["version"]).must(404, "P7 FOUND")
     answer = it.b.intent(it.id(), it.volume(site)).must(201)
-    answer.need(id_ not in answer.indexes, "nobody who has gone")
+    answer.need(id_ not in answer.indexes, "no deleted subscription")
 
 
-@check("The index rises by one with the creation, the update and the deletion of an intent that meets it, and with nothing that was denied",
+@check("The index rises by one with the creation, update and deletion of an intent that meets it, and not with a denial",
        "Effects", [INTENT["create"], INTENT["update"], INTENT["delete"], SUBSCRIPTION["get"]])
 def an_index_rises_with_each_change(it):
     id_, site, flight = it.id(), it.site(), it.id()
@@ -108,18 +108,18 @@ def an_index_rises_with_each_change(it):
     it.a.intent(it.id(), it.volume(site)).must(409, "P14 KEY")
     it.a.delete(INTENTS, flight, updated.reference["ovn"]).must(403, "P9 MANAGER")
     read = it.a.get(SUBSCRIPTIONS, id_).must(200)
-    read.need(read.reference["notification_index"] == 2, "index 2: nothing was changed")
+    read.need(read.reference["notification_index"] == 2, "index 2: nothing changed")
     tells(it, it.b.delete(INTENTS, flight, updated.reference["ovn"]).must(200), id_, 3)
 
 
-@check("A supplier's own changes are told to its own subscriptions, too", "Effects", [INTENT["create"]])
+@check("A USS's changes notify its own subscriptions, too", "Effects", [INTENT["create"]])
 def own_changes_are_told(it):
     id_, site = it.id(), it.site()
     it.a.subscription(id_, it.volume(site)).must(200)
     tells(it, it.a.intent(it.id(), it.volume(site)).must(201), id_, 1)
 
 
-@check("An update tells those whose area the intent has left, and those whose area it has come to", "Effects", [INTENT["update"]])
+@check("An update notifies subscriptions in the intent's old volumes and in its new ones", "Effects", [INTENT["update"]])
 def who_is_left_is_told(it):
     old, new, here, there, flight = it.id(), it.id(), it.site(), it.site(), it.id()
     it.a.subscription(old, it.volume(here)).must(200)
@@ -132,7 +132,7 @@ def who_is_left_is_told(it):
     last.need(old not in last.indexes and last.indexes.get(new) == 2, "the one that it came to alone, with index 2")
 
 
-@check("Who asked for another place, altitude or time, or for constraints alone, is not told of an intent",
+@check("An intent does not notify subscriptions to another place, altitude or time, or only to constraints",
        "Effects", [INTENT["create"]])
 def who_does_not_meet_is_not_told(it):
     site = it.site()
@@ -143,13 +143,13 @@ def who_does_not_meet_is_not_told(it):
     it.b_processing.subscription(ids[3], it.volume(site), intents=False, constraints=True).must(200)
     answer = it.b.intent(it.id(), it.volume(site)).must(201)
     for id_ in ids:
-        answer.need(id_ not in answer.indexes, "nobody of them")
+        answer.need(id_ not in answer.indexes, "none of them")
     for id_ in ids[:3]:
         read = it.a.get(SUBSCRIPTIONS, id_).must(200)
         read.need(read.reference["notification_index"] == 0, "index 0")
 
 
-@check("Changes of constraints are told to who asked for constraints, and to nobody else", "Effects",
+@check("Changes of constraints notify subscriptions for constraints, and no others", "Effects",
        [CONSTRAINT["create"], CONSTRAINT["update"], CONSTRAINT["delete"]])
 def constraints_are_told(it):
     wants, other, site, id_ = it.id(), it.id(), it.site(), it.id()
@@ -157,7 +157,7 @@ def constraints_are_told(it):
     it.a.subscription(other, it.volume(site)).must(200)
     answer = it.manager.constraint(id_, it.volume(site)).must(201)
     for index in (1, 2, 3):
-        answer.need(answer.indexes == {wants: index}, f"the subscription for constraints alone, with index {index}")
+        answer.need(answer.indexes == {wants: index}, f"only the subscription for constraints, with index {index}")
         urls = [told["uss_base_url"] for told in answer.part("subscribers")]
         answer.need(urls == [URL.format("b")], "its address")
         read = it.b_processing.get(SUBSCRIPTIONS, wants).must(200)
@@ -169,7 +169,7 @@ def constraints_are_told(it):
             answer = it.manager.delete(CONSTRAINTS, id_, ovn).must(200)
 
 
-@check("All subscriptions that a change meets are told, each once, with the address of each", "Effects", [INTENT["create"]])
+@check("A change notifies all subscriptions that it meets, each once, with the address of each", "Effects", [INTENT["create"]])
 def all_who_meet_are_told(it):
     site, ids = it.site(), [it.id() for _ in range(4)]
     urls = ["b", "a", "b", "g"]
@@ -177,26 +177,26 @@ def all_who_meet_are_told(it):
         (it.a if url == "a" else it.b).subscription(id_, it.volume(site), url=url).must(200)
     answer = it.a.intent(it.id(), it.volume(site)).must(201)
     told = [(one["subscription_id"], by["uss_base_url"]) for by in answer.part("subscribers") for one in by["subscriptions"]]
-    answer.need(sorted(told) == sorted((id_, URL.format(url)) for id_, url in zip(ids, urls)), "the four, each once and at its address")
+    answer.need(sorted(told) == sorted((id_, URL.format(url)) for id_, url in zip(ids, urls)), "the four, each once with its address")
     answer.need(set(answer.indexes.values()) == {1}, "index 1 of each")
     if not it.dialect.is_standard:
         by_url = [by["uss_base_url"] for by in answer.value["subscribers"]]
         answer.need(by_url == sorted(set(by_url)), "one entry for each address, in their order")
         lists = [[one["subscription_id"] for one in by["subscriptions"]] for by in answer.value["subscribers"]]
-        answer.need(all(ids == sorted(ids) for ids in lists), "the subscriptions of each by rising ids")
+        answer.need(all(ids == sorted(ids) for ids in lists), "the subscriptions of each in the order of their ids")
 
 
-@check("A subscription that an intent names knows it, and cannot be deleted as long as it does", "P17 DEPENDED",
+@check("A subscription that an intent references lists it, and cannot be deleted while it does", "P17 DEPENDED",
        [INTENT["create"], SUBSCRIPTION["get"], SUBSCRIPTION["delete"]])
 def a_named_subscription_stays(it):
     named, flight, site = it.id(), it.id(), it.site()
     version = it.a.subscription(named, it.volume(site)).must(200).reference["version"]
     created = it.a.intent(flight, it.volume(site), subscription=named).must(201)
-    created.need(created.reference["subscription_id"] == named, "the subscription that it names")
+    created.need(created.reference["subscription_id"] == named, "the subscription that it references")
     read = it.a.get(SUBSCRIPTIONS, named).must(200)
     read.need(read.reference.get("dependent_operational_intents") == [flight], "the intent among those that depend on it")
     seen = it.b.get(INTENTS, flight).must(200)
-    seen.need(it.dialect.is_standard or seen.reference["subscription_id"] == named, "the subscription that it names")
+    seen.need(it.dialect.is_standard or seen.reference["subscription_id"] == named, "the subscription that it references")
     it.a.delete(SUBSCRIPTIONS, named, version).must(409, "P17 DEPENDED", standard=(400, 409))
     it.a.delete(INTENTS, flight, created.reference["ovn"]).must(200)
     read = it.a.get(SUBSCRIPTIONS, named).must(200)
@@ -204,7 +204,7 @@ def a_named_subscription_stays(it):
     it.a.delete(SUBSCRIPTIONS, named, version).must(200)
 
 
-@check("An intent cannot name a subscription that is not there, or is another supplier's", "P16 SUBSCRIPTION", [INTENT["create"]])
+@check("An intent cannot reference a subscription that does not exist, or that is another USS's", "P16 SUBSCRIPTION", [INTENT["create"]])
 def only_an_own_subscription_is_named(it):
     named, flight, site = it.id(), it.id(), it.site()
     it.b.subscription(named, it.volume(site)).must(200)
@@ -216,7 +216,7 @@ def only_an_own_subscription_is_named(it):
     read.need(not read.reference.get("dependent_operational_intents"), "nothing that depends on it")
 
 
-@check("A subscription for nothing, of too large an area, or without an address is refused", "P5 FORM, P6 AREA",
+@check("A subscription for nothing, with too large an area, or without an address is denied", "P5 FORM, P6 AREA",
        [SUBSCRIPTION["create"], SUBSCRIPTION["query"]])
 def wrong_subscriptions_are_refused(it):
     id_, volume = it.id(), it.volume(it.site())
@@ -229,7 +229,7 @@ def wrong_subscriptions_are_refused(it):
     it.a.get(SUBSCRIPTIONS, id_).must(404, "P7 FOUND")
 
 
-@check("A subscription for constraints takes the scope of constraint processing", "P11 ROLE", only="profile")
+@check("A subscription for constraints needs the scope of constraint processing", "P11 ROLE", only="profile")
 def a_subscription_takes_its_scope(it):
     id_, volume = it.id(), it.volume(it.site())
     it.a.subscription(id_, volume, intents=False, constraints=True).must(403, "P11 ROLE")
@@ -238,7 +238,7 @@ def a_subscription_takes_its_scope(it):
     it.b_processing.subscription(id_, volume, intents=False, constraints=True).must(200)
 
 
-@check("An update of an intent replaces the subscription that it names, and one that names none names none from then on",
+@check("An update of an intent replaces its reference to a subscription, and one without a reference removes it",
        "Effects", only="profile")
 def an_update_names_anew(it):
     one, two, flight, site = it.id(), it.id(), it.id(), it.site()
@@ -251,10 +251,10 @@ def an_update_names_anew(it):
         for id_ in (one, two):
             read = it.a.get(SUBSCRIPTIONS, id_).must(200)
             wanted = [flight] if id_ == named else []
-            read.need(read.reference["dependent_operational_intents"] == wanted, "exactly the intents that name it now")
+            read.need(read.reference["dependent_operational_intents"] == wanted, "exactly the intents that reference it")
 
 
-@check("An intent that asks for a new subscription names one over its volumes, which tells of what meets it and goes with it", "",
+@check("An intent that requests a new subscription references one over its volumes, which is notified of what meets it and deleted with it", "",
        [INTENT["create"], INTENT["delete"], SUBSCRIPTION["get"]], only="standard")
 def an_implicit_subscription_goes_with_its_intent(it):
     flight, site = it.id(), it.site()

@@ -1,4 +1,4 @@
-"""The operator's port of `serve`: whether the service answers, what it counts, and its end."""
+"""The admin port of `serve`: the health of the service, its metrics, and its end."""
 import contextlib
 import re
 import socket
@@ -7,7 +7,7 @@ import time
 import wire
 from failing_files import Failing
 from many_clients import reset
-from patience import kept_intents
+from client_timeouts import stored_intents
 from ports import free_port
 from program import BUILT, SECONDS, TOP, run
 from serving import Service, until_closed
@@ -21,10 +21,10 @@ STOPPING = b"stopping: a stop was requested\n"
 DEAD = b"stopped: the database failed; restart the service\n"
 
 PUT = wire.request("PUT", f"{wire.AVAILABILITY}/uss-b", "Bearer tok-v", b'{"old_version":"","availability":"Down"}')
-# seconds that a service that was told to end takes at most, and within which an operator is answered
+# The most seconds that a stopping service takes, and those within which an operator gets a response.
 END, AT_ONCE = 5, 2
 MOST = 16
-# the names of what is counted, with their types
+# The names of the metrics, with their types.
 NAMES = {
     "dss_connections_open": "gauge", "dss_connections_accepted_total": "counter", "dss_connections_refused_total": "counter",
     "dss_connections_failed_total": "counter", "dss_requests_total": "counter", "dss_response_bytes_total": "counter",
@@ -39,7 +39,7 @@ NAMES = {
 
 
 def said(status, body, kind=PLAIN, allow=None):
-    """The bytes of an answer of the operator's port."""
+    """Returns the bytes of a response of the admin port."""
     lines = [f"HTTP/1.1 {status} {wire.REASONS[status]}", f"Content-Type: {kind}", f"Content-Length: {len(body)}"]
     lines += [f"Allow: {allow}"] if allow else []
     return "\r\n".join([*lines, "Connection: close", "", ""]).encode() + body
@@ -52,8 +52,8 @@ def asks(method, path, fields=(), body=b""):
 HEALTH, METRICS, STOP = asks("GET", "/health"), asks("GET", "/metrics"), asks("POST", "/stop", ["Content-Length: 0"])
 
 
-class Operated(Service):
-    """`dss serve` with an operator's port."""
+class AdminService(Service):
+    """`dss serve` with an admin port."""
 
     def command(self):
         return [*super().command(), "--admin-port", f"{self.admin}"]
@@ -72,19 +72,19 @@ class Operated(Service):
         return socket.create_connection(("127.0.0.1", self.admin), timeout=SECONDS)
 
     def asked(self, sent):
-        """What comes back on a connection to the operator's port, until it is closed."""
+        """Returns the bytes that arrive on a connection to the admin port until it is closed."""
         with self.operator() as connection:
             connection.sendall(sent)
             return until_closed(connection)
 
     def counted(self):
-        """What is counted: the numbers by their names."""
+        """Returns the metrics: the numbers by their names."""
         text = self.asked(METRICS).partition(b"\r\n\r\n")[2].decode()
         return dict(re.findall(r"^(dss_\w+(?:\{.*\})?) (\S+)$", text, re.M))
 
 
 def until_counted(started, name, number):
-    """What is counted, once that name has that number."""
+    """Waits until a metric has that number, and returns all metrics."""
     until = time.monotonic() + SECONDS
     while (counted := started.counted()).get(name) != number and time.monotonic() < until:
         time.sleep(0.01)
@@ -92,8 +92,8 @@ def until_counted(started, name, number):
 
 
 def paths():
-    """Each path by each method, and what is no request, also in pieces; a client that waits and one that is answered stay as they
-    are."""
+    """Each route gets each method, and malformed requests, also in chunks. A waiting client and one that is being
+    served are not disturbed."""
     no_path, no_method, no_request = b"no such path\n", b"method not allowed\n", b"invalid request\n"
     table = [
         ("health", HEALTH, said(200, SERVING)),
@@ -116,7 +116,7 @@ def paths():
         ("a path of clients", ASKED, said(404, no_path)),
         ("two requests", HEALTH + STOP, said(200, SERVING)),
     ]
-    with Operated(count=2) as started, started.connect() as silent, started.connect() as kept:
+    with AdminService(count=2) as started, started.connect() as silent, started.connect() as kept:
         kept.sendall(ASKED)
         found = difference("a client before", kept.recv(1 << 16), ANSWER)
         for name, sent, wanted in table:
@@ -140,8 +140,8 @@ def paths():
 
 
 def counts():
-    """What is counted of known clients, each name with its help and its type."""
-    with Operated() as started:
+    """The metrics of known clients have their values, and each has its help and its type."""
+    with AdminService() as started:
         before = time.time()
         text = started.asked(METRICS)
         found = difference("the head of it", text.startswith(said(200, b"", PROMETHEUS)[:-len("0\r\nConnection: close\r\n\r\n")]), True)
@@ -176,16 +176,17 @@ def counts():
 
 
 def ends():
-    """A service that is told to end answers what is whole, closes its connections and ends; it takes nobody more."""
+    """A service that is told to stop answers complete requests, closes its connections and exits. It accepts no new
+    client."""
     found = []
-    with Operated() as started, contextlib.ExitStack() as stack:
+    with AdminService() as started, contextlib.ExitStack() as stack:
         silent, half, kept = (stack.enter_context(started.connect()) for _ in range(3))
         half.sendall(PUT[:-1])
         kept.sendall(ASKED)
         found += difference("an answer", kept.recv(1 << 16), ANSWER)
         until_counted(started, "dss_connections_open", "3")
         began = time.monotonic()
-        # these lie in the socket as it is told to end
+        # These bytes are in the socket when it is told to stop.
         kept.sendall(PUT + ASKED)
         found += difference("told to end", started.asked(STOP), said(200, b"stopping\n"))
         found += difference("a silent client", until_closed(silent), b"")
@@ -203,18 +204,19 @@ def ends():
 
 
 def ends_with_others():
-    """It ends in time beside a client that takes nothing of its answers and operators that wait, and tells operators of it."""
+    """It stops in time beside a client that reads none of its responses and operators that wait, and reports that it is
+    stopping."""
     found = []
     query = wire.request("POST", f"{wire.INTENTS}/query", "Bearer tok-a", b'{"area_of_interest":{"cells":["89c2591"]}}')
-    with Operated() as started, socket.socket() as held, contextlib.ExitStack() as stack:
-        puts = list(kept_intents())
-        for at in range(0, len(puts), wire.MOST_REQUESTS):
-            started.ask(puts[at : at + wire.MOST_REQUESTS])
+    with AdminService() as started, socket.socket() as held, contextlib.ExitStack() as stack:
+        puts = list(stored_intents())
+        for at in range(0, len(puts), wire.MAX_REQUESTS):
+            started.ask(puts[at : at + wire.MAX_REQUESTS])
         held.setsockopt(socket.SOL_SOCKET, socket.SO_RCVBUF, 4096)
         held.connect(("127.0.0.1", started.port))
-        held.sendall(query * wire.MOST_REQUESTS)
+        held.sendall(query * wire.MAX_REQUESTS)
         until_counted(started, "dss_connections_open", "1")
-        # once the buffers are full nothing is answered any more
+        # Once the buffers are full, no request is answered.
         made = None
         while made != (made := started.counted()["dss_response_bytes_total"]):
             time.sleep(1)
@@ -233,14 +235,15 @@ def ends_with_others():
 
 
 def broken():
-    """A service whose database failed in a change tells so, and goes on telling what it counts."""
+    """A service whose database failed in a change reports that, and still returns its metrics."""
     put = PUT.replace(b"\r\n\r\n", b"\r\nConnection: close\r\n\r\n")
     found = []
     with Failing() as room:
-        # the first ones fail in the opening of the files, so that nothing listens, and the next in the change
+        # The first failures are in the opening of the files, so that the service does not listen, and later ones in the
+        # change.
         for at in range(1, 100):
             environment = {"LD_PRELOAD": room.library, "FAIL_AT": f"{at}", "FAIL_ON": "1"}
-            with contextlib.suppress(OSError), Operated(more=environment) as started:
+            with contextlib.suppress(OSError), AdminService(more=environment) as started:
                 answer = started.exchange(put, ends=False)
                 if answer == wire.answer(*STOPPED, closes=True):
                     found += difference("its health", started.asked(HEALTH), said(503, DEAD))
@@ -254,9 +257,10 @@ def broken():
 
 
 def many():
-    """Sixteen operators at once, and the next one once one of them has gone; clients are answered meanwhile."""
+    """Sixteen operators connect at once, and the next one once one of them has disconnected. Clients are served
+    meanwhile."""
     found = []
-    with Operated() as started, contextlib.ExitStack() as stack:
+    with AdminService() as started, contextlib.ExitStack() as stack:
         held = [stack.enter_context(started.operator()) for _ in range(MOST)]
         with started.operator() as late:
             late.sendall(HEALTH)
@@ -274,7 +278,7 @@ def many():
 
 
 def without_port():
-    """A port that is taken: one line, and the status 1; a number that is none is refused."""
+    """A port in use gives one line and status 1. An invalid number is rejected."""
     found = []
     with socket.create_server(("127.0.0.1", 0)) as taken, Service() as started:
         words = started.command()
@@ -289,7 +293,8 @@ def without_port():
 
 
 def elsewhere():
-    """Another address is listened on, and told; the operator's port stays where it is. What is no address is refused."""
+    """The service listens on another address, and prints it. The admin port stays on its own address. An invalid
+    address is rejected."""
     found = []
     with Service() as started:
         words = started.command()
@@ -318,13 +323,13 @@ def version():
     found = []
     for word in "--version", "-V":
         found += difference(word, run([BUILT, word]), (0, f"dss {number} ({kit})\n".encode(), b""))
-    with Operated() as started:
+    with AdminService() as started:
         counted = started.counted()
     return found + difference("as it is counted", counted.get(f'dss_build_info{{version="{number}",kit="{kit}"}}'), "1")
 
 
-class Listening(Operated):
-    """The same on an address."""
+class Listening(AdminService):
+    """The same on a given address."""
 
     def __init__(self, address):
         super().__init__()
@@ -335,13 +340,13 @@ class Listening(Operated):
 
 
 CASES = {
-    "operators-port": paths,
-    "operators-port-counts": counts,
-    "operators-port-ends-the-service": ends,
-    "operators-port-ends-it-in-time": ends_with_others,
-    "operators-port-of-a-broken-service": broken,
-    "operators-port-with-many": many,
-    "operators-port-that-cannot-be-had": without_port,
+    "admin-port": paths,
+    "admin-port-metrics": counts,
+    "admin-port-ends-the-service": ends,
+    "admin-port-ends-it-in-time": ends_with_others,
+    "admin-port-of-a-broken-service": broken,
+    "admin-port-with-many": many,
+    "admin-port-in-use": without_port,
     "another-address": elsewhere,
     "version": version,
 }

@@ -1,4 +1,4 @@
-"""`dss backup`: a copy of a database that is whole or not there, which SQLite and `report` read as the database itself."""
+"""`dss backup` makes a whole backup of a database or none. SQLite and `report` read it like the database itself."""
 import contextlib
 import fcntl
 import pathlib
@@ -14,7 +14,8 @@ from program import BUILT, run
 EXISTS, READ, WRITE = (f"dss: backup: fault {it}\n".encode() for it in ("1 Exists", "2 Read", "3 Write"))
 MEMORY, NOT_CLOSED = b"dss: memory\n", b"dss: db: fault\n"
 DONE = (0, b"", b"")
-# SQLite's lock, and bytes that are less than a copy has and more than is written as a database is opened
+# The position of SQLite's lock, and a number of bytes that is less than a backup has and more than opening a database
+# writes.
 LOCK_AT, LOCK_LENGTH = 1 << 30, 512
 FEW_BYTES = 24_576
 
@@ -33,7 +34,8 @@ class Copied(Room):
         return run([BUILT, "backup", "--db", str(self.database), str(to or self.copy)], more=more)
 
     def bounded(self, dies):
-        """The status and error of a backup that may write files of few bytes, and dies or is told at more."""
+        """Returns the status and error of a backup that may write only few bytes to a file, and is killed or gets an
+        error beyond that."""
 
         def bound():
             signal.signal(signal.SIGXFSZ, signal.SIG_DFL if dies else signal.SIG_IGN)
@@ -43,8 +45,8 @@ class Copied(Room):
         done = subprocess.run(words, capture_output=True, preexec_fn=bound, restore_signals=False, timeout=60)
         return done.returncode, done.stderr
 
-    def wrong_in_copy(self, copy=None):
-        """How a copy is not what the database is."""
+    def wrong_in_backup(self, copy=None):
+        """Returns how a backup differs from the database."""
         copy = copy or self.copy
         found = tables.wrong_in(copy)
         rows, wanted = tables.rows_in(copy), tables.rows_in(self.database)
@@ -62,26 +64,26 @@ def told(name, got, wanted):
 
 
 def whole():
-    """A copy has the bytes of the database, whose access it has, too, by a name in this folder or another; and what a copy
-    that was broken off has left is taken away."""
+    """A backup has the bytes and the permissions of the database, whether its name is in the same directory or another.
+    It removes the incomplete file of an aborted backup."""
     with Copied() as room:
         room.database.chmod(0o640)
         found = told("a copy", room.backup(), DONE) + told("its bytes", room.copy.read_bytes(), room.database.read_bytes())
         found += told("its access", room.copy.stat().st_mode & 0o777, 0o640)
-        found += room.wrong_in_copy()
-        # reading it has left a log beside it
+        found += room.wrong_in_backup()
+        # Reading the database has left a log beside it.
         for end in "", "-wal":
             pathlib.Path(f"{room.copy}{end}").unlink(missing_ok=True)
         room.begun.write_bytes(b"x" * 100_000)
-        found += told("after one that was broken off", room.backup(), DONE) + room.wrong_in_copy()
+        found += told("after one that was broken off", room.backup(), DONE) + room.wrong_in_backup()
         words = [BUILT, "backup", "--db", "dss.db", "again.db"]
         found += told("in its folder", run(words, folder=room.folder.name), DONE)
         again = pathlib.Path(room.folder.name, "again.db")
-        return found + room.wrong_in_copy(again) + [f"{room.begun} is there"] * room.begun.exists()
+        return found + room.wrong_in_backup(again) + [f"{room.begun} is there"] * room.begun.exists()
 
 
 def with_log():
-    """What stands in the log beside a database, as after a crash, is in the copy."""
+    """A backup includes changes that are only in the log beside a database, as after a crash."""
     with Copied() as room:
         with contextlib.closing(tables.sqlite3.connect(room.database)) as database:
             database.execute("PRAGMA journal_mode = WAL")
@@ -91,13 +93,13 @@ def with_log():
             file, log = (room.database.with_name(it).read_bytes() for it in ("dss.db", "dss.db-wal"))
         room.database.write_bytes(file)
         room.database.with_name("dss.db-wal").write_bytes(log)
-        found = told("a copy", room.backup(), DONE) + room.wrong_in_copy()
+        found = told("a copy", room.backup(), DONE) + room.wrong_in_backup()
         found += told("the state", tables.rows_in(room.copy)["availability"][0][1], 1)
         return found + ([] if log else ["the log was empty"])
 
 
 def refused():
-    """A name that is taken, and a database that is not taken, are told, and nothing is left."""
+    """An existing destination, and a database that is rejected, are reported, and no file is left."""
     found = []
     with Copied() as room:
         for end in "", "-wal", "-journal":
@@ -123,7 +125,7 @@ def refused():
 
 
 def broken_off():
-    """A copy that cannot be written is told and leaves nothing; one that is killed leaves no file of its name."""
+    """A backup that cannot be written is reported and leaves nothing. A killed one leaves no file at the destination."""
     with Copied() as room:
         if room.database.stat().st_size <= FEW_BYTES:
             return ["the database is too small"]
@@ -131,11 +133,11 @@ def broken_off():
         found += told("killed", room.bounded(dies=True), (-signal.SIGXFSZ, b""))
         found += [f"{room.copy} is there"] if room.copy.exists() else []
         found += [] if room.begun.exists() else ["it was killed before it wrote"]
-        return found + told("after it", room.backup(), DONE) + room.wrong_in_copy()
+        return found + told("after it", room.backup(), DONE) + room.wrong_in_backup()
 
 
 def each_call():
-    """Each call on files fails in turn: a copy is whole, or told and not there."""
+    """Each call on files fails in turn: a backup is whole, or the fault is reported and no backup exists."""
     found, ends = [], set()
     with Copied() as room:
         failing, counted = library("fail_files", room.folder.name), pathlib.Path(room.folder.name, "calls")
@@ -146,7 +148,7 @@ def each_call():
             ends.add(error)
             found += told(f"call {at}, its output", output, b"")
             found += told(f"call {at}, its status", status, 1 if error else 0)
-            found += [f"call {at}: {it}" for it in (room.nothing_left() if error else room.wrong_in_copy())]
+            found += [f"call {at}: {it}" for it in (room.nothing_left() if error else room.wrong_in_backup())]
     wanted = {STORE, WRITE, NOT_CLOSED, b"", READ, MEMORY}
     return found + ([f"the faults {ends}"] if not ends <= wanted or WRITE not in ends else [])
 
@@ -155,6 +157,6 @@ CASES = {
     "backup-whole": whole,
     "backup-with-log": with_log,
     "backup-refused": refused,
-    "backup-broken-off": broken_off,
+    "backup-aborted": broken_off,
     "backup-each-call": each_call,
 }

@@ -1,4 +1,6 @@
-"""The copy in memory from which `serve` answers what is read: that it does, without memory for it, and of tables that get none."""
+"""`serve` answers reads from its mirror in memory.
+
+It also works without memory for a mirror, and with tables that get none."""
 import collections
 import contextlib
 import sqlite3
@@ -12,18 +14,18 @@ from program import first_difference
 from serving import Service
 
 AHEAD = served_calls.AHEAD
-# of so many suppliers in a database so many are asked for
+# The USSs in a database, and how many of them are read.
 SUPPLIERS, ASKED = 120_000, 90
-# of the growths of memory of the service, one in so many is refused
+# One of so many memory allocations of the service is refused.
 STEP = 97
-# lines of a service that did not start for want of memory
+# Lines of a service that ran out of memory before it was ready.
 ENDS = (b"dss: memory\n", b"dss: db: fault 3 Store\n", b"dss: db: fault\n")
 FAULT, STOPPED = wire.answer(*without_memory.FAULT), wire.answer(*without_memory.STOPPED)
 
 
 def answers_without(calls, environment):
-    """The answers of a service to calls over one connection, in this environment, what it wrote to standard error, and
-    what is wrong with what it keeps."""
+    """Returns the responses of a service to calls over one connection in this environment, its standard error, and what
+    is wrong with its stored rows."""
     service = Service(more=environment)
     try:
         try:
@@ -31,13 +33,13 @@ def answers_without(calls, environment):
             found = service.ask([wire.request(*it) for it in calls])
         except OSError:
             found = []
-            # where memory lacks once it listens, it still closes its database, and then tells why it ends
+            # If memory runs out once it listens, it still closes its database, and then prints why it exits.
             with contextlib.suppress(subprocess.TimeoutExpired):
                 service.program.wait(timeout=2)
         service.kill()
         said = (service.folder / "errors").read_bytes().removeprefix(service.listening)
         database = service.folder / "dss.db"
-        # a file that the first start did not make whole is made by the next
+        # If the first start left an incomplete file, the next start completes it.
         wrong = without_memory.lost(database, calls, found, True) if found else []
         return found, said, wrong
     finally:
@@ -46,9 +48,9 @@ def answers_without(calls, environment):
 
 
 def refused(name, calls):
-    """Refuses growths of memory of the service in turn: each answer is the one that is due, or a fault that changed
-    nothing, or the service is stopped or the connection ends; what was acknowledged is kept. Where the copy lacked
-    memory, all answers come."""
+    """Memory allocations of the service are refused in turn. Each response is the expected one, or a fault that changed
+    nothing, or the service stops, or the connection ends. Acknowledged changes are stored. If the mirror lacked
+    memory, all responses arrive."""
     ends = collections.Counter()
     for at, environment, mark in without_memory.each_environment(STEP):
         found, said, wrong = answers_without(calls, environment)
@@ -60,23 +62,23 @@ def refused(name, calls):
         is_whole = len(found) == len(calls)
         if found != wanted[: len(found)] or wrong or said not in (b"", *ENDS) or is_whole != (said == b""):
             why = first_difference(wanted, found)
-            return [f"{name}, growth {at}, refused: {mark.exists()}: {said!r}, {wrong}, {why}"]
+            return [f"{name}, allocation {at}, refused: {mark.exists()}: {said!r}, {wrong}, {why}"]
         ended = "stopped" if STOPPED in found else "fault" if faulted is not None else "done" if is_whole else "ended"
         if not mark.exists() and ended != "done":
             return [f"{name}: {found}"]
         ends[ended] += mark.exists()
-    print(f"{name} over serve: of {at} growths of memory one in {STEP} refused: {dict(ends)}")
+    print(f"{name} over serve: one of {STEP} of {at} memory allocations refused: {dict(ends)}")
     return [] if ends["done"] > 10 else [f"{name}: {dict(ends)}"]
 
 
 def without_memory_for_it():
-    """Of calls of each kind, and of changes that notify subscriptions."""
+    """The same for calls of each kind, and for changes that notify subscriptions."""
     found = refused("eight calls", without_memory.eight_calls(AHEAD))
     return found + refused("calls that notify", without_memory.notifying_calls(AHEAD))
 
 
 def of_other_tables():
-    """A file that SQLite wrote anew, and one with a table more, are served as others are, also after a restart."""
+    """A file that SQLite rewrote, and one with an additional table, are served like others, also after a restart."""
     asked, found = served_calls.Asked(served_calls.SEED + 2), []
     with Service(served_calls.drawn_calls.ALL_TOKENS) as service:
         for statement in "SELECT 1", "VACUUM", "CREATE TABLE another (number INTEGER) STRICT", "DROP TABLE another":
@@ -85,14 +87,14 @@ def of_other_tables():
             connection.execute(statement)
             connection.close()
             service.start()
-            found += [f"after {statement}: {it}" for it in asked.differs(service, wire.MOST_REQUESTS)]
+            found += [f"after {statement}: {it}" for it in asked.differs(service, wire.MAX_REQUESTS)]
         service.kill()
         return found + tables.wrong_in(service.folder / "dss.db")
 
 
 def while_the_file_is_gone():
-    """What is read is answered from the copy: a database larger than what the program keeps of its pages is overwritten with
-    zeros once the service listens, and suppliers' availabilities are answered all the same. Without a copy each is 500."""
+    """Reads are answered from the mirror. A database larger than the program's page cache is overwritten with zeros
+    once the service listens, and the availabilities of USSs can still be read. Without a mirror each read is 500."""
     ids = [f"uss-{number:06}" for number in range(SUPPLIERS)]
     rows = {"availability": [(it, 1, wire.ovn(1)) for it in ids], "meta": [(1, 2, 1)]}
     service = Service()
@@ -114,6 +116,6 @@ def while_the_file_is_gone():
 
 CASES = {
     "serve-while-the-file-is-gone": while_the_file_is_gone,
-    "serve-without-memory-for-a-copy": without_memory_for_it,
+    "serve-without-memory-for-a-mirror": without_memory_for_it,
     "serve-of-other-tables": of_other_tables,
 }

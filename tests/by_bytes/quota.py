@@ -1,5 +1,6 @@
-"""`serve --quota N`: a supplier has no more kept than the bound, what would make more is answered a fault and changes nothing,
-and whoever else asks is not concerned."""
+"""`serve --quota N` limits what each USS stores.
+
+A change beyond the quota gets a fault and changes nothing. Other USSs are not affected."""
 import json
 
 import wire
@@ -7,12 +8,12 @@ from serving import Service
 
 FAR = 4_000_000_000
 FAULT = 500
-# cells that go with each entity and subscription
+# The cells that each entity and subscription includes.
 EACH = 64
 
 
 def cells(count):
-    """So many cells of level 13, one beside the other."""
+    """Returns that many cells of level 13, side by side."""
     return [f"{0x89c25904 + 8 * at:08x}" for at in range(count)]
 
 
@@ -21,19 +22,19 @@ def id_of(number):
 
 
 def volume(number, count):
-    """A volume of so many cells, at a time of its own."""
+    """Returns a volume of that many cells, at a time of its own."""
     times = {"time_start": FAR + 100 * number, "time_end": FAR + 100 * number + 50}
     return {"cells": cells(count), "altitude_lower": 0, "altitude_upper": 10, **times}
 
 
 class Asking:
-    """A service with a bound, what is wrong so far, and how many changes there were."""
+    """A service with a quota, the errors found so far, and the number of changes."""
 
     def __init__(self, service):
         self.service, self.serial, self.found = service, 0, []
 
     def ask(self, name, wanted, *call):
-        """Asks for a change, and looks whether it was made."""
+        """Requests a change, and checks whether it was made."""
         came = self.service.exchange(wire.request(*call))
         status = int(came.split(b" ")[1])
         if status != wanted:
@@ -46,7 +47,7 @@ class Asking:
             self.found += [f"{name}: not the change {self.serial}: {came!r}"]
 
     def put(self, name, wanted, number, count=1, of="a", volumes=1, ovn=None):
-        """Puts an intent with volumes of so many cells; an update names the OVN of the change that it follows."""
+        """Puts an intent with volumes of that many cells. An update names the OVN of the change that it follows."""
         extents = [volume(number, count) for _ in range(volumes)]
         body = {"extents": extents, "key": [], "state": "Accepted", "uss_base_url": f"https://{of}.example"}
         target = f"{wire.INTENTS}/{id_of(number)}" + (f"/{wire.ovn(ovn)}" if ovn else "")
@@ -62,14 +63,14 @@ class Asking:
 
 
 def counted_together():
-    """Intents and subscriptions count together; another supplier has a bound of its own."""
-    with Service(most_kept=2) as service:
+    """Intents and subscriptions count together. Another USS has its own quota."""
+    with Service(quota=2) as service:
         it = Asking(service)
         it.put("the first", 201, 1)
         it.subscribe("the second", 200, 2)
         it.put("one too many", FAULT, 3)
         it.subscribe("a subscription too many", FAULT, 4)
-        it.put("another supplier's", 201, 5, of="b")
+        it.put("another USS's", 201, 5, of="b")
         it.put("an update", 200, 1, ovn=1)
         it.delete("a removal", 1, ovn=4)
         it.put("in its place", 201, 6)
@@ -78,8 +79,8 @@ def counted_together():
 
 
 def counted_cells():
-    """64 cells go with each entity; those of all volumes count, and an update that has no more than before passes."""
-    with Service(most_kept=1) as service:
+    """Each entity includes 64 cells. The cells of all volumes count. An update that does not grow passes."""
+    with Service(quota=1) as service:
         it = Asking(service)
         it.put("a cell too many", FAULT, 1, count=EACH + 1)
         it.put("too many in all", FAULT, 1, count=EACH // 2 + 1, volumes=2)
@@ -92,13 +93,13 @@ def counted_cells():
 
 
 def counted_at_start():
-    """What a start finds counts: a supplier that is over the bound may only take away, or keep as much as it has."""
+    """Rows that a start finds count: a USS above its quota may only delete, or update without growing."""
     with Service() as service:
         it = Asking(service)
         for number in (1, 2, 3):
             it.put(f"without a bound {number}", 201, number, count=2 * EACH)
         service.kill()
-        service.most_kept = 2
+        service.quota = 2
         service.start()
         it.put("one more than are there", FAULT, 4)
         it.put("an update with as many cells", 200, 1, count=2 * EACH, ovn=1)
@@ -114,7 +115,7 @@ def counted_at_start():
 
 
 def unbounded():
-    """Without the option nothing is refused."""
+    """Without the option nothing is rejected."""
     with Service() as service:
         it = Asking(service)
         for number in range(1, 40):
@@ -123,8 +124,8 @@ def unbounded():
 
 
 CASES = {
-    "most-kept-counted-together": counted_together,
-    "most-kept-counted-cells": counted_cells,
-    "most-kept-counted-at-start": counted_at_start,
-    "most-kept-without-the-option": unbounded,
+    "quota-counted-together": counted_together,
+    "quota-counted-cells": counted_cells,
+    "quota-counted-at-start": counted_at_start,
+    "quota-without-the-option": unbounded,
 }

@@ -1,4 +1,6 @@
-"""How long `serve` waits for a client: each is given up within its bound, and keeps nobody waiting meanwhile."""
+"""`serve` waits for each client only within a bound, and then aborts the connection.
+
+Meanwhile other clients do not wait."""
 import concurrent.futures
 import json
 import socket
@@ -8,14 +10,15 @@ from serving import Service, until_closed
 from sockets import ANSWER, ASKED, CLOSING, LAST, difference
 import wire
 
-# seconds that a client may ask nothing, take for a request, and take nothing of an answer, and that a busy machine adds
+# Seconds that a client may take before its first request, be idle, take for a request, and take nothing of a response; and those that a busy machine
+# adds.
 FIRST, IDLE, SENDING, TAKING, MORE = 10, 60, 30, 30, 6
-# seconds in which a client beside it is answered
+# Seconds in which another client gets its response.
 AT_ONCE = 2
 READS, WRITES = b"dss: stream: fault 1 Read\n", b"dss: stream: fault 2 Write\n"
 PUT = wire.request("PUT", f"{wire.AVAILABILITY}/uss-b", "Bearer tok-v", b'{"old_version":"","availability":"Down"}')
-# answers to these take more than the buffers of both sides hold
-INTENTS_KEPT, FAR = 300, 4_000_000_000
+# Responses about these take more than the buffers of both sides hold.
+STORED_INTENTS, FAR = 300, 4_000_000_000
 
 
 def drip(connection):
@@ -29,8 +32,8 @@ def drip(connection):
 
 
 def beside(name, sent, bound, answers=b"", faults=b"", slowly=False):
-    """A client that stops after some bytes gets what was answered till then and is closed within its bound, in seconds; one
-    beside it is answered at once."""
+    """A client that stops after some bytes gets the responses due until then. Its connection is closed within its
+    bound, in seconds. Another client gets its response at once."""
     with Service(count=2) as started, concurrent.futures.ThreadPoolExecutor(1) as aside:
         with started.connect() as held:
             held.settimeout(bound + MORE)
@@ -48,9 +51,9 @@ def beside(name, sent, bound, answers=b"", faults=b"", slowly=False):
         return found + difference(f"{name}: the service", started.ended(), (0, b"", started.listening + faults))
 
 
-def kept_intents():
-    """Requests that create intents in one cell, of which no two meet."""
-    for at in range(INTENTS_KEPT):
+def stored_intents():
+    """Returns requests that create intents in one cell, of which no two meet."""
+    for at in range(STORED_INTENTS):
         volume = {"cells": ["89c25904"], "altitude_lower": 0, "altitude_upper": 10}
         volume |= {"time_start": FAR + 100 * at, "time_end": FAR + 100 * at + 50}
         body = {"extents": [volume], "key": [], "state": "Accepted", "uss_base_url": "https://a.example"}
@@ -59,21 +62,21 @@ def kept_intents():
 
 
 def taking_nothing():
-    """A client that asks for much and takes nothing of it is closed."""
+    """A client that requests much and reads none of it is disconnected."""
     query = wire.request("POST", f"{wire.INTENTS}/query", "Bearer tok-a", b'{"area_of_interest":{"cells":["89c2591"]}}')
     with Service() as started:
-        puts = list(kept_intents())
+        puts = list(stored_intents())
         found = []
-        for at in range(0, INTENTS_KEPT, wire.MOST_REQUESTS):
-            statuses = {it[:12] for it in started.ask(puts[at : at + wire.MOST_REQUESTS])}
+        for at in range(0, STORED_INTENTS, wire.MAX_REQUESTS):
+            statuses = {it[:12] for it in started.ask(puts[at : at + wire.MAX_REQUESTS])}
             found += difference("creations", statuses, {b"HTTP/1.1 201"})
         with socket.socket() as held:
             held.setsockopt(socket.SOL_SOCKET, socket.SO_RCVBUF, 4096)
             held.connect(("127.0.0.1", started.port))
-            held.sendall(query * wire.MOST_REQUESTS)
+            held.sendall(query * wire.MAX_REQUESTS)
             found += difference("the one beside it", started.exchange(CLOSING, ends=False), LAST)
             errors, began = started.folder / "errors", time.monotonic()
-            # the buffers are full after some seconds
+            # The buffers are full after some seconds.
             while errors.read_bytes() == started.listening and time.monotonic() - began < TAKING + 30:
                 time.sleep(0.5)
             took = time.monotonic() - began
@@ -83,8 +86,8 @@ def taking_nothing():
 
 
 def impatient():
-    """One that sends nothing, one that stops in a head, one that stops in a body, one that keeps its connection after an
-    answer, one that sends a byte a second, and one that takes nothing."""
+    """Clients whose connections are aborted: one that sends nothing, one that stops in a head, one that stops in a
+    body, one that stays connected after a response, one that sends a byte a second, and one that reads nothing."""
     asked = [
         ("silent", b"", FIRST),
         ("half a head", ASKED[:40], SENDING, b"", READS),

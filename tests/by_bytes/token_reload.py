@@ -1,4 +1,6 @@
-"""A token file that changes while `serve` runs: calls are judged by it from then on, and by the one before where it is wrong."""
+"""The token file changes while `serve` runs, and applies to all later calls.
+
+If it is wrong, the previous one stays active."""
 import contextlib
 import os
 import time
@@ -9,18 +11,18 @@ from devices import Page, library
 from serving import Service
 from sockets import difference
 
-# seconds within which a change is seen: the file is looked at each second
+# The seconds within which a change takes effect: `serve` checks the file each second.
 SEEN, LOOKS = 2.0, 1.1
 NEW = {"tok-new": ("uss-new", {wire.ARBITRATION})}
 MORE = wire.TOKENS | NEW
 FEWER = {text: it for text, it in MORE.items() if text != "tok-v"}
 UNREAD, OTHER_SALT, MEMORY = b"dss: tokens: cannot read\n", b"dss: tokens: not reloaded: the salt changed; restart to apply it\n", b"dss: memory\n"
-# growths of memory of which one is refused as a file is read that changed, and more than such a reading has
+# Memory allocations, one of which is refused while a changed file is read, and more than such a read makes.
 REFUSED, ALL = (1, 2, 5, 12, 30), 1_000_000
 
 
 def setting(airspace, token, uss):
-    """A call that sets an availability, by which the airspace goes on."""
+    """Returns a call that sets an availability, and applies it to the airspace."""
     body = {"old_version": airspace.setting(uss)[1], "availability": "Normal"}
     return "PUT", f"{wire.AVAILABILITY}/{uss}", f"Bearer {token}", wire.compact(body).encode()
 
@@ -39,7 +41,7 @@ class Changing(Service):
         super().__exit__(*stopped)
 
     def write(self, text):
-        """Another file with that text in the place of the token file, at one moment."""
+        """Replaces the token file atomically by one with that text."""
         anew = self.folder / "anew"
         anew.write_bytes(text if isinstance(text, bytes) else text.encode())
         os.replace(anew, self.folder / "tokens.toml")
@@ -51,8 +53,8 @@ class Changing(Service):
             came += connection.recv(1 << 16) or b"\r\n\r\n"
         return answers[0]
 
-    def judged(self, what, tokens):
-        """What is wrong with calls on the open connection and on new ones, by a table of tokens."""
+    def checked(self, what, tokens):
+        """Returns what is wrong with calls on the open connection and on new ones, by a table of tokens."""
         self.airspace.tokens, found = tokens, []
         for token in sorted(MORE):
             for new in False, True:
@@ -65,21 +67,21 @@ class Changing(Service):
         return found
 
     def lines(self):
-        """What is told after that it listens."""
+        """Returns the lines on standard error after the one that says that it listens."""
         return (self.folder / "errors").read_bytes()[len(self.listening) :]
 
     def tells(self, what, lines):
-        """What is wrong with what it tells, in the time within which a change is seen."""
+        """Returns what is wrong with its lines, within the time in which a change takes effect."""
         until = time.monotonic() + SEEN
         while self.lines() != self.told + lines and time.monotonic() < until:
             time.sleep(0.01)
-        # a second look tells nothing more
+        # The next check of the file prints nothing more.
         time.sleep(LOOKS)
         self.told += lines
         return difference(f"{what}: what it tells", self.lines(), self.told)
 
     def takes(self, tokens):
-        """Waits until a token of a file that was written is taken or refused, and says how long it took."""
+        """Waits until a token of a written file is accepted or denied, and returns the delay."""
         began = time.monotonic()
         probe = next(it for it in ("tok-new", "tok-v") if (it in tokens) != (it in self.airspace.tokens))
         self.airspace.tokens = tokens
@@ -88,24 +90,25 @@ class Changing(Service):
         while self.answer_to(self.kept, call) != wanted:
             if time.monotonic() > began + SEEN:
                 return [f"{probe} is not as in the file after {SEEN} seconds"]
-            # a connection answers a hundred requests
+            # A connection answers a hundred requests.
             time.sleep(0.05)
         return []
 
 
 def added_and_removed():
-    """A token works within two seconds after it is in the file, and is refused once it is not, on a connection that is open, too."""
+    """A token works within two seconds after it was added to the file, and is denied once it was removed, on an open
+    connection as well."""
     with Changing() as service:
-        found = service.judged("as it started", wire.TOKENS)
+        found = service.checked("as it started", wire.TOKENS)
         for what, tokens in ("one more", MORE), ("one less", FEWER), ("all again", wire.TOKENS | NEW):
             service.write(wire.token_file(tokens))
             found += service.takes(tokens)
-            found += service.judged(what, tokens)
+            found += service.checked(what, tokens)
         return found + service.tells("good files", b"")
 
 
 def without_clients():
-    """It is looked at the file where nobody is connected, and a first call afterwards is judged by it."""
+    """The file is checked even if no client is connected, and it applies to the first call afterwards."""
     with Changing() as service:
         service.kept.close()
         service.write(wire.token_file(FEWER, "other"))
@@ -113,11 +116,12 @@ def without_clients():
         service.write(wire.token_file(FEWER))
         time.sleep(SEEN)
         service.kept = service.connect()
-        return found + service.judged("a first call", FEWER)
+        return found + service.checked("a first call", FEWER)
 
 
 def wrong_files():
-    """A file that is wrong, or has another salt, changes nothing, and is told once; so is it again after a good one."""
+    """A wrong file, or one with another salt, changes nothing, and is reported once. After a good file it is reported
+    again."""
     good, files = wire.token_file(FEWER), (
         ("no TOML", "salt = demo\n", b"dss: tokens: fault 1 Toml\n"),
         ("no salt", "", b"dss: tokens: fault 2 Salt\n"),
@@ -132,36 +136,38 @@ def wrong_files():
         for what, text, line in files:
             service.write(text)
             found += service.tells(what, line)
-        found += service.judged("after wrong files", wire.TOKENS)
+        found += service.checked("after wrong files", wire.TOKENS)
         service.write(good)
         found += service.takes(FEWER)
-        found += service.judged("after a good one", FEWER)
+        found += service.checked("after a good one", FEWER)
         service.write(files[0][1])
         found += service.tells("a wrong one again", files[0][2])
-        return found + service.judged("after a wrong one again", FEWER)
+        return found + service.checked("after a wrong one again", FEWER)
 
 
 def gone_and_back():
-    """A file that is gone at one look alone is not told; one that stays away is, once; the tokens stay."""
+    """A file that is missing at one check is not reported. One that stays missing is reported once. The tokens stay
+    active."""
     with Changing() as service:
         name, away = service.folder / "tokens.toml", service.folder / "away"
         name.rename(away)
         time.sleep(0.2)
         away.rename(name)
-        found = service.tells("gone for a moment", b"")
+        found = service.tells("missing at one check", b"")
         name.rename(away)
         time.sleep(LOOKS)
         found += service.tells("gone", UNREAD)
-        found += service.judged("while it is gone", wire.TOKENS)
+        found += service.checked("while it is gone", wire.TOKENS)
         away.rename(name)
         found += service.tells("back", b"")
-        found += service.judged("once it is back", wire.TOKENS)
+        found += service.checked("once it is back", wire.TOKENS)
         service.write(wire.token_file(FEWER))
-        return found + service.takes(FEWER) + service.judged("another", FEWER)
+        return found + service.takes(FEWER) + service.checked("another", FEWER)
 
 
 def without_memory():
-    """Where memory lacks for a file that changed, the tokens before stay, it is told once, and the file is taken once there is memory."""
+    """If memory runs out for a changed file, the previous tokens stay active and it is reported once. The file is
+    loaded once memory suffices."""
     found = []
     with Changing() as service:
         service.kill()
@@ -170,16 +176,16 @@ def without_memory():
         service.start()
         for at in REFUSED + (ALL,):
             service.kept.close()
-            # so that no growth is one of a client's
+            # No allocation is then one for a client.
             time.sleep(LOOKS)
             tokens = FEWER if service.airspace.tokens == wire.TOKENS else wire.TOKENS
             page.set(at=1 if at == ALL else at, row=ALL if at == ALL else 1)
             service.write(wire.token_file(tokens))
-            found += service.tells(f"growth {at}", MEMORY)
+            found += service.tells(f"allocation {at}", MEMORY)
             page.set()
             time.sleep(LOOKS)
             service.kept = service.connect()
-            found += service.judged(f"after growth {at}", tokens)
+            found += service.checked(f"after allocation {at}", tokens)
         return found
 
 
@@ -187,6 +193,6 @@ CASES = {
     "tokens-added-and-removed-while-it-serves": added_and_removed,
     "tokens-changed-while-nobody-is-connected": without_clients,
     "tokens-wrong-while-it-serves": wrong_files,
-    "tokens-gone-while-it-serves": gone_and_back,
+    "tokens-missing-while-it-serves": gone_and_back,
     "tokens-changed-without-memory": without_memory,
 }

@@ -1,6 +1,8 @@
-"""Growths of memory refused to calls over a database that stands: of a short scene each alone, and of readings two and three in a
-row. Each answer is the one that is due, or a fault that changed nothing, or the stream ends with `dss: memory`, or the service
-has stopped, which readings never do. What was acknowledged is found again."""
+"""Memory allocations are refused to calls over an existing database.
+
+In a short scene each one is refused alone, and in reads two and three in a row. Each response is the expected one,
+or a fault that changed nothing, or the stream ends with `dss: memory`, or the service has stopped, which reads never
+cause. Acknowledged changes are found again."""
 import collections
 import concurrent.futures
 import os
@@ -20,7 +22,8 @@ FAULTED, STOPS = wire.answer(*FAULT), wire.answer(*STOPPED)
 
 
 class Scene:
-    """Calls over a database in which others were made before, and how many growths of memory the program then asks for."""
+    """Calls over a database in which others were made before, and the number of memory allocations that the program
+    then makes."""
 
     def __init__(self, folder, before, calls):
         self.folder, self.before, self.calls = folder, before, calls
@@ -30,9 +33,9 @@ class Scene:
             self.saved = pathlib.Path(room, "dss.db").read_bytes()
             self.rows = tables.rows_in(pathlib.Path(room, "dss.db"))
         with self.room() as room:
-            counted = pathlib.Path(room, "growths")
+            counted = pathlib.Path(room, "allocations")
             self.again(room, {"GROWTHS": str(counted)})
-            self.growths = int(counted.read_text())
+            self.allocations = int(counted.read_text())
 
     def room(self):
         return tempfile.TemporaryDirectory(dir=self.folder)
@@ -42,12 +45,12 @@ class Scene:
         return run(words, b"".join(wire.request(*it) for it in calls), more={"LD_PRELOAD": self.library, **more})
 
     def again(self, room, more):
-        """What comes of the calls over the database as it was before them."""
+        """Returns the result of the calls over the database as it was before them."""
         pathlib.Path(room, "dss.db").write_bytes(self.saved)
         return self.run(room, self.calls, more)
 
     def came_to(self, got):
-        """What a run came to, in a word, and its answers; no word where it is none of those that may be."""
+        """Returns the outcome of a run in a word, and its responses; no word if the outcome is not permitted."""
         status, output, error = got
         told, found = answers(self.before), wire.answers_of(output)
         faulted = {len(told) + at for at, answer in enumerate(found) if answer == FAULTED}
@@ -61,25 +64,26 @@ class Scene:
         return "stopped" if STOPS in found else "fault" if faulted else ended, found
 
     def wrong_in(self, database, found, ended):
-        """What is wrong with what is kept after these answers: of readings alone the same rows as before them."""
+        """Returns what is wrong with the stored rows after these responses: after reads, they are the same as before."""
         if all(method != "PUT" and method != "DELETE" for method, *_ in self.calls):
             return [] if tables.rows_in(database) == self.rows else [f"{tables.rows_in(database)}"]
         return lost(database, [*self.before, *self.calls], [*answers(self.before), *found], ended == "memory")
 
     def refused(self, at, row):
-        """What a run came to in which so many growths in a row were refused, and what is wrong with it."""
+        """Returns the outcome of a run in which that many allocations in a row were refused, and what is wrong with it."""
         with self.room() as room:
             got = self.again(room, {"REFUSE_AT": str(at), "REFUSE_ROW": str(row)})
             if got == (1, b"", STORE):
                 return "opening", []
             came, found = self.came_to(got)
             wrong = [f"{got!r}"] if came is None else self.wrong_in(pathlib.Path(room, "dss.db"), found, came)
-            return came, [f"growth {at}, {row} in a row: {it}" for it in wrong]
+            return came, [f"allocation {at}, {row} in a row: {it}" for it in wrong]
 
     def each_refused(self, row):
-        """The same of each growth, from the last one back to the last without which the database is not opened."""
+        """Does the same for each allocation, from the last one back to the last one without which the database is not
+        opened."""
         with concurrent.futures.ThreadPoolExecutor(os.cpu_count()) as pool:
-            for came, wrong in pool.map(lambda at: self.refused(at, row), range(self.growths, 0, -1)):
+            for came, wrong in pool.map(lambda at: self.refused(at, row), range(self.allocations, 0, -1)):
                 if came == "opening":
                     pool.shutdown(cancel_futures=True)
                     return
@@ -87,7 +91,7 @@ class Scene:
 
 
 def each_of(name, before, calls, rows, never=()):
-    """What is wrong where growths of the calls are refused, so many in a row, from each of them on."""
+    """Returns what is wrong if allocations of the calls are refused, that many in a row, from each of them on."""
     found = []
     with tempfile.TemporaryDirectory() as folder:
         scene = Scene(folder, before, calls)
@@ -96,14 +100,14 @@ def each_of(name, before, calls, rows, never=()):
             for came, wrong in scene.each_refused(row):
                 ends[came] += 1
                 found += wrong
-            print(f"{name}: {row} in a row of {ends.total()} growths of memory refused: {dict(sorted(ends.items()))}")
+            print(f"{name}: {row} in a row of {ends.total()} memory allocations refused: {dict(sorted(ends.items()))}")
             found += [f"{row} in a row: {ends[it]} times {it}" for it in never if ends[it]]
             found += [] if ends["fault"] or row > 1 else ["never a fault"]
     return found
 
 
 def short_scene():
-    """An intent is created that names a subscription and notifies it, is found, and is deleted."""
+    """An intent is created that references a subscription and notifies it, is found, and is deleted."""
     _, named, creation, *_ = notifying_calls()
     query = eight_calls()[5]
     deletion = ("DELETE", f"{creation[1]}/{wire.ovn(2)}", creation[2], None)
@@ -111,8 +115,8 @@ def short_scene():
 
 
 def readings():
-    """An intent is read, and found in an area: two growths refused in a row, and three, never stop the service. The second of them
-    is that of the fault's own text, which ends the stream."""
+    """An intent is read, and found in an area: two refused allocations in a row, and three, never stop the service. The
+    second one is that of the fault's own text, which ends the stream."""
     creation, query = eight_calls()[0], eight_calls()[5]
     reading = ("GET", creation[1], creation[2], None)
     return each_of("readings over a database", [creation], [reading, query], [2, 3], never=["stopped"])

@@ -1,6 +1,6 @@
-"""Which token files, command lines and tokens of cells are taken: each with what is wanted of it."""
+"""Token files, command lines and tokens of cells that are accepted or rejected, each with its expected result."""
 
-# Token files, and the fault that each has.
+# Token files, and the fault of each.
 TOKEN_FILES = (
     ("salt = demo", "1 Toml"),
     ("salt = 1e400", "1 Toml"),
@@ -27,7 +27,7 @@ TOKEN_FILES = (
         'salt = "s"\ntoken = [{text = "t", uss = "u", scopes = []}, {text = "t", uss = "v", scopes = []}]',
         "6 Repeated",
     ),
-    # the salt comes first, and then table by table
+    # The salt is checked first, and then table by table.
     ('token = [{text = "", uss = ""}]', "2 Salt"),
     ('salt = "s"\ntoken = [{text = "t", uss = "", scopes = []}, {text = ""}]', "4 Uss"),
     ('salt = "s"\ntoken = [{text = "t", uss = "u", scopes = []}, {text = "t", uss = ""}]', "4 Uss"),
@@ -38,7 +38,7 @@ TOKEN_FILES = (
     ),
     ('salt = "s"', None),
     ('salt = "s"\ntoken = []\nother = 1', None),
-    # texts have up to 255 visible bytes
+    # Texts have up to 255 visible bytes.
     (f'salt = "s"\n[[token]]\ntext = "{"!" * 255}"\nuss = "u"\nscopes = []', None),
     (f'salt = "s"\n[[token]]\ntext = "{"!" * 255}~"\nuss = "u"\nscopes = []', "3 Token"),
     ('salt = "s"\ntoken = [{text = "!~", uss = "u", scopes = []}]', None),
@@ -46,16 +46,16 @@ TOKEN_FILES = (
     ('salt = "s"\ntoken = [{text = "é", uss = "u", scopes = []}]', "3 Token"),
 )
 
-# Command lines after the program's name, the status, and a part of what is said. The files are those of the
-# examples, and standard input is empty.
+# Command lines after the program's name, the status, and a part of the output. The files are those of the examples, and
+# standard input is empty.
 RUN = ["run", "--tokens", "examples/tokens.toml", "--now"]
 TOKENS_AND_DB = ["--tokens", "t", "--db", "d"]
-# what is said of a sweep until a moment that is not past
-SWEEP_IN_FUTURE = "dss: until: in the future"
+# The message of a purge until a time that is not past.
+PURGE_IN_FUTURE = "dss: until: in the future"
 
 
 def serving(port, count):
-    """A command line of `serve`."""
+    """Returns a command line of `serve`."""
     return ["serve", *TOKENS_AND_DB, "--port", port, "--count", count]
 
 
@@ -71,7 +71,7 @@ COMMAND_LINES = (
     (["nothing"], 2, ""),
     (["cell"], 2, ""),
     (["cell", "1", "3"], 2, ""),
-    # bytes that are no UTF-8
+    # Bytes that are not UTF-8.
     (["cell", "\udcff"], 2, "not valid UTF-8"),
     (["\udcc3("], 2, "not valid UTF-8"),
     (["cell", "--now", "1", "3"], 2, ""),
@@ -86,7 +86,7 @@ COMMAND_LINES = (
     *(([*serving("1", "1"), "--max-connections", clients], 2, "") for clients in ("0", "1001", "-1", "", "many")),
     *(([*serving("1", "1"), "--quota", most], 2, "") for most in ("0", "4294967296", "-1", "", "all")),
     (["serve", *TOKENS_AND_DB, "--count", "1"], 2, ""),
-    # these words are taken, and then there is no token file
+    # These arguments are accepted, and then no token file exists.
     *(([*serving("1", "1"), "--max-connections", clients], 1, "dss: tokens: cannot read") for clients in ("1", "1000")),
     *(([*serving("1", "1"), "--quota", most], 1, "dss: tokens: cannot read") for most in ("1", "4294967295")),
     *(([*serving("1", "1"), *flags], 1, "dss: tokens: cannot read") for flags in (["--double-sync"], ["--verbose"], ["--verbose", "--double-sync"])),
@@ -97,7 +97,7 @@ COMMAND_LINES = (
     *(([*serving("1", "1"), "--retention", keep], 1, "dss: tokens: cannot read") for keep in ("1", "253402300799")),
     *(([*serving("1", "1"), *it], 2, "") for it in (["--retention"], ["--retention", "1", "--retention", "2"])),
     ([*serving("1", "1"), "--backup-dir", "f", "--admin-port", "2"], 1, "dss: tokens: cannot read"),
-    # copies are asked for at the operator's port
+    # Backups are requested at the admin port.
     ([*serving("1", "1"), "--backup-dir", "f"], 2, "--backup-dir without --admin-port"),
     (["serve", *TOKENS_AND_DB, "--port", "1"], 1, "dss: tokens: cannot read"),
     (["serve", "--tokens", "t", "--port", "1", "--count", "1"], 2, "--db <FILE>"),
@@ -123,8 +123,8 @@ COMMAND_LINES = (
             ["--until", "1", "e"], ["--until", "1", "--tokens", "t"], ["--until", "1", "--retention", "1"], ["1"],
         )
     ),
-    # these words are taken, and then the moment is not past, which is told before a folder that is not there
-    *((["purge", "--db", "no/d", "--until", until, *now], 1, SWEEP_IN_FUTURE) for until, *now in (("253402300799",), ("1", "--now=0"))),
+    # These arguments are accepted. Then the time is not past, which is reported before a missing directory.
+    *((["purge", "--db", "no/d", "--until", until, *now], 1, PURGE_IN_FUTURE) for until, *now in (("253402300799",), ("1", "--now=0"))),
     *((["purge", "--db=no/d", f"--until={it}", f"--now={it}"], 1, "dss: db: fault 3 Store") for it in ("0", "253402300799")),
     (["backup"], 2, "--db <FILE>"),
     (["backup", "t"], 2, "--db <FILE>"),

@@ -1,4 +1,4 @@
-"""The airspace as operators are shown it, a page at a time."""
+"""The admin port returns a snapshot of the airspace, a page at a time."""
 import contextlib
 import errno
 import json
@@ -10,7 +10,7 @@ import drawn_calls
 import tables
 import wire
 from devices import SIZES, WRITES, Page, library
-from operators import STOP, Operated, asks, said
+from admin_port import STOP, AdminService, asks, said
 from program import BUILT, run
 from sockets import difference
 from without_memory import FAULT
@@ -24,11 +24,11 @@ NO_SUBSCRIPTION = "00000000-0000-4000-8000-000000000000"
 STATES = ("Accepted", "Activated", "Nonconforming", "Contingent")
 AVAILABILITIES = ("Unknown", "Normal", "Down")
 NAMES = ("operational_intent_reference", "constraint_reference")
-# of so many growths of memory that come last as a service starts, one in so many is refused
+# Of the last memory allocations of a start, one in so many is refused.
 LAST, STEP = 1_500, 5
 
 
-# ---- what the tables say
+# ---- the contents of the tables
 
 
 def extent(bounds, cells):
@@ -84,7 +84,7 @@ def subscriptions_in(database, availability):
 
 
 def airspace_in(file):
-    """What the tables of a file say, as all pages together have it."""
+    """Returns the contents of a file's tables, in the form of all pages together."""
     with tables.opened(file) as database:
         availability = {uss: AVAILABILITIES[state] for uss, state in database.execute("SELECT uss, state FROM availability")}
         (serial,) = database.execute("SELECT serial FROM meta").fetchone()
@@ -96,11 +96,11 @@ def airspace_in(file):
         }
 
 
-# ---- what is shown
+# ---- the pages
 
 
-class Shown(Operated):
-    """A service with an operator's port, over a database that drawn calls have filled before."""
+class SnapshotService(AdminService):
+    """A service with an admin port, over a database that drawn calls have filled before."""
 
     def fill(self, seed):
         requests, _ = drawn_calls.stream(seed, CALLS)
@@ -110,7 +110,7 @@ class Shown(Operated):
             raise OSError(f"the drawn calls: {status} {error!r}")
 
     def page(self, **query):
-        """A page, and its bytes."""
+        """Returns a page, and its bytes."""
         members = "&".join(f"{name}={value}" for name, value in query.items())
         came = self.asked(asks("GET", f"/airspace{'?' if members else ''}{members}"))
         head, _, body = came.partition(b"\r\n\r\n")
@@ -119,7 +119,7 @@ class Shown(Operated):
         return json.loads(body), body
 
     def pages(self, limit):
-        """All pages of so many entities and subscriptions at most."""
+        """Returns all pages of at most that many entities and subscriptions."""
         found, query = [], {"limit": limit}
         while True:
             page, body = self.page(**query)
@@ -131,8 +131,8 @@ class Shown(Operated):
 
 @contextlib.contextmanager
 def filled(seed):
-    """The service over a filled database, and what its tables said before."""
-    service = Shown(drawn_calls.ALL_TOKENS)
+    """Starts the service over a filled database; returns the contents of its tables before that."""
+    service = SnapshotService(drawn_calls.ALL_TOKENS)
     service.fill(seed)
     wanted = airspace_in(service.folder / "dss.db")
     with service as started:
@@ -140,7 +140,7 @@ def filled(seed):
 
 
 def whole(pages):
-    """What pages have together; the suppliers are on the first alone."""
+    """Returns the contents of all pages. Only the first page has the USSs."""
     all_ = {name: [it for page, _ in pages for it in page[name]] for name in ("entities", "subscriptions")}
     suppliers = [page["suppliers"] for page, _ in pages if "suppliers" in page]
     return {**all_, "serial": pages[-1][0]["serial"], "suppliers": suppliers[0] if len(suppliers) == 1 else suppliers}
@@ -151,7 +151,8 @@ def compact(value):
 
 
 def in_pages():
-    """Pages of each size have together what the tables say, in order, each as long as it may be, as compact JSON; and no OVN."""
+    """Pages of each size together have the contents of the tables, in order, as compact JSON without OVNs. Each page is
+    as long as permitted."""
     found = []
     for seed in SEEDS:
         with filled(seed) as (started, wanted):
@@ -170,7 +171,8 @@ def in_pages():
 
 
 def changed_between():
-    """A change between two pages shows by the serial, and what is after the key then is what is kept then; no page changes anything."""
+    """The serial shows a change between two pages. The entries after the cursor are the stored ones at that time. No
+    page changes anything."""
     with filled(SEEDS[0]) as (started, wanted):
         first, _ = started.page(limit=1)
         found = difference("the first", (first["entities"], first["serial"]), (wanted["entities"][:1], wanted["serial"]))
@@ -192,7 +194,7 @@ def changed_between():
 
 
 def queries():
-    """What is no query is refused, and what is one says where the page begins, whether something stands there or not."""
+    """Malformed queries are rejected. Others give the page after a cursor, whether an entity has that position or not."""
     id_ = "00000000-0000-4000-8000-0000000000a0"
     bad = ["limit=0", "limit=501", "limit=", "limit=-1", "limit=1.0", "limit=x", "limit", "after=", f"after={id_}", "after=intent:", "=",
            f"after=flight:{id_}", f"after=Intent:{id_}", "after=intent:x", f"more=1&after=intent:{id_}", "limit=1&", "&", "at=1"]
@@ -214,9 +216,9 @@ def queries():
 
 
 def cut_by_cells():
-    """A page ends after the entity by which it has many cells, however few they are."""
+    """A page ends after the entity that brings it to the maximum number of cells, however few entities it has."""
     cells = [f"{0x89C2590400000000 + 0x800000000 * it:016x}".rstrip("0") for it in range(300)]
-    with Shown(drawn_calls.ALL_TOKENS) as started:
+    with SnapshotService(drawn_calls.ALL_TOKENS) as started:
         volumes = [{"cells": cells, "altitude_lower": it, "altitude_upper": it, "time_start": 4_000_000_000, "time_end": 4_000_000_001}
                    for it in range(6)]
         requests = [
@@ -227,7 +229,7 @@ def cut_by_cells():
         answers = started.ask(requests)
         found = [f"a constraint: {it!r}" for it in answers if not it.startswith(b"HTTP/1.1 201")]
         pages = started.pages(500)
-        # of 1,800 cells each, the fifth comes to 8,192
+        # Of 1,800 cells each, the fifth brings the page to 8,192.
         found += difference("the pages", [len(page["entities"]) for page, _ in pages], [5, 1])
         started.asked(STOP)
         started.ended()
@@ -235,9 +237,10 @@ def cut_by_cells():
 
 
 def started_without(device, mark, at):
-    """What a service says whose growth of that number is refused: why it does not listen, or its airspace and an answer to a client."""
+    """Returns the output of a service that gets no memory at that allocation: why it does not listen, or its airspace
+    and a response to a client."""
     mark.unlink(missing_ok=True)
-    service = Shown(drawn_calls.ALL_TOKENS)
+    service = SnapshotService(drawn_calls.ALL_TOKENS)
     service.fill(SEEDS[0])
     service.environment = {**os.environ, "LD_PRELOAD": device, "REFUSE_AT": f"{at}", "REFUSED": f"{mark}"}
     try:
@@ -249,13 +252,13 @@ def started_without(device, mark, at):
         return f"{fault}", None
 
 
-def without_copy():
-    """Where memory lacks for the copy as a service starts, it says so, and answers its clients all the same."""
+def without_mirror():
+    """If memory runs out for the mirror when a service starts, it says so, and still answers its clients."""
     met = 0
     with tempfile.TemporaryDirectory() as room:
         device, mark = library("refuse_memory", room), pathlib.Path(room, "refused")
 
-        # the last growth of a start; those of the copy come before those of the port, which are the last
+        # The last allocation of a start. Those of the mirror come before those of the port, which are the last.
         low, high = 1, 40_000
         while high - low > 1:
             middle = (low + high) // 2
@@ -266,20 +269,20 @@ def without_copy():
             if came == NO_MEMORY:
                 met += 1
                 if not known.startswith(b"HTTP/1.1 200"):
-                    return [f"growth {at} refused: {known!r}"]
+                    return [f"allocation {at} refused: {known!r}"]
             elif met:
                 break
-    return [] if met else ["no growth of memory was that of a copy"]
+    return [] if met else ["no memory allocation was one for the mirror"]
 
 
-def lost_copy():
-    """A copy that was lost with a change that was not kept is told of, and is there again after the next change that was."""
+def dropped_mirror():
+    """A mirror that was dropped because a change failed is reported, and exists again after the next successful change."""
     body = {"extents": {"cells": ["89c25904"], "altitude_lower": 0, "altitude_upper": 10, "time_start": 4_000_000_000, "time_end": 4_000_000_001}}
     body |= {"uss_base_url": "u", "notify_for_operational_intents": True}
     put = wire.request("PUT", f"{wire.SUBSCRIPTIONS}/00000000-0000-4000-8000-0000000000f0", "Bearer tok-a", wire.compact(body).encode())
     with tempfile.TemporaryDirectory() as folder:
         page = Page(folder)
-        service = Shown(drawn_calls.ALL_TOKENS, more=page.environment(library("fail_files", folder)))
+        service = SnapshotService(drawn_calls.ALL_TOKENS, more=page.environment(library("fail_files", folder)))
         service.fill(SEEDS[0])
         with service as started:
             before, _ = started.page()
@@ -299,6 +302,6 @@ CASES = {
     "airspace-changed-between-pages": changed_between,
     "airspace-queries": queries,
     "airspace-page-of-many-cells": cut_by_cells,
-    "airspace-without-a-copy": without_copy,
-    "airspace-after-a-lost-copy": lost_copy,
+    "airspace-without-a-mirror": without_mirror,
+    "airspace-after-a-dropped-mirror": dropped_mirror,
 }

@@ -1,6 +1,8 @@
-"""Changes of many clients at once while the machine stops, calls on files fail, the disk is full, memory lacks or the service is killed:
-what was acknowledged is there, all changes of a round are kept or none, those that were not kept are told as faults, and the service
-goes on from the airspace before them."""
+"""Batches of changes of many clients fail in every way.
+
+The machine stops, calls on files fail, the disk is full, memory runs out or the service is killed. Acknowledged
+changes are there. All changes of a batch are stored or none. Changes that were not stored get faults, and the
+service continues from the airspace before them."""
 import collections
 import contextlib
 import copy
@@ -18,42 +20,43 @@ import lengths
 import plain_policy
 import tables
 import wire
-from at_once import CLIENTS, FAULTED, NOW, STOPS, TOKENS, AtOnce, Changer, Judged, is_change, looked_at, watched
+from at_once import CLIENTS, FAULTED, NOW, STOPS, TOKENS, AtOnce, Changer, Checked, is_change, looked_at, watched
 from crashes import KEPT, STOPPED
 from devices import SIZES, WRITES, library
 from program import SECONDS, first_difference
 from serving import Service
 
 SEED = 81
-# so many stops of the machine at most, rounds in which a call on files fails, and rounds that begin a full disk
-MOST_STOPS, FAILURES, FULL = lengths.of(12, 30), 24, 8
+# The most stops of the machine, batches in which a call on files fails, and batches that begin with a full disk.
+MAX_STOPS, FAILURES, FULL = lengths.of(12, 30), 24, 8
 ALL_AFTER = 1_000_000
-# changes of a round whose growths of memory are refused, and of these one in so many
+# The changes of a batch whose memory allocations are refused, and the step from one refused allocation to the next.
 FEW, STEP = 5, 61
-# kills, each among so many creations of each client
+# Kills, each among that many creations of each client.
 KILLS, CREATIONS = lengths.of(10, 20), 6
 
 
-def wrong_in(judged, name, told=()):
-    """What is wrong with a round that has to be kept as a whole or not at all."""
-    found = [f"{name}: {it}" for it in judged.wrong]
-    if not judged.wrong and not judged.is_whole():
-        found += [f"{name}: {judged.made} of {judged.changes} changes of a round are kept, told were {[(it or b'')[:12] for it in told]}"]
+def wrong_in(checked, name, told=()):
+    """Returns what is wrong with a batch that must be stored as a whole or not at all."""
+    found = [f"{name}: {it}" for it in checked.wrong]
+    if not checked.wrong and not checked.is_whole():
+        found += [f"{name}: {checked.made} of {checked.changes} changes of a batch are kept, told were {[(it or b'')[:12] for it in told]}"]
     return found
 
 
-# ---- wrong services, which are none but what they would tell and leave
+# ---- simulated wrong services
 
 
 def asked_of_policy(airspace, calls):
-    """What the policy answers to calls in their order, and what is found after them."""
+    """Returns the policy's responses to calls in their order, and the rows after them."""
     after = copy.deepcopy(airspace)
     return [after.ask(*it).text() for it in calls], [after.ask(*looked_at(it)).text() for it in calls]
 
 
 def planted():
-    """Of what a wrong service would tell and leave of a round each is seen: answers before the changes are kept, a part of a round that is
-    kept, faults of what is kept, a reading of what is not kept, one serial for two, and answers of one change given to another."""
+    """Each fault of a simulated wrong service is found: responses before the changes are durable, a partly stored
+    batch, faults for what is stored, a read of what is not stored, one serial for two changes, and responses of one
+    change given to another."""
     airspace, changers = new_airspace(), [Changer(it) for it in range(CLIENTS)]
     calls = [it.change(airspace, 0) for it in changers]
     for it in calls:
@@ -76,9 +79,9 @@ def planted():
         "one serial twice": ([None] * len(calls), [numbers[it] for it in found]),
         "answers exchanged": (exchanged, found),
     }
-    judged = lambda told, found: wrong_in(Judged(airspace, calls, told, found), "")
-    found = [f"{name}: {it}" for name, words in rights.items() for it in judged(*words)]
-    return found + [f"{name}: not seen" for name, words in wrongs.items() if not judged(*words)]
+    checked = lambda told, found: wrong_in(Checked(airspace, calls, told, found), "")
+    found = [f"{name}: {it}" for name, words in rights.items() for it in checked(*words)]
+    return found + [f"{name}: not seen" for name, words in wrongs.items() if not checked(*words)]
 
 
 # ---- the machine stops
@@ -92,14 +95,14 @@ class Stopping(AtOnce):
         self.saved = pathlib.Path(folder, "saved")
 
     def save(self):
-        """Keeps what is in the files, with the program gone."""
+        """Saves the files, after the program has exited."""
         self.kill()
         self.saved.mkdir()
         for file in self.folder.glob("dss.db*"):
             shutil.copy(file, self.saved)
 
     def again(self, kept):
-        """The service over the files as they were saved; by what a disk keeps at a stop."""
+        """Starts the service over the saved files, according to what a disk persists at a stop."""
         self.kill()
         for file in self.folder.glob("dss.db*"):
             file.unlink()
@@ -108,8 +111,8 @@ class Stopping(AtOnce):
         self.begin({"CRASH_KEEPS": kept})
 
     def found_again(self, calls, told):
-        """What is found of these calls after the stop, and what is wrong then. A round in which all were answered had fewer calls on
-        files."""
+        """Returns what is found of these calls after the stop, and what is wrong. A batch in which all were answered
+        had fewer calls on files."""
         wrong = []
         if None in told:
             status = self.program.wait(timeout=SECONDS)
@@ -121,35 +124,35 @@ class Stopping(AtOnce):
         self.kill()
         return found, wrong + tables.wrong_in(self.folder / "dss.db")
 
-    def round(self, airspace, turn, **numbers):
+    def batch(self, airspace, turn, **numbers):
         calls = self.mixed(airspace, turn)
         self.send_at_once(calls, **numbers)
         return calls, self.told()
 
 
 def one_stop(service, airspace, kept, at, lies=0):
-    """What is wrong after a round that was answered, and a stop at that call of the next."""
+    """Returns what is wrong after a batch that was answered, and a stop at that call of the next one."""
     service.again(kept)
-    calls, told = service.round(airspace, 4, lies=lies)
-    after = Judged(airspace, calls, told, service.found(calls)).after
-    calls, told = service.round(after, 5, at=at, row=1, lies=lies)
+    calls, told = service.batch(airspace, 4, lies=lies)
+    after = Checked(airspace, calls, told, service.found(calls)).after
+    calls, told = service.batch(after, 5, at=at, row=1, lies=lies)
     found, wrong = service.found_again(calls, told)
-    judged, where = Judged(after, calls, told, found), f"call {at}, {kept} kept"
-    return [f"{where}: {it}" for it in wrong] + wrong_in(judged, where, told), judged.made
+    checked, where = Checked(after, calls, told, found), f"call {at}, {kept} kept"
+    return [f"{where}: {it}" for it in wrong] + wrong_in(checked, where, told), checked.made
 
 
 def machine_stops():
-    """A machine that stops at each call of a round, or at drawn ones of many, by what a disk may have kept. A disk that says that it has kept what it has not
-    shows that changes which were answered and are gone are seen."""
+    """A machine stops at each call of a batch, or at drawn ones of many, and the disk persists any permitted part. A
+    disk that lies about persisting shows that the case would find lost acknowledged changes."""
     draw, found, ends = drawn_calls.Draw(SEED), [], collections.Counter()
     with tempfile.TemporaryDirectory() as folder, Stopping(folder) as service:
         airspace = service.fill()
         service.save()
         service.again("all")
-        service.round(airspace, 4)
+        service.batch(airspace, 4)
         calls = service.page.get("calls")
         places = [(at, kept) for at in range(1, calls + 1) for kept in KEPT]
-        while len(places) > MOST_STOPS:
+        while len(places) > MAX_STOPS:
             places.pop(draw.below(len(places)))
         for at, kept in places:
             wrong, made = one_stop(service, airspace, kept, at)
@@ -157,7 +160,7 @@ def machine_stops():
             found += wrong
         wrong, _ = one_stop(service, airspace, "synced", 1, lies=1)
         found += [] if wrong else ["changes that were answered and are gone were not seen"]
-    print(f"the machine stopped {len(places)} times among {calls} calls of a round, of which so many changes were kept then: {dict(sorted(ends.items()))}")
+    print(f"the machine stopped {len(places)} times among {calls} calls of a batch, with these numbers of changes stored then: {dict(sorted(ends.items()))}")
     return found
 
 
@@ -165,56 +168,56 @@ def machine_stops():
 
 
 class Failing(AtOnce):
-    """A service whose calls on files fail, and that is started anew where it has stopped."""
+    """A service whose calls on files fail, and that is started again if it has stopped."""
 
     def __init__(self, folder, device="fail_files", clients=CLIENTS):
         super().__init__(library(device, folder), clients)
         self.ends = collections.Counter()
 
-    def judged(self, airspace, calls, told):
-        """What a round came to once calls work again; of a service that has stopped what the next start finds."""
+    def checked(self, airspace, calls, told):
+        """Returns the outcome of a batch once calls work again. If the service has stopped, the next start shows it."""
         self.page.set()
         found = self.found(calls)
         if STOPS in told:
             stays = [] if set(found) == {STOPS} else [f"stopped, and then {set(found)}"]
             self.again()
-            judged = Judged(airspace, calls, told, self.found(calls))
-            judged.wrong += stays
+            checked = Checked(airspace, calls, told, self.found(calls))
+            checked.wrong += stays
             self.ends["stopped"] += 1
-            return judged
-        judged = Judged(airspace, calls, told, found)
+            return checked
+        checked = Checked(airspace, calls, told, found)
         self.ends["fault" if FAULTED in told else "ended" if None in told else "done"] += 1
-        return judged
+        return checked
 
     def next_works(self, airspace, turn, name):
-        """The airspace after a round in which nothing fails, and what is wrong with it. Where each change has a sync of its own, the
-        service has let its copy go, and is started anew."""
+        """Returns the airspace after a batch in which nothing fails, and what is wrong with it. If each change has its
+        own sync, the service has dropped its mirror, and is started again."""
         calls = self.changes(airspace, turn)
         self.send_at_once(calls)
-        judged = Judged(airspace, calls, self.told(), self.found(calls))
-        if not judged.wrong and judged.made != len(calls):
-            judged.wrong += [f"{judged.made} of {len(calls)} changes were made"]
+        checked = Checked(airspace, calls, self.told(), self.found(calls))
+        if not checked.wrong and checked.made != len(calls):
+            checked.wrong += [f"{checked.made} of {len(calls)} changes were made"]
         if self.page.get("syncs") >= len(calls):
             self.ends["without a copy"] += 1
             self.again()
-        return judged.after, [f"{name}, the next round: {it}" for it in judged.wrong]
+        return checked.after, [f"{name}, the next batch: {it}" for it in checked.wrong]
 
     def again(self):
-        """Ends it, and starts it over the same files."""
+        """Stops it, and starts it over the same files."""
         self.kill()
         self.begin()
 
 
 def at_most_one_sort(told):
-    """Changes of one round are told as one thing: done, or as faults, or as stopped."""
+    """Returns whether all changes of one batch have the same outcome: done, faults, or stopped."""
     sorts = {it if it in (FAULTED, STOPS) else b"done" for it in told}
-    return [] if len(sorts) == 1 else [f"one round is told as {[it[:12] for it in told]}"]
+    return [] if len(sorts) == 1 else [f"one batch is told as {[it[:12] for it in told]}"]
 
 
 def calls_fail():
-    """A call on files fails in a round, alone or with all after it: all changes are made, or all are told as faults and a reading finds
-    the airspace before the round, from which the next changes go on; or the service has stopped. After a call that fails alone the
-    next changes share a sync, as they do with a copy that was made anew."""
+    """A call on files fails in a batch, alone or with all after it: all changes are made, or all get faults and a read
+    finds the airspace before the batch, from which the next changes continue; or the service has stopped. After a
+    call that fails alone the next changes share a sync, as with a rebuilt mirror."""
     draw, found, most = drawn_calls.Draw(SEED), [], 0
     with tempfile.TemporaryDirectory() as folder, Failing(folder) as service:
         airspace = service.fill()
@@ -224,21 +227,21 @@ def calls_fail():
             asked = service.mixed(airspace, number)
             service.send_at_once(asked, **numbers)
             told = service.told()
-            judged = service.judged(airspace, asked, told)
-            found += wrong_in(judged, f"{numbers}", told)
+            checked = service.checked(airspace, asked, told)
+            found += wrong_in(checked, f"{numbers}", told)
             found += [f"{numbers}: {it}" for it in at_most_one_sort([it for it, call in zip(told, asked) if is_change(call)])]
             most = max(most, told.count(FAULTED))
-            airspace, wrong = service.next_works(judged.after, number, f"{numbers}")
+            airspace, wrong = service.next_works(checked.after, number, f"{numbers}")
             found += wrong
             if found:
                 break
-    print(f"{FAILURES} rounds in which calls on files failed, of some {calls} each: {dict(sorted(service.ends.items()))}")
+    print(f"{FAILURES} batches in which calls on files failed, of about {calls} each: {dict(sorted(service.ends.items()))}")
     return found + ([] if most > 2 else ["never several faults"])
 
 
 def full_disk():
-    """Nothing more is written from somewhere in a round on: its changes are told as faults, readings find the airspace before it, and so
-    it stays for a second round; once there is room again the next changes are made."""
+    """Nothing is written from some call of a batch on: its changes get faults, reads find the airspace before it, and
+    this lasts for a second batch. Once there is room again the next changes are made."""
     draw, found = drawn_calls.Draw(SEED + 1), []
     with tempfile.TemporaryDirectory() as folder, Failing(folder) as service:
         airspace = service.fill()
@@ -249,25 +252,26 @@ def full_disk():
                 service.send_at_once(asked, **{**numbers, "at": at})
                 told = service.told()
                 seen = service.found(asked)
-                judged = service.judged(airspace, asked, told)
-                found += wrong_in(judged, f"{numbers}", told)
+                checked = service.checked(airspace, asked, told)
+                found += wrong_in(checked, f"{numbers}", told)
                 if STOPS not in told and seen != service.found(asked):
                     found += [f"{numbers}: while the disk is full: {seen!r}"]
-                airspace = judged.after
+                airspace = checked.after
             airspace, wrong = service.next_works(airspace, number + 2, f"{numbers}")
             found += wrong
             if found:
                 break
-    print(f"{2 * FULL} rounds over a full disk: {dict(sorted(service.ends.items()))}")
+    print(f"{2 * FULL} batches over a full disk: {dict(sorted(service.ends.items()))}")
     return found + ([] if service.ends["fault"] else ["never a fault"])
 
 
-# ---- memory lacks
+# ---- memory runs out
 
 
-def growths_refused(step):
-    """Growths of memory are refused in a round of five changes, one in so many: each change is done, or told as a fault and not made, or
-    its connection ends and it was done or not; or the service has stopped, or has ended. What was acknowledged is there."""
+def allocations_refused(step):
+    """Memory allocations are refused in a batch of five changes, one in so many: each change is done, or gets a fault
+    and is not made, or its connection ends and it was done or not; or the service has stopped, or has exited.
+    Acknowledged changes are there."""
     found = []
     with tempfile.TemporaryDirectory() as folder, Failing(folder, "refuse_memory", FEW) as service:
         airspace = service.fill(10)
@@ -276,24 +280,24 @@ def growths_refused(step):
             asked = service.changes(airspace, at)
             service.send_at_once(asked, at=at, row=1)
             told = service.told()
-            growths = service.page.get("calls")
+            allocations = service.page.get("calls")
             if None in told:
-                # it may be about to end for want of memory, and is started anew as its unit does
+                # It may be about to exit because memory ran out, and is started again as its unit does.
                 with contextlib.suppress(subprocess.TimeoutExpired):
                     service.program.wait(timeout=0.05)
                 service.again()
-            judged = service.judged(airspace, asked, told)
+            checked = service.checked(airspace, asked, told)
             if FAULTED in told and STOPS not in told:
-                # it may have let its copy go
+                # It may have dropped its mirror.
                 service.again()
-            found += [f"growth {at}: {it}" for it in judged.wrong]
-            found += wrong_in(judged, f"growth {at}", told) if STOPS in told else []
-            airspace, wrong = service.next_works(judged.after, at + 1, f"growth {at}")
+            found += [f"allocation {at}: {it}" for it in checked.wrong]
+            found += wrong_in(checked, f"allocation {at}", told) if STOPS in told else []
+            airspace, wrong = service.next_works(checked.after, at + 1, f"allocation {at}")
             found += wrong
-            if at > growths:
+            if at > allocations:
                 break
             at += step
-    print(f"{FEW} changes at once: of {growths} growths of memory one in {step} refused: {dict(sorted(service.ends.items()))}")
+    print(f"{FEW} changes at once: one of {step} of {allocations} memory allocations refused: {dict(sorted(service.ends.items()))}")
     return found + ([] if service.ends["fault"] else ["never a fault"])
 
 
@@ -301,13 +305,13 @@ def growths_refused(step):
 
 
 class Asked:
-    """Creations of each of the clients, in cells of their own, all sent at once."""
+    """Creations of each client, in cells of their own, all sent at once."""
 
     def __init__(self):
         self.changers = [[Changer(at * 1_000 + it) for it in range(CREATIONS)] for at in range(CLIENTS)]
 
     def calls(self, at, airspace):
-        # a token of the client, for each of its creations
+        # Each of a client's creations has its own token.
         return [(method, target, f"Bearer tok-{at}", body) for method, target, _, body in (it.put_intent(airspace) for it in self.changers[at])]
 
     def ids(self, at):
@@ -315,7 +319,8 @@ class Asked:
 
 
 def answered_and_killed(service, sent, seen, wait):
-    """The answers to each client of a service that is killed a while after so many answers have come to the first one."""
+    """Returns the responses to each client of a service that is killed a while after that many responses reached the
+    first one."""
     came = [b""] * len(sent)
     connections = [service.connect() for _ in sent]
 
@@ -326,21 +331,22 @@ def answered_and_killed(service, sent, seen, wait):
     senders = [threading.Thread(target=send, args=it) for it in zip(connections, sent)]
     for it in senders:
         it.start()
-    while len(wire.answers_of(came[0])) < seen and (piece := connections[0].recv(1 << 16)):
-        came[0] += piece
+    while len(wire.answers_of(came[0])) < seen and (chunk := connections[0].recv(1 << 16)):
+        came[0] += chunk
     time.sleep(wait)
     service.kill()
     for at, (connection, sender) in enumerate(zip(connections, senders)):
         sender.join()
         with connection, contextlib.suppress(ConnectionResetError):
-            while piece := connection.recv(1 << 16):
-                came[at] += piece
+            while chunk := connection.recv(1 << 16):
+                came[at] += chunk
     return [wire.answers_of(it) for it in came]
 
 
 def lost(asked, airspace, told, rows):
-    """What is wrong with the intents that are kept, by their serials, after these answers: each client's are the first that it asked
-    for, what was acknowledged is among them, and the policy in the order of the serials answers as was told."""
+    """Returns what is wrong with the stored intents, by their serials, after these responses: each client's are the
+    first that it requested, acknowledged ones are among them, and the policy in the order of the serials gives the
+    same responses."""
     place = {id_: (at, number) for at in range(CLIENTS) for number, id_ in enumerate(asked.ids(at))}
     order = [place[id_] for _, id_ in sorted(rows)]
     found = [] if [it for it, _ in sorted(rows)] == list(range(2, 2 + len(rows))) else [f"serials {sorted(rows)}"]
@@ -356,14 +362,14 @@ def lost(asked, airspace, told, rows):
 
 
 def new_airspace():
-    """An airspace in which all changes are watched."""
+    """Returns an airspace in which all changes are watched."""
     airspace = plain_policy.Airspace(NOW, TOKENS)
     airspace.ask(*watched())
     return airspace
 
 
 def one_kill(draw):
-    """What is wrong after a kill, what was asked and told, and what is kept."""
+    """Returns what is wrong after a kill, the requests and responses, and the stored rows."""
     asked, airspace = Asked(), new_airspace()
     with Service(TOKENS) as service:
         service.ask([wire.request(*watched())])
@@ -378,8 +384,8 @@ def one_kill(draw):
 
 
 def killed():
-    """A service that is killed while sixteen clients create one intent after the other. One answer more than there were shows that the loss
-    of a change would be seen."""
+    """A service is killed while sixteen clients create one intent after the other. One more claimed response shows that
+    the case would find the loss of a change."""
     draw, found, between = drawn_calls.Draw(SEED), [], 0
     for number in range(KILLS):
         wrong, asked, told, rows = one_kill(draw)
@@ -396,7 +402,7 @@ CASES = {
     "at-once-machine-that-stops": machine_stops,
     "at-once-calls-on-files-that-fail": calls_fail,
     "at-once-full-disk": full_disk,
-    "at-once-without-memory": lambda: growths_refused(STEP),
+    "at-once-without-memory": lambda: allocations_refused(STEP),
     "at-once-killed": killed,
 }
-SCENES = {"changes-at-once-without-memory": lambda: growths_refused(1)}
+SCENES = {"changes-at-once-without-memory": lambda: allocations_refused(1)}
