@@ -10,8 +10,8 @@ from serving import Service, until_closed
 from sockets import ANSWER, ASKED, CLOSING, LAST, difference
 import wire
 
-# Seconds that a client may take before its first request, be idle, take for a request, and take nothing of a response; and those that a busy machine
-# adds.
+# Seconds that a client may take before its first request, be idle, take for a request, and take nothing of a response;
+# and those that a busy machine adds.
 FIRST, IDLE, SENDING, TAKING, MORE = 10, 60, 30, 30, 6
 # Seconds in which another client gets its response.
 AT_ONCE = 2

@@ -1,2 +1,3 @@
+mod Queues
 mod Salts
 pub mod Serving

@@ -156,7 +156,7 @@ module _ {S M : Type 0} (g : spaces.Ghosts S) (k : settles.Ghosts S) (m : moment
       → IsCommitted g k mid new committed → ServesBy g k m callers old new clock clock'
   serves_batch old mid new clock clock' committed h is_settled = record {
     all = h.all;
-    batches = record { calls = h.batch; committed = committed } ∷ [];
+    batches = record { calls = h.batch; settled = committed } ∷ [];
     told = h.told;
     requests = h.requests;
     calls = append-nil (map (λ (x : CallRecord). x.timed) h.batch) ∙ h.calls;
