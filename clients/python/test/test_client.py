@@ -216,7 +216,8 @@ class OverService(unittest.TestCase):
     def test_responses_of_proxies(self):
         proxy = self.proxy()
         through, id = self.client("tok-a", proxy.url), uuid.uuid4()
-        proxy.script = [(429, {**HTML, "Retry-After": "1"}, b"<html>"), (503, HTML, b"<html>"), (500, {}, b'{"message":"fault"}')]
+        busy = 429, {**HTML, "Retry-After": "1"}, b"<html>"
+        proxy.script = [busy, (503, HTML, b"<html>"), (500, {}, b'{"message":"fault"}')]
         began = time.monotonic()
         through.put_intent(id, self.intent())
         self.assertGreaterEqual(time.monotonic() - began, 1)
@@ -275,7 +276,8 @@ class OverService(unittest.TestCase):
 
         def changed_meanwhile(id):
             found = read(id)
-            self.a.put_intent(theirs.id, self.intent(key=[found.ovn or self.b.read_intent(id).ovn]), self.a.read_intent(theirs.id))
+            key = [found.ovn or self.b.read_intent(id).ovn]
+            self.a.put_intent(theirs.id, self.intent(key=key), self.a.read_intent(theirs.id))
             return found
         through.read_intent = changed_meanwhile
         proxy.script = ["pass", "lose"]
@@ -360,6 +362,14 @@ class OverService(unittest.TestCase):
         self.assertEqual(inbox.get(id).index, self.all.read_subscription(id).notification_index)
 
     # ---- the documents
+
+    def test_the_clock_of_the_service(self):
+        """P13 and P16 tell the time of the service, and nothing is stored."""
+        for end, rule in ((NOW - 60, "P13"), (NOW + 600, "P16")):
+            volume = Volume(self.volume.cells, 0, 100, NOW - 120, end)
+            put = IntentPut([volume], "Accepted", URL.format("a"), subscription_id=str(uuid.uuid4()))
+            self.denied(rule, self.a.put_intent, uuid.uuid4(), put)
+        self.assertEqual(self.a.query_intents(self.volume), ())
 
     def blocks(self, page):
         return re.findall(r"```python\n(.*?)```", (places.TOP / page).read_text(), re.DOTALL)

@@ -86,7 +86,7 @@ class Models(unittest.TestCase):
             with self.assertRaises(models.BadForm):
                 models.decode(models.AvailabilityTold, bad)
         with self.assertRaises(models.BadForm):
-            models.decode(models.Volume, {"cells": [], "altitude_lower": True, "altitude_upper": 1, "time_start": 1, "time_end": 2})
+            models.decode(models.SubscriptionIndex, {"notification_index": True, "subscription_id": "x"})
 
 
 if __name__ == "__main__":
