@@ -14,8 +14,8 @@ from . import models
 from .errors import BadResponse, Denial, DssError, MissingKey, ProxyError, Unanswered, Unreachable, error_of
 from .models import (
     NO_SUBSCRIPTION, Area, Availability, AvailabilityPut, AvailabilityTold, Constraint, ConstraintChanged,
-    ConstraintFound, ConstraintPut, ConstraintsListed, Intent, IntentChanged, IntentFound, IntentPut, IntentsListed, Query,
-    Subscription, SubscriptionFound, SubscriptionPut, SubscriptionsListed, SubscriptionStored, Volume)
+    ConstraintFound, ConstraintPut, ConstraintsListed, Intent, IntentChanged, IntentFound, IntentPut, IntentsListed,
+    Query, Subscription, SubscriptionFound, SubscriptionPut, SubscriptionsListed, SubscriptionStored, Volume)
 from .pool import NoResponse, NotSent, Pool
 
 INTENTS, CONSTRAINTS = "/dss/v1/operational_intent_references", "/dss/v1/constraint_references"
@@ -212,6 +212,13 @@ class Client:
             return found
 
     # ---- requests
+
+    def request(self, method: str, path: str, body: Any = None) -> Any:
+        """Sends a JSON value with the same retries, such as a body of the standard to the gateway.
+
+        Returns the value of the response. The `value` of a `Denial` has what is missing. The caller decides what a lost
+        response means."""
+        return self._call(method, path, body, object)
 
     def _query(self, kind: str, area: Union[Area, Volume], form: Type[Model]) -> Model:
         return self._call("POST", f"{kind}/query", Query(Area(**vars(area))), form)

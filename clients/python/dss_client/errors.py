@@ -3,7 +3,7 @@ from __future__ import annotations
 
 import json
 import re
-from typing import Optional, Sequence
+from typing import Any, Optional, Sequence
 
 from .models import BadForm, Constraint, Intent, KeyMissing, decode
 from .pool import Response
@@ -50,11 +50,13 @@ class ResponseError(DssError):
 class Denial(ResponseError):
     """The service denied the request and changed nothing. `rule` is such as `P8`, and `message` such as `P8 FRESH`.
 
-    `maybe_made` is True if an earlier try of the same request was not answered. That try may have made the change."""
+    `value` is the whole body. The gateway has messages of its own, whose `rule` is empty. `maybe_made` is True if an
+    earlier try of the same request was not answered. That try may have made the change."""
 
-    def __init__(self, message: str, response: Response) -> None:
+    def __init__(self, message: str, response: Response, value: Any) -> None:
         super().__init__(message, response)
-        self.message, self.rule = message, message.partition(" ")[0]
+        found = RULE.fullmatch(message)
+        self.message, self.rule, self.value = message, found[1] if found else "", value
 
 
 class MissingKey(Denial):
@@ -63,8 +65,8 @@ class MissingKey(Denial):
     `over` is set if the response to the put was lost, the put was made, and it was repeated to find whom to notify. The
     stored intent is then `over`, and the next put is an update of it."""
 
-    def __init__(self, body: KeyMissing, response: Response) -> None:
-        super().__init__(body.message, response)
+    def __init__(self, body: KeyMissing, response: Response, value: Any) -> None:
+        super().__init__(body.message, response, value)
         self.missing_operational_intents: Sequence[Intent] = body.missing_operational_intents
         self.missing_constraints: Sequence[Constraint] = body.missing_constraints
         self.over: Optional[Intent] = None
@@ -94,17 +96,27 @@ def error_of(response: Response) -> Optional[ResponseError]:
     """Returns the error of a response, or None if its status is one of success."""
     if response.status in (200, 201):
         return None
-    try:
-        value = json.loads(response.body)
-        message = value["message"]
-        if message == "fault":
-            return Fault(message, response)
-        if message == "stopped":
-            return Stopped(message, response, True)
-        if message == "P14 KEY":
-            return MissingKey(decode(KeyMissing, value), response)
-        if RULE.fullmatch(message):
-            return Denial(message, response)
-    except (ValueError, TypeError, KeyError, BadForm):
-        pass
+    value = _json(response.body)
+    message = value.get("message") if isinstance(value, dict) else None
+    if not isinstance(message, str):
+        return ProxyError(response, response.status >= 500)
+    if message == "fault":
+        return Fault(message, response)
+    if message == "stopped":
+        return Stopped(message, response, True)
+    if message == "P14 KEY":
+        try:
+            return MissingKey(decode(KeyMissing, value), response, value)
+        except BadForm:
+            # the gateway lists references in the form of the standard
+            return Denial(message, response, value)
+    if RULE.fullmatch(message) or 400 <= response.status < 500 and response.status not in NOT_FORWARDED:
+        return Denial(message, response, value)
     return ProxyError(response, response.status >= 500)
+
+
+def _json(body: bytes) -> Any:
+    try:
+        return json.loads(body)
+    except ValueError:
+        return None

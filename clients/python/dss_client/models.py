@@ -255,6 +255,8 @@ def _members(kind: Any) -> Dict[str, Any]:
 
 def _decode(kind: Any, value: Any, at: str) -> Any:
     origin = get_origin(kind)
+    if kind is object:
+        return value
     if origin is Union:
         return None if value is None else _decode(get_args(kind)[0], value, at)
     if origin is Literal:

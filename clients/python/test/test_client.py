@@ -239,6 +239,21 @@ class OverService(unittest.TestCase):
         with self.assertRaises(BadResponse):
             through.read_intent(id)
 
+    def test_bodies_of_the_standard(self):
+        """What the gateway answers is passed through, and its denials are errors with all that they have."""
+        proxy = self.proxy()
+        through = self.client("a token", proxy.url)
+        found = {"operational_intent_references": [{"time_start": {"value": "2026-11-27T12:00:00Z", "format": "RFC3339"}}]}
+        missing = {"message": "P14 KEY", "missing_operational_intents": found["operational_intent_references"]}
+        proxy.script = ["refuse", (200, {}, json.dumps(found).encode()), (409, {}, json.dumps(missing).encode())]
+        proxy.script.append((400, {}, b'{"message":"extents[0].volume: no outline"}'))
+        body = {"area_of_interest": {"volume": {"outline_circle": {"radius": {"value": 1.5, "units": "M"}}}}}
+        path = "/dss/v1/operational_intent_references/query"
+        self.assertEqual(through.request("POST", path, body), found)
+        self.assertEqual(json.loads(proxy.seen[-1][2]), body)
+        self.assertEqual(self.denied("P14", through.request, "PUT", "/x", {}).value, missing)
+        self.assertEqual(self.denied("", through.request, "PUT", "/x", {}).message, "extents[0].volume: no outline")
+
     # ---- keys
 
     def fetch(self, reference):
@@ -346,20 +361,19 @@ class OverService(unittest.TestCase):
 
     def test_notifications_of_many_threads(self):
         inbox, id = Subscriptions(self.all), uuid.uuid4()
-        inbox.put(id, SubscriptionPut(self.volume, URL.format("b"), True))
+        inbox.put(id, SubscriptionPut(Volume(self.volume.cells, 0, 9000, NOW, NOW + 60), URL.format("b"), True))
         for number in range(20):
             volume = Volume(self.volume.cells, 2000 + 10 * number, 2001 + 10 * number, NOW, NOW + 60)
             self.a.put_intent(uuid.uuid4(), IntentPut([volume], "Accepted", URL.format("a")))
-        inbox.put(id, SubscriptionPut(Volume(self.volume.cells, 0, 9000, NOW, NOW + 60), URL.format("b"), True))
         barrier = threading.Barrier(4)
 
         def take(first):
             barrier.wait()
-            for index in range(first, 20, 4):
+            for index in range(first, 21, 4):
                 inbox.notified(id, index)
         with concurrent.futures.ThreadPoolExecutor(4) as threads:
             list(threads.map(take, range(1, 5)))
-        self.assertEqual(inbox.get(id).index, self.all.read_subscription(id).notification_index)
+        self.assertEqual((inbox.get(id).index, self.all.read_subscription(id).notification_index), (20, 20))
 
     # ---- the documents
 
