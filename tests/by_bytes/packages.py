@@ -24,6 +24,8 @@ PATHS = {
     **{f"{DOCUMENTS}/{it.relative_to(TOP)}": 0o644 for it in (*TOP.glob("docs/*"), *TOP.glob("bench/*.md"), *TOP.glob("bench/*.svg"))},
     **{f"{DOCUMENTS}/{it.relative_to(TOP)}": it.stat().st_mode & 0o755
        for folder in ("examples", "deploy") for it in (TOP / folder).rglob("*") if it.is_file()},
+    **{f"{DOCUMENTS}/{it.relative_to(TOP)}": 0o644 for kind in ("*.md", "*.py", "*.toml", "dss_client/*.py", "dss_client/py.typed")
+       for it in (TOP / "clients" / "python").glob(kind)},
     "DEBIAN/control": 0o644,
     "DEBIAN/postinst": 0o755,
     "DEBIAN/prerm": 0o755,
