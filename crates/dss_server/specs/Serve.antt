@@ -16,7 +16,7 @@ use Rattle.dss_server.specs.Tokens.{IsTakenAfter}
 
 -- Holds if some request makes this call, and bears the token of its caller.
 abbrev pub IsAskedBy : Callers → RequestCall → Type 0
-IsAskedBy callers asked = (body : List ℕ) × IsCallOf callers asked.head body asked.place asked.call
+IsAskedBy callers asked = (body : List ℕ) × IsCallOf callers asked.head body asked.endpoint asked.call
 
 -- Holds if the calls were made under these tables, loaded one after the other: first calls of the
 -- callers of the first table, then calls of the callers of the second, and so on.
