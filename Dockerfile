@@ -6,4 +6,4 @@ USER dss
 VOLUME /var/lib/dss
 # what it makes is for its user alone, and no memory of it is written out
 ENTRYPOINT ["/bin/sh", "-c", "umask 077 && ulimit -c 0 && exec /usr/bin/dss \"$@\"", "dss"]
-CMD ["serve", "--tokens", "/etc/dss/tokens.toml", "--db", "/var/lib/dss/dss.db", "--port", "8080", "--count", "1000000"]
+CMD ["serve", "--tokens", "/etc/dss/tokens.toml", "--db", "/var/lib/dss/dss.db", "--port", "8080", "--admin-port", "8078"]

@@ -2,6 +2,7 @@
 import contextlib
 import datetime
 import http.client
+import json
 import os
 import shutil
 import socket
@@ -18,6 +19,10 @@ from maps import Skipped
 from world import FRONT, INTENTS, STRATEGIC, TOP, Counted, Gateway, free_port, key_pair, new_id, wait_for
 
 OVN = "0123456789abcdef-of-nobody-else"
+# Requests a second that a client sends without a break, over the 50 that the proxies allow, for so many seconds.
+STEADY, SECONDS = 60, 12
+# HAProxy's limits: connections for large bodies at once, and the bytes above which a body is large.
+PLACES, LARGE = 32, 49_152
 PATH = f"{FRONT}uss_availability/uss-b"
 
 
@@ -47,7 +52,7 @@ def nginx(files, built, behind):
     certificate(folder)
     block = (TOP / "deploy" / "nginx.conf").read_text()
     for old, new in (("listen 443 ssl", f"listen 127.0.0.1:{port} ssl"), ("/etc/nginx/", f"{folder}/"), ("/var/log/nginx/", f"{folder}/"),
-                     ("server 127.0.0.1:8080;", f"server {behind};")):
+                     ("server 127.0.0.1:8080 ", f"server {behind} ")):
         assert old in block, old
         block = block.replace(old, new)
     places = "".join(f"{it}_temp_path {folder}/{it};\n" for it in ("client_body", "proxy", "fastcgi", "uwsgi", "scgi"))
@@ -63,25 +68,60 @@ def nginx(files, built, behind):
         process.wait(60)
 
 
+def connected(port):
+    context = ssl.create_default_context()
+    context.check_hostname, context.verify_mode = False, ssl.CERT_NONE
+    return contextlib.closing(http.client.HTTPSConnection("127.0.0.1", port, timeout=60, context=context))
+
+
 def ask(port, token, method, path, body=None):
     return ask_often(1, port, token, method, path, body)[0]
 
 
 def ask_often(count, port, token, method, path, body=None):
     """Returns the statuses of that many requests on one connection."""
-    context, statuses = ssl.create_default_context(), []
-    context.check_hostname, context.verify_mode = False, ssl.CERT_NONE
-    with contextlib.closing(http.client.HTTPSConnection("127.0.0.1", port, timeout=60, context=context)) as it:
-        for _ in range(count):
-            it.request(method, path, body, {"Authorization": f"Bearer {token}"})
-            got = it.getresponse()
-            got.read()
-            statuses.append(got.status)
-    return statuses
+    with connected(port) as it:
+        return [answer(it, token, method, path, body) for _ in range(count)]
+
+
+def answer(connection, token, method, path, body=None, fields=None):
+    """Returns the status of a request. If the proxy made the response, it is JSON, and says when to try again."""
+    connection.request(method, path, body, ({"Authorization": f"Bearer {token}"} if token else {}) | (fields or {}))
+    got = connection.getresponse()
+    text = got.read()
+    if got.status != 200:
+        assert got.getheader("Content-Type") == "application/json", (got.status, text)
+        assert json.loads(text)["message"].startswith("proxy: "), (got.status, text)
+        assert (got.getheader("Retry-After") is not None) == (got.status in (429, 503)), got.getheaders()
+    return got.status
+
+
+def steady(port, token):
+    """Returns the statuses of the last three seconds of requests that arrive without a break."""
+    statuses, began = [], time.monotonic()
+    with connected(port) as it:
+        for number in range(STEADY * SECONDS):
+            time.sleep(max(0, began + number / STEADY - time.monotonic()))
+            statuses.append(answer(it, token, "GET", PATH))
+    return statuses[-3 * STEADY:]
+
+
+def limits(port, name):
+    """Tries the limit: it is of a token, or of an address without one, and a client beyond it is served as fast as it
+    says. Returns the number of requests."""
+    many = ask_often(300, port, "x", "GET", f"{INTENTS}/{name}/{OVN}")
+    assert {200, 429} == set(many), set(many)
+    assert set(ask_often(60, port, "y", "GET", PATH)) == {200}
+    many = ask_often(300, port, None, "GET", PATH)
+    assert {200, 429} == set(many), set(many)
+    last = steady(port, "z")
+    assert set(last) == {200, 429} and last.count(200) > len(last) / 2, [(it, last.count(it)) for it in set(last)]
+    return 300 + 60 + 300 + STEADY * SECONDS
 
 
 def the_documented_nginx(files, built):
-    """Its connections to the service stay open, its logs have no OVN, it sends nothing twice, and it limits requests."""
+    """Its connections to the service stay open, its logs have no OVN, it repeats only reads, it limits requests, and its
+    errors are JSON."""
     token, name = files.token("uss-a", STRATEGIC), new_id()
     service = Counted()
     with nginx(files, built, f"127.0.0.1:{service.port}") as (port, folder):
@@ -89,21 +129,25 @@ def the_documented_nginx(files, built):
             assert ask(port, token, "GET", PATH) == 200
         assert service.opened <= 3 and len(service.asked) == 30, service.opened
         assert ask(port, token, "PUT", f"{INTENTS}/{name}/{OVN}", "{}") == 200
-        for method in ("PUT", "DELETE", "GET"):
+        for method, status, times in ("PUT", 502, 1), ("DELETE", 502, 1), ("POST", 502, 1), ("GET", 200, 2):
             service.drops, before = 1, len(service.asked)
-            assert ask(port, token, method, f"{INTENTS}/{name}/{OVN}", "{}") == 502
-            assert len(service.asked) - before == 1
+            assert ask(port, token, method, f"{INTENTS}/{name}/{OVN}", "{}") == status, method
+            assert len(service.asked) - before == times, method
+        assert ask(port, token, "GET", "/health") == 404
+        assert ask(port, token, "PUT", PATH, b" " * ((1 << 20) + 1)) == 413
+        with connected(port) as it:
+            assert answer(it, token, "PUT", PATH, iter([b"{}"])) == 200
+        limits(port, name)
         service.end()
-        assert ask(port, token, "PUT", f"{INTENTS}/{name}/{OVN}", "{}") == 502
-        statuses = ask_often(1_000, port, "x", "GET", f"{INTENTS}/{name}/{OVN}")
-        assert 429 in statuses, set(statuses)
+        for method in "PUT", "GET":
+            assert ask(port, token, method, f"{INTENTS}/{name}/{OVN}", "{}") == 503
         logs = "".join(it.read_text() for it in folder.glob("*.log"))
     assert f"PUT {INTENTS}/{name} 200 " in logs and OVN not in logs and token not in logs, logs[-2000:]
 
 
 @contextlib.contextmanager
-def haproxy(files, behind):
-    """Runs it before the service of a port, without its check of health, and gives its port and the lines of its log."""
+def haproxy(files, behind, admin):
+    """Runs it before the service of a port, which has this admin port, and gives its port and the lines of its log."""
     program = shutil.which("haproxy", path="/usr/sbin:/usr/bin")
     if not program:
         raise Skipped("haproxy is not installed: apt-get install haproxy")
@@ -113,7 +157,7 @@ def haproxy(files, behind):
     (folder / "dss.pem").write_bytes((folder / "dss.crt").read_bytes() + (folder / "dss.key").read_bytes())
     text = (TOP / "deploy" / "haproxy.cfg").read_text()
     for old, new in (("bind :443", f"bind 127.0.0.1:{port}"), ("/etc/haproxy/", f"{folder}/"), ("log /dev/log", f"log {folder}/log"),
-                     ("server dss 127.0.0.1:8080", f"server dss 127.0.0.1:{behind}"), (" check port 8078 inter 2s fall 2 rise 1", "")):
+                     ("server dss 127.0.0.1:8080", f"server dss 127.0.0.1:{behind}"), (" check port 8078 ", f" check port {admin} ")):
         assert old in text, old
         text = text.replace(old, new)
     (folder / "haproxy.cfg").write_text(text)
@@ -126,6 +170,13 @@ def haproxy(files, behind):
         process.terminate()
         process.wait(60)
         log.socket.close()
+
+
+def healthy(pause=0):
+    """Starts an admin port that says `serving` after that many seconds, and returns it."""
+    made = Counted(pause)
+    made.answer = b"serving"
+    return made
 
 
 class Log:
@@ -150,10 +201,11 @@ class Log:
 
 
 def the_documented_haproxy(files, built):
-    """Its connections to the service stay open, its log has no OVN, it sends nothing twice, and it limits requests."""
+    """Its connections to the service stay open, its log has no OVN, it sends nothing twice, it limits requests, and its
+    errors are JSON. A check of health may take three seconds."""
     token, name = files.token("uss-a", STRATEGIC), new_id()
-    service = Counted()
-    with haproxy(files, service.port) as (port, log):
+    service, admin = Counted(), healthy(3)
+    with haproxy(files, service.port, admin.port) as (port, log):
         for _ in range(30):
             assert ask(port, token, "GET", PATH) == 200
         assert service.opened <= 3 and len(service.asked) == 30, service.opened
@@ -163,12 +215,60 @@ def the_documented_haproxy(files, built):
             assert ask(port, token, method, f"{INTENTS}/{name}/{OVN}", "{}") == 502
             assert len(service.asked) - before == 1
         assert ask(port, token, "GET", "/health") == 404
-        service.end()
-        assert ask(port, token, "PUT", f"{INTENTS}/{name}/{OVN}", "{}") in (502, 503)
-        statuses = ask_often(600, port, "x", "GET", f"{INTENTS}/{name}/{OVN}")
-        assert 429 in statuses, set(statuses)
-        lines = log.has(30 + 5 + 600)
+        with connected(port) as it:
+            assert answer(it, token, "PUT", PATH, fields={"Content-Length": f"{(1 << 20) + 1}"}) == 413
+        with connected(port) as it:
+            assert answer(it, token, "PUT", PATH, iter([b"{}"])) == 411
+        many = limits(port, name)
+        lines = log.has(30 + 6 + many)
+    service.end()
+    admin.end()
     assert " PUT 200 " in lines and OVN not in lines and token not in lines, lines[-2000:]
+
+
+def haproxy_covers_a_restart(files, built):
+    """While nothing listens, requests wait, and each is sent once. If the service is down for longer, they get 503."""
+    token, service, admin = files.token("uss-a", STRATEGIC), Counted(), healthy()
+    with haproxy(files, service.port, admin.port) as (port, _):
+        assert ask(port, token, "GET", PATH) == 200
+        service.end()
+        statuses = []
+        clients = [threading.Thread(target=lambda it=it: statuses.append(ask(port, token, it, PATH, "{}"))) for it in ("PUT", "GET")]
+        for it in clients:
+            it.start()
+        time.sleep(3)
+        assert not statuses, statuses
+        again = Counted(port=service.port)
+        for it in clients:
+            it.join()
+        assert statuses == [200, 200] and sorted(again.asked) == ["GET", "PUT"], (statuses, again.asked)
+        again.end()
+    admin.end()
+    with haproxy(files, service.port, admin.port) as (port, _):
+        # Once the first check has failed.
+        time.sleep(1)
+        assert ask(port, token, "GET", PATH) == 503
+
+
+def haproxy_keeps_places_free(files, built):
+    """Large bodies use a part of the connections to the service, small requests are served meanwhile, and connections over
+    the limit of an address get a response."""
+    service, admin = Counted(), healthy()
+    with haproxy(files, service.port, admin.port) as (port, _), contextlib.ExitStack() as stack:
+        clients = [stack.enter_context(connected(port)) for _ in range(PLACES + 8)]
+        for number, it in enumerate(clients):
+            it.putrequest("PUT", PATH)
+            it.putheader("Authorization", f"Bearer {number}")
+            it.putheader("Content-Length", f"{3 * LARGE}")
+            it.endheaders(b" " * 2 * LARGE)
+        time.sleep(1)
+        assert service.opened == PLACES, service.opened
+        more = [stack.enter_context(connected(port)) for _ in range(20)]
+        statuses = [answer(it, f"of {number}", "GET", PATH) for number, it in enumerate(more)]
+        assert statuses == [200] * 10 + [429] * 10, statuses
+        assert service.opened <= PLACES + 10
+    service.end()
+    admin.end()
 
 
 def nginx_before_the_gateway(files, built):
@@ -182,4 +282,4 @@ def nginx_before_the_gateway(files, built):
 
 
 # They take the directory with the programs.
-ALL = [the_documented_nginx, the_documented_haproxy, nginx_before_the_gateway]
+ALL = [the_documented_nginx, the_documented_haproxy, haproxy_covers_a_restart, haproxy_keeps_places_free, nginx_before_the_gateway]

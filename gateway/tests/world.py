@@ -219,13 +219,13 @@ class Counted:
     """A service that gives the same response, `{}` at first, on each connection, and counts: connections, requests, and
     simultaneous requests."""
 
-    def __init__(self, pause=0):
+    def __init__(self, pause=0, port=0):
         self.pause, self.opened, self.asked, self.now, self.at_once = pause, 0, [], 0, 0
         self.last = None  # each so many answers, one is the last of its connection
         self.drops = 0  # before so many answers the connection is closed
         self.answer = b"{}"
         self.lock, self.open = threading.Lock(), []
-        self.socket = socket.create_server(("127.0.0.1", 0), backlog=100)
+        self.socket = socket.create_server(("127.0.0.1", port), backlog=100)
         self.port = self.socket.getsockname()[1]
         threading.Thread(target=self.accept, daemon=True).start()
 

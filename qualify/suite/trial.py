@@ -10,6 +10,8 @@ from suite.wire import OutOfBounds
 FRONT = "/dss/v1/"
 INTENTS, CONSTRAINTS = f"{FRONT}operational_intent_references", f"{FRONT}constraint_references"
 SUBSCRIPTIONS, AVAILABILITY = f"{FRONT}subscriptions", f"{FRONT}uss_availability"
+# how many ids a failure names
+MOST_NAMED = 5
 REFERENCE = {INTENTS: "operational_intent_reference", CONSTRAINTS: "constraint_reference", SUBSCRIPTIONS: "subscription"}
 
 
@@ -48,6 +50,16 @@ class Answer:
         if not holds:
             raise Broken(what)
         return self
+
+    def finds(self, wanted, what, found=None):
+        """That exactly these ids were found, each once. A failure names those that are absent, too many, or there twice."""
+        found = self.ids if found is None else found
+        wrong = {
+            "absent": sorted(set(wanted) - set(found)), "too many": sorted(set(found) - set(wanted)),
+            "twice": sorted({it for it in found if found.count(it) > 1})}
+        named = {name: ", ".join(ids[:MOST_NAMED]) + " and more" * (len(ids) > MOST_NAMED) for name, ids in wrong.items() if ids}
+        said = "; ".join(f"{name}: {ids}" for name, ids in named.items())
+        return self.need(not said, f"{what} ({said})" if said else what)
 
     def always(self, holds, what):
         """Expects something of every response; it is reported only if it does not hold."""

@@ -158,6 +158,38 @@ class Client:
         exchange.text = "the answer was not read"
         return exchange
 
+    def pipelined(self, caller, asked):
+        """The exchanges of requests (method, path, body) on one connection, each sent before the answer to the one before is read. The
+        last two are sent together. Those that are not answered have no status."""
+        self.close()
+        exchanges = [Exchange(caller.name, *it, number=number) for number, it in enumerate(asked, 1)]
+        try:
+            with self.socket() as connection, connection.makefile("rb") as reader:
+                with contextlib.suppress(OSError):
+                    for exchange in exchanges:
+                        self.pace.wait(self.is_cleaning)
+                        if exchange is exchanges[-2]:
+                            data = self.written(caller, exchange)
+                            continue
+                        connection.sendall((data if exchange is exchanges[-1] else b"") + self.written(caller, exchange))
+                for exchange in exchanges:
+                    take_next(reader, exchange)
+        except (OSError, ValueError) as fault:
+            next(it for it in exchanges if it.status is None).fail(f"{type(fault).__name__}: {fault}")
+        return exchanges
+
+    def written(self, caller, exchange):
+        """The bytes of a request that leaves its connection open."""
+        body = b"" if exchange.body is None else json.dumps(exchange.body).encode()
+        lines = [f"{exchange.method} {self.front}{exchange.path} HTTP/1.1", f"Host: {self.host}", f"Authorization: Bearer {caller.token}"]
+        return "\r\n".join([*lines, f"Content-Length: {len(body)}", "", ""]).encode() + body
+
+    @contextlib.contextmanager
+    def socket(self):
+        with socket.create_connection((self.host, self.port or (443 if self.is_tls else 80)), PATIENCE) as plain:
+            with self.context.wrap_socket(plain, server_hostname=self.host) if self.is_tls else plain as connection:
+                yield connection
+
     def at_once(self, asked):
         """Returns the exchanges of requests that are sent at once, each (caller, method, path, body) on a connection of
         its own."""
@@ -218,13 +250,26 @@ class Client:
         first = head[0].replace("/dss/", f"{self.front}/dss/", 1)
         data = "\r\n".join([first, f"Host: {self.host}", *named, *head[1:], "", ""]).encode() + body
         try:
-            with socket.create_connection((self.host, self.port or (443 if self.is_tls else 80)), PATIENCE) as plain:
-                with self.context.wrap_socket(plain, server_hostname=self.host) if self.is_tls else plain as connection:
-                    connection.sendall(data)
-                    answer = http.client.HTTPResponse(connection, method=method)
-                    with contextlib.closing(answer):
-                        answer.begin()
-                        exchange.take(answer.status, answer.getheaders(), answer.read().decode("utf-8", "replace"))
+            with self.socket() as connection:
+                connection.sendall(data)
+                answer = http.client.HTTPResponse(connection, method=method)
+                with contextlib.closing(answer):
+                    answer.begin()
+                    exchange.take(answer.status, answer.getheaders(), answer.read().decode("utf-8", "replace"))
         except (OSError, http.client.HTTPException) as fault:
             exchange.fail(f"{type(fault).__name__}: {fault}")
         return exchange
+
+
+def take_next(reader, exchange):
+    """The next answer of a connection. That to HEAD may have the body that its head announces, or none."""
+    lines = []
+    while (line := reader.readline()) != b"\r\n":
+        if not line:
+            raise ValueError("the connection has ended")
+        lines.append(line.decode("latin-1").rstrip("\r\n"))
+    fields = [tuple(text.strip() for text in line.partition(":")[::2]) for line in lines[1:]]
+    length = next((int(value) for name, value in fields if name.lower() == "content-length"), 0)
+    has_body = exchange.method != "HEAD" or not reader.peek(1).startswith(b"H")
+    body = reader.read(length) if has_body else b""
+    exchange.take(int(lines[0].split()[1]), fields, body.decode("utf-8", "replace"))

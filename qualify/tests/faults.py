@@ -176,6 +176,32 @@ def one_found_reference_dropped(world, asked, pass_on):
     return answer
 
 
+@fault("all_that_is_found_is_answered")
+def a_page_of_five(world, asked, pass_on):
+    answer = pass_on(asked)
+    if is_query(asked) and answer.status == 200:
+        answer.put({name: it[:5] for name, it in answer.value.items()})
+    return answer
+
+
+@fault("all_that_is_found_is_answered")
+def a_page_of_a_hundred_that_are_missing(world, asked, pass_on):
+    answer = pass_on(asked)
+    value = answer and answer.value
+    if isinstance(value, dict) and "missing_operational_intents" in value:
+        answer.put(value | {"missing_operational_intents": value["missing_operational_intents"][:100]})
+    return answer
+
+
+@fault("all_that_is_found_is_answered")
+def a_page_of_a_hundred_for_a_subscription(world, asked, pass_on):
+    answer, name = pass_on(asked), "operational_intent_references"
+    value = answer and answer.value
+    if asked.words[0] == "subscriptions" and isinstance(value, dict) and name in value:
+        answer.put(value | {name: value[name][:100]})
+    return answer
+
+
 @fault("a_query_finds_what_meets_its_area", "a_deleted_intent_is_gone")
 def a_query_that_finds_too_much(world, asked, pass_on):
     answer = pass_on(asked)
@@ -608,7 +634,56 @@ def methods_that_are_not_told(world, asked, pass_on):
     return answer
 
 
-@fault("a_connection_takes_a_hundred", "what_is_no_request", only="profile")
+def spelt(body):
+    """A body with the members that misspelt ones mean."""
+    if isinstance(body, dict):
+        meant = {"time_strat": "time_start", "notify_for_constraint": "notify_for_constraints"}
+        return {meant.get(name, name.strip().lower()): spelt(it) for name, it in body.items()}
+    return body
+
+
+@fault("misspelt_members_are_ignored", only="profile")
+def misspelt_members_that_are_taken(world, asked, pass_on):
+    if isinstance(asked.value, dict):
+        asked.put(spelt(asked.value))
+    return pass_on(asked)
+
+
+@fault("misspelt_members_are_ignored", "a_body_is_read_as_json", only="profile")
+def unknown_members_that_are_refused(world, asked, pass_on):
+    known = {"extents", "key", "state", "subscription_id", "uss_base_url", "notify_for_operational_intents", "notify_for_constraints"}
+    body, answer = asked.value, pass_on(asked)
+    is_unknown = asked.method == "PUT" and asked.words[0] in ONE and isinstance(body, dict) and set(body) - known
+    if is_unknown and answer.status in (200, 201):
+        answer.with_status(400).put({"message": "P5 FORM"})
+    return answer
+
+
+@fault("head_is_not_taken", only="profile")
+def a_head_that_is_answered_as_a_reading(world, asked, pass_on):
+    if asked.method == "HEAD":
+        asked.line = asked.line.replace("HEAD", "GET", 1)
+    return pass_on(asked)
+
+
+@fault("head_is_not_taken", only="profile")
+def a_head_after_which_nothing_is_answered(world, asked, pass_on):
+    answer = pass_on(asked)
+    if asked.method == "HEAD":
+        answer.set("Connection", "close")
+    return answer
+
+
+@fault("a_connection_takes_a_hundred", "what_follows_the_hundredth_is_not_done", only="profile")
+def a_connection_that_closes_early(world, asked, pass_on):
+    answer = pass_on(asked)
+    world.asked = getattr(world, "asked", 0) + 1
+    if world.asked % 40 == 0:
+        answer.set("Connection", "close")
+    return answer
+
+
+@fault("a_connection_takes_a_hundred", "what_is_no_request", "what_follows_the_hundredth_is_not_done", only="profile")
 def a_connection_that_stays_open(world, asked, pass_on):
     answer = pass_on(asked)
     answer.set("Connection", None)

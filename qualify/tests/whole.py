@@ -14,7 +14,7 @@ from suite import forms
 from suite.dialect import Standard
 
 AREA = "operational_intent_references/query"
-MIN = {"profile": 75, "standard": 60}
+MIN = {"profile": 80, "standard": 60}
 
 
 def suite_checks(*words):
@@ -226,6 +226,22 @@ def answers_are_shown_as_text(gateway):
         assert "P7 FOUND" in failure.get("message") and "response: 404" in failure.text and "request: " in failure.text, failure.text
 
 
+def what_is_wrong_is_named(gateway):
+    """A failure names the id that was absent, too many, or there twice."""
+    for name, check, said in (("one_found_reference_dropped", "a_query_finds_what_meets_its_area", "absent"),
+                              ("a_query_that_finds_too_much", "a_query_finds_what_meets_its_area", "too many"),
+                              ("one_missing_reference_dropped", "all_that_is_missing_is_told", "absent"),
+                              ("a_missing_reference_twice", "a_key_is_needed", "twice"),
+                              ("one_subscriber_dropped", "all_who_meet_are_told", "absent")):
+        with Plain() as place:
+            held, _ = place.over(FAULTS[name].plant, check)
+            named = re.findall(rf"\({said}: ([0-9a-f]{{8}}-[0-9a-f-]{{27}})\)", held.text)
+            assert named and named[0] in held.page and named[0] in held.xml, (name, held)
+    with Plain() as place:
+        held, _ = place.over(FAULTS["a_page_of_five"].plant, "all_that_is_found_is_answered")
+        assert "(absent: " in held.text and " and more)" in held.text, held
+
+
 def a_token_that_is_not_ours(gateway):
     """The run sends requests only to its own URL."""
     with Plain() as place, socket.create_server(("127.0.0.1", 0)) as other:
@@ -247,4 +263,5 @@ def a_token_that_is_not_ours(gateway):
 CASES = {it.__name__: it for it in (
     all_holds, all_holds_to_the_standard, each_check_can_break, all_holds_through_the_proxy, all_holds_over_tls,
     the_gateway_adds_no_member, nothing_is_left_where_checks_break, what_is_there_is_left_alone, bounds_are_kept,
-    one_that_is_ended_cleans_up, a_service_that_goes, runs_that_cannot_begin, pages_stand_alone, answers_are_shown_as_text, a_token_that_is_not_ours)}
+    one_that_is_ended_cleans_up, a_service_that_goes, runs_that_cannot_begin, pages_stand_alone, answers_are_shown_as_text, what_is_wrong_is_named,
+    a_token_that_is_not_ours)}

@@ -2,7 +2,9 @@
 
 The responses were written from the rules and formats that docs/POLICY.md states, their OVNs with another program's
 SHA-256."""
+import contextlib
 import json
+import pathlib
 import re
 import tempfile
 
@@ -57,20 +59,30 @@ def meeting_over_sockets():
 
 
 def meeting_of_the_readme():
-    """The commands of the README get the announced responses: 201, 409 for the key, 201, and both flights with only one
-    OVN."""
+    """The commands of the README get the announced responses, twice: 201, 409 for the key, 201, and both flights with
+    only one OVN. They leave neither a file nor a process behind."""
     lines = re.search(r"```bash\n(.*?)```", (TOP / "README.md").read_text(), re.DOTALL)[1]
+    found = [] if len(lines.splitlines()) <= 12 else ["the commands have more than 12 lines"]
     with tempfile.TemporaryDirectory() as room:
-        port = free_port()
-        lines = lines.replace("8080", f"{port}").replace("/tmp/dss-meeting", f"{room}/meeting")
-        # On a busy machine a start takes longer than on a reader's.
-        lines = lines.replace("sleep 1", f"until curl -s 127.0.0.1:{port} >/dev/null; do sleep 0.1; done")
-        status, output, error = run(["bash", "-c", lines])
-    said = output.decode()
-    statuses = re.findall(r" (\d{3})$", said, re.M)
-    references = json.loads(said.splitlines()[-1])["operational_intent_references"]
-    right = statuses == ["201", "409", "201"] and "P14 KEY" in said and ["ovn" in it for it in references] == [False, True]
-    return [] if right and len(lines.splitlines()) <= 12 else [f"{status}, {said}, {error!r}"]
+        for _ in range(2):
+            status, output, error = run(["bash", "-c", lines], more={"TMPDIR": room})
+            said = output.decode()
+            statuses = re.findall(r" (\d{3})$", said, re.M)
+            references = json.loads(said.splitlines()[-1])["operational_intent_references"]
+            right = statuses == ["201", "409", "201"] and "P14 KEY" in said and ["ovn" in it for it in references] == [False, True]
+            found += [] if right else [f"{status}, {said}, {error!r}"]
+            found += [f"{it} is left" for it in pathlib.Path(room).iterdir()] + [f"{it} is left" for it in running(room)]
+    return found
+
+
+def running(room):
+    """Returns the command lines of processes that name a directory."""
+    found = []
+    for it in pathlib.Path("/proc").glob("[0-9]*/cmdline"):
+        with contextlib.suppress(OSError):
+            line = it.read_bytes().replace(b"\0", b" ").decode(errors="replace")
+            found += [line] if f"{room}/" in line else []
+    return found
 
 
 def client():

@@ -17,7 +17,7 @@ import runpy
 
 from program import TOP
 
-DOCUMENTS = sorted(it for folder in ("", "docs/", "bench/", "deploy/", "gateway/", "qualify/") for it in TOP.glob(f"{folder}*.md"))
+DOCUMENTS = sorted(it for folder in ("", "docs/", "bench/", "deploy/", "gateway/", "qualify/", "clients/python/") for it in TOP.glob(f"{folder}*.md"))
 # What is made of the sources, with names of the kit in it.
 MADE = {TOP / "docs" / "PROOF_INDEX.md"}
 # How a comment begins, by the end of a file's name.

@@ -14,7 +14,7 @@ DOCUMENTS, PAGES = "usr/share/doc/dss", ("README.md", "CHANGELOG.md", "CONTRIBUT
 PATHS = {
     "etc/dss": 0o750,
     "usr/bin/dss": 0o755,
-    **{f"usr/lib/systemd/system/{it}": 0o644 for it in ("dss.service", "dss-backup.service", "dss-backup.timer")},
+    **{f"usr/lib/systemd/system/{it}": 0o644 for it in ("dss.service", "dss-backup.service", "dss-backup.timer", "dss-failure@.service")},
     "etc/logrotate.d/dss": 0o644,
     "DEBIAN/conffiles": 0o644,
     "usr/share/man/man1/dss.1.gz": 0o644,
@@ -24,6 +24,8 @@ PATHS = {
     **{f"{DOCUMENTS}/{it.relative_to(TOP)}": 0o644 for it in (*TOP.glob("docs/*"), *TOP.glob("bench/*.md"), *TOP.glob("bench/*.svg"))},
     **{f"{DOCUMENTS}/{it.relative_to(TOP)}": it.stat().st_mode & 0o755
        for folder in ("examples", "deploy") for it in (TOP / folder).rglob("*") if it.is_file()},
+    **{f"{DOCUMENTS}/{it.relative_to(TOP)}": 0o644 for kind in ("*.md", "*.py", "*.toml", "dss_client/*.py", "dss_client/py.typed")
+       for it in (TOP / "clients" / "python").glob(kind)},
     "DEBIAN/control": 0o644,
     "DEBIAN/postinst": 0o755,
     "DEBIAN/prerm": 0o755,
@@ -33,6 +35,8 @@ PATHS = {
 ELSEWHERE = re.compile(r"(\.\./)?(qualify|release|crates|tests|gateway/|bench/)|test$|tests/|[\w./]*\.(rattle|c|go)$")
 OF_OTHERS = {"usr/bin/dss-gateway", "usr/share/man/man1/dss-gateway.1.gz", "usr/lib/dss"}
 COMMANDS = "run", "serve", "report", "purge", "backup", "upgrade", "tokens"
+# A start that fails after so many seconds must stop trying.
+SLOW_START = 12
 # Settings that protect files, memory and processes of either unit from others.
 KEPT = {"UMask=0077", "LimitCORE=0", "ProtectProc=invisible", "MemoryDenyWriteExecute=yes", "NoNewPrivileges=yes"}
 
@@ -118,6 +122,7 @@ def units(root):
         "dss-gateway.service": TOP / "deploy" / "dss-gateway.service",
         "dss-backup.service": root / "usr/lib/systemd/system/dss-backup.service",
         "dss-backup.timer": root / "usr/lib/systemd/system/dss-backup.timer",
+        "dss-failure@.service": root / "usr/lib/systemd/system/dss-failure@.service",
         "dss-volume.service": hosts / "dss-volume.service",
         settings: hosts / settings,
     }
@@ -125,20 +130,54 @@ def units(root):
     for name in "dss.service", "dss-gateway.service":
         found += difference(f"what {name} keeps from others", sorted(KEPT & set(files[name].read_text().splitlines())), sorted(KEPT))
     beside = ["dss-backup.timer", "dss-backup.service", "dss.service"], ["dss-gateway.service", "dss.service"]
-    for names in ["dss.service"], *beside, list(files):
+    for names in ["dss.service", "dss-failure@.service"], *beside, list(files):
         for name in names:
             text = files[name].read_text()
             for there, here in places.items():
                 text = text.replace(there, here)
             (folder / name).parent.mkdir(parents=True, exist_ok=True)
             (folder / name).write_text(text)
-        asked = [str(folder / it) for it in names if it != settings]
+        # A template is loaded where a unit names it.
+        asked = [str(folder / it) for it in names if it != settings and "@" not in str(it)]
         status, output, error = run(["systemd-analyze", "verify", "--man=no", *asked])
         # systemd also checks units of the machine.
         said = [it for it in (output + error).decode().splitlines() if "dss" in it]
         found += difference(f"systemd-analyze, {names}", (status, said), (0, []))
     shutil.rmtree(folder)
     return found
+
+
+def unit_settings():
+    """Returns the settings that the units lack: limits, what starts them, and what reports their failures."""
+    deploy, found = TOP / "deploy", []
+    for file in sorted(deploy.rglob("*.service")):
+        lines = file.read_text().splitlines()
+        is_started = any(it.startswith(("WantedBy=", "Also=")) for it in lines) or "@" in file.name
+        found += [] if "LimitNOFILE=4096" in lines and is_started else [f"{file.name} lacks LimitNOFILE=4096 or [Install]"]
+    service = dict(it.split("=", 1) for it in (deploy / "dss.service").read_text().splitlines() if "=" in it and it[0] != "#")
+    interval = 60 * int(service.get("StartLimitIntervalSec", "0min").removesuffix("min"))
+    starts = int(service.get("StartLimitBurst", 5)) * (SLOW_START + int(service["RestartSec"]))
+    found += [] if 0 < starts < interval else [f"{starts} s of failed starts, limited within {interval} s"]
+    found += [] if "MemoryMax" in service else ["dss.service has no MemoryMax"]
+    wanted = {"dss.service": "OnFailure=dss-failure@%n.service", "dss-backup.service": "OnFailure=dss-failure@%n.service",
+              "dss-backup.timer": "Persistent=true"}
+    found += [f"{name} lacks {it}" for name, it in wanted.items() if it not in (deploy / name).read_text().splitlines()]
+    container = (TOP / "Dockerfile").read_text().splitlines()[-1]
+    return found + ([] if '"--admin-port", "8078"' in container else [f"no admin port in {container}"])
+
+
+def removal(root):
+    """The removal of the package stops and disables the service and the timer."""
+    folder = root / "removal"
+    folder.mkdir()
+    (folder / "systemctl").write_text(f"#!/bin/sh\necho \"$*\" >> {folder}/said\n")
+    (folder / "systemctl").chmod(0o755)
+    # As if systemd ran.
+    script = (root / "DEBIAN" / "prerm").read_text().replace("/run/systemd/system", str(folder))
+    got = run(["sh", "-c", script, "prerm", "remove"], more={"PATH": f"{folder}:{os.environ['PATH']}"})
+    said = (folder / "said").read_text()
+    shutil.rmtree(folder)
+    return difference("prerm", (got, said), ((0, b"", b""), "disable --now dss-backup.timer dss.service\n"))
 
 
 def completed(root, *words):
@@ -183,7 +222,7 @@ def package():
         found = difference("fields", fields, ["Package: dss", f"Version: {version}", "Architecture: amd64"])
         found += difference("owners", {line.split()[1] for line in told("-c", packages[0])}, {"root/root"})
         found += paths(root) + manual(root) + units(root) + completions(root) + links(root) + options(root) + example(root)
-        found += said_by_lintian(packages[0])
+        found += removal(root) + unit_settings() + said_by_lintian(packages[0])
         program = root / "usr/bin/dss"
         words = [str(program), "run", "--tokens", str(TOP / "examples" / "tokens.toml"), "--now", "1000", "-"]
         found += difference("program", program.read_bytes() == pathlib.Path(BUILT).read_bytes(), True)

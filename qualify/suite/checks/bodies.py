@@ -2,7 +2,9 @@
 import json
 
 from suite.check import check
-from suite.trial import INTENTS
+from suite.checks.keys import lacks
+from suite.dialect import ENDS, URL, ZERO
+from suite.trial import INTENTS, SUBSCRIPTIONS
 
 VERSION = "0123456789abcdef0123456789abcdef"
 
@@ -24,6 +26,26 @@ def a_body_is_read_as_json(it):
         id_ = it.id()
         told = it.a.put(INTENTS, id_, body).must(201).reference
         it.a.delete(INTENTS, id_, told["ovn"]).must(200)
+
+
+@check("A misspelt member is ignored, and does not stand for the intended one", "Formats", only="profile")
+def misspelt_members_are_ignored(it):
+    site, named, one, two = it.site(), it.id(), it.id(), it.id()
+    body = it.subscription_body(it.volume(site))
+    told = it.a.put(SUBSCRIPTIONS, named, body | {"notify_for_constraint": True, "Notify_for_constraints": True}).must(200)
+    told.need(told.reference["notify_for_constraints"] is False, "for intents alone")
+    body = it.intent_body(it.volume(site)) | {"subscription_Id": named, "new_subscription": {"uss_base_url": URL.format("a")}}
+    put = it.a.put(INTENTS, one, body).must(201)
+    put.need(put.reference["subscription_id"] == ZERO, "the zero id, as no subscription is named")
+    read = it.a.get(SUBSCRIPTIONS, named).must(200)
+    read.finds([], "no intent that depends on it", read.reference["dependent_operational_intents"])
+    lacks(it, it.b.put(INTENTS, two, it.intent_body(it.volume(site)) | {"Key": [put.reference["ovn"]]}), one)
+    late = it.dialect.area([site]) | {"time_strat": it.dialect.moment + 10 * ENDS, "altitude_lower ": 900_000}
+    it.b.query(INTENTS, area=late).must(200).finds([one], "the intent, as there is no bound")
+    for name in ("extents", "state", "uss_base_url"):
+        wrong = it.intent_body(it.volume(site))
+        wrong[name.title()] = wrong.pop(name)
+        it.b.put(INTENTS, two, wrong).must(400, "P5 FORM")
 
 
 @check("Values at each limit are accepted, and beyond it denied: cells, volumes, entries of a key, addresses, altitudes, times", "Formats", only="profile")

@@ -2,7 +2,7 @@
 
 A proxy in front of the service may answer them by its own rules."""
 from suite.check import check
-from suite.trial import AVAILABILITY, CONSTRAINTS, INTENTS, SUBSCRIPTIONS
+from suite.trial import AVAILABILITY, CONSTRAINTS, INTENTS, SUBSCRIPTIONS, Answer
 
 VERSION = "0123456789abcdef0123456789abcdef"
 
@@ -62,6 +62,32 @@ def a_connection_takes_a_hundred(it):
         wanted = "close" if exchange.number == 100 else None
         said = "Connection: close" if wanted else "no field Connection"
         answer.need(exchange.fields.get("connection") == wanted, f"{said} in response {exchange.number} of the connection")
+
+
+@check("The hundredth response of a connection is its last: a request sent after it has no effect, and a new connection accepts it",
+       "Formats", only="profile")
+def what_follows_the_hundredth_is_not_done(it):
+    id_, path = it.id(), f"{AVAILABILITY}/{it.a.uss}"
+    put = "PUT", f"{INTENTS}/{id_}", it.intent_body(it.volume(it.site()))
+    it.may_be_kept(it.a, put[1])
+    exchanges = it.client.pipelined(it.a.caller, [("GET", path, None)] * 100 + [put])
+    for exchange in exchanges[:100]:
+        it.taken(it.a, exchange).must(200)
+    it.exchanges.append(exchanges[100])
+    Answer(it, exchanges[100]).need(exchanges[100].status is None, "no answer to request 101 of the connection")
+    it.a.get(INTENTS, id_).must(404, "P7 FOUND")
+    it.a.ask(*put).must(201)
+
+
+@check("No path accepts HEAD, and the next request of its connection is answered", "P2 METHOD", only="profile")
+def head_is_not_taken(it):
+    path = f"{AVAILABILITY}/{it.a.uss}"
+    for asked, status, allowed in ((path, 405, "GET, PUT"), (f"{INTENTS}/query", 405, "POST"), (f"{INTENTS}/", 404, None)):
+        head, read = it.client.pipelined(it.a.caller, [("HEAD", asked, None), ("GET", path, None)])
+        it.exchanges.append(head)
+        answer = Answer(it, head).must(status)
+        answer.need(head.fields.get("allow") == allowed, f"Allow: {allowed}" if allowed else "no field Allow")
+        it.taken(it.a, read).must(200)
 
 
 @check("Bearer is accepted in any case, and two fields Authorization count as none", "P3 TOKEN", only="profile")

@@ -21,9 +21,9 @@ def a_constraint_is_created_and_read(it):
     seen.need({name: value for name, value in seen.reference.items() if name != "ovn"} == hidden, "the same reference except for its OVN")
     seen.need(it.dialect.is_standard or "ovn" not in seen.reference, "no OVN")
     found = it.b_processing.query(CONSTRAINTS, site).must(200)
-    found.need(found.ids == [id_], "the constraint, and nothing else")
+    found.finds([id_], "the constraint, and nothing else")
     elsewhere = it.b_processing.query(CONSTRAINTS, it.site()).must(200)
-    elsewhere.need(elsewhere.ids == [], "nothing elsewhere")
+    elsewhere.finds([], "nothing elsewhere")
 
 
 @check("A constraint is updated and deleted only over its current OVN; then it does not exist", "P10 VERSION, P7 FOUND",
@@ -43,7 +43,7 @@ def a_constraint_is_updated_and_deleted(it):
     deleted.need(deleted.reference == second, "the reference as it was")
     it.manager.get(CONSTRAINTS, id_).must(404, "P7 FOUND")
     found = it.b_processing.query(CONSTRAINTS, site).must(200)
-    found.need(found.ids == [], "nothing")
+    found.finds([], "nothing")
     it.manager.delete(CONSTRAINTS, id_, second["ovn"]).must(404, "P7 FOUND")
 
 
@@ -66,7 +66,7 @@ def constraints_have_scopes(it):
         supplier.constraint(id_, it.volume(site), over=ovn).must(403, "P4 SCOPE")
         supplier.delete(CONSTRAINTS, id_, ovn).must(403, "P4 SCOPE")
     read = it.manager.query(CONSTRAINTS, site).must(200)
-    read.need(read.ids == [id_], "the constraint, still there")
+    read.finds([id_], "the constraint, still there")
 
 
 @check("An intent whose subscription is for constraints needs the constraints that it meets in its key", "P14 KEY", [INTENT["create"]])

@@ -1,9 +1,12 @@
 """Operational intents: what is stored, what each USS sees, and what queries find."""
-from suite.check import INTENT, check
+from suite.check import INTENT, SUBSCRIPTION, check
+from suite.checks.keys import lacks
 from suite.dialect import ENDS, STARTS, URL, ZERO
 from suite.trial import INTENTS
 
 HOUR = 3600
+# more than a page of any service
+MANY = 150
 
 
 def is_as_put(it, answer, supplier, id_, state="Accepted", url="a"):
@@ -47,10 +50,11 @@ def an_ovn_is_shown_to_the_manager_alone(it):
         answer.need(seen.get("ovn") != ovn and (it.dialect.is_standard or "ovn" not in seen), "no OVN")
         answer.need({name: value for name, value in seen.items() if name != "ovn"} == told, "the same reference except for its OVN")
     found = it.b.query(INTENTS, site).must(200)
-    found.need(found.ids == [id_], "the intent, and nothing else")
+    found.finds([id_], "the intent, and nothing else")
     found.need(it.dialect.is_standard or "ovn" not in found.part("operational_intent_references")[0], "no OVN")
     own = it.a.query(INTENTS, site).must(200)
-    own.need(own.ids == [id_] and own.part("operational_intent_references")[0].get("ovn") == ovn, "the OVN, in its manager's own query")
+    own.finds([id_], "the intent, and nothing else")
+    own.need(own.part("operational_intent_references")[0].get("ovn") == ovn, "the OVN, in its manager's own query")
 
 
 @check("A query finds the intents that meet its area, and none elsewhere, at other altitudes or at another time", "Effects",
@@ -70,7 +74,20 @@ def a_query_finds_what_meets_its_area(it):
             (whole([site], start=STARTS - 600, end=STARTS - 300), set(), "none before them"),
             (it.dialect.area([it.site()]), set(), "none of an empty place")):
         found = it.b.query(INTENTS, area=area).must(200)
-        found.need(set(found.ids) == wanted and len(found.ids) == len(wanted), f"{what}, each once")
+        found.finds(wanted, f"{what}, each once")
+
+
+@check("A query answers all that it finds, and a refusal for a key and a new subscription all that they meet: 150 intents of one place",
+       "Effects, P14 KEY", [INTENT["query"], INTENT["create"], SUBSCRIPTION["create"]])
+def all_that_is_found_is_answered(it):
+    site, ids = it.site(), [it.id() for _ in range(MANY)]
+    for k, id_ in enumerate(ids):
+        it.a.intent(id_, it.volume(site, low=10 * k, high=10 * k + 5)).must(201)
+    whole = it.volume(site, high=10 * MANY)
+    it.b.query(INTENTS, site).must(200).finds(ids, f"the {MANY} intents, each once")
+    lacks(it, it.b.intent(it.id(), whole), *ids)
+    stored = it.b.subscription(it.id(), whole).must(200)
+    stored.finds(ids, f"the {MANY} intents, each once", [entity["id"] for entity in stored.value.get("operational_intent_references", ())])
 
 
 @check("A query returns references in the order of their ids", "Effects", [INTENT["query"]], only="profile")
@@ -80,6 +97,7 @@ def a_query_answers_by_rising_ids(it):
     for id_ in ids:
         key.append(it.a.intent(id_, it.volume(site), key=key).must(201).reference["ovn"])
     found = it.b.query(INTENTS, site).must(200)
+    found.finds(ids, "all four")
     found.need(found.ids == sorted(ids), "all four, in the order of their ids")
 
 
@@ -98,8 +116,8 @@ def an_update_replaces_an_intent(it):
         seen = is_as_put(it, read, it.a, id_, "Activated", "d")
         read.need(seen["version"] == told["version"], f"version {told['version']}")
     gone, there = it.b.query(INTENTS, site).must(200), it.b.query(INTENTS, other).must(200)
-    gone.need(gone.ids == [], "nothing where it was")
-    there.need(there.ids == [id_], "the intent where it is")
+    gone.finds([], "nothing where it was")
+    there.finds([id_], "the intent where it is")
 
 
 @check("An update or a deletion with an old or unknown OVN is 409, and changes nothing", "P10 VERSION",
@@ -136,7 +154,7 @@ def a_deleted_intent_is_gone(it):
     for supplier in (it.a, it.b):
         supplier.get(INTENTS, id_).must(404, "P7 FOUND")
         found = supplier.query(INTENTS, site).must(200)
-        found.need(found.ids == [], "nothing")
+        found.finds([], "nothing")
     it.a.delete(INTENTS, id_, told["ovn"]).must(404, "P7 FOUND")
     it.a.intent(id_, it.volume(site), over=told["ovn"]).must(404, "P7 FOUND", standard=(404, 409))
 

@@ -1,16 +1,15 @@
 """Keys: which OVNs a put must list, and which volumes meet."""
 from suite.check import INTENT, check
 from suite.dialect import ENDS, STARTS, cell, number_of, parent, token
-from suite.trial import CONSTRAINTS, INTENTS
+from suite.trial import CONSTRAINTS, INTENTS, MOST_NAMED
 
 
 def lacks(it, put, *ids, constraints=()):
     """Checks that a put is denied for its key, with exactly these missing."""
     put.must(409, "P14 KEY")
-    told = [entity["id"] for entity in put.missing()]
-    put.need(sorted(told) == sorted(ids), f"missing: the intents {', '.join(sorted(ids)) or 'none'}")
-    told = [entity["id"] for entity in put.missing(CONSTRAINTS)]
-    put.need(sorted(told) == sorted(constraints), f"missing: the constraints {', '.join(sorted(constraints)) or 'none'}")
+    for kind, name, wanted in ((INTENTS, "intents", ids), (CONSTRAINTS, "constraints", constraints)):
+        shown = ", ".join(sorted(wanted)) if len(wanted) <= MOST_NAMED else f"{len(wanted)} of them"
+        put.finds(wanted, f"missing: the {name} {shown or 'none'}", [entity["id"] for entity in put.missing(kind)])
     if not it.dialect.is_standard:
         is_sorted = all(ids == sorted(ids) for ids in ([entity["id"] for entity in put.missing(kind)] for kind in (INTENTS, CONSTRAINTS)))
         put.need(is_sorted, "in the order of their ids")
@@ -157,7 +156,7 @@ def cells_are_compared_at_level_13(it):
     it.a.intent(first, it.volume(token(cell(number_of(site), 0, 3)))).must(201)
     lacks(it, it.b.intent(it.id(), it.volume(token(cell(number_of(site), 2)))), first)
     found = it.b.query(INTENTS, token(parent(number_of(site)))).must(200)
-    found.need(first in found.ids, "the intent in one of the cells inside")
+    found.need(first in found.ids, f"the intent in one of the cells inside, {first}")
 
 
 @check("Drawn volumes of two USSs: each denial lists exactly what meets and the key lacks, and each query finds exactly what meets",
@@ -177,7 +176,7 @@ def drawn_volumes_meet_as_they_are(it):
         asked = draw_box(draw, sites[:1] if it.dialect.is_standard else sites)
         found = it.b.query(INTENTS, area=it.dialect.volume(asked[0], **bounds_of(asked))).must(200)
         wanted = {other for other, (box, _) in there.items() if boxes_meet(box, asked)}
-        found.need(set(found.ids) == wanted and len(found.ids) == len(wanted), f"the {len(wanted)} that meet, each once")
+        found.finds(wanted, f"the {len(wanted)} that meet, each once")
 
 
 def draw_box(draw, sites):

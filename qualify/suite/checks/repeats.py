@@ -87,9 +87,9 @@ def one_of_two_is_kept(it):
         won = [k for k, answer in enumerate(answers) if answer.status == 201]
         answers[-1].need(len(won) == 1, "one 201 of the two")
         denied = answers[1 - won[0]].must(409, "P14 KEY")
-        denied.need([entity["id"] for entity in denied.missing()] == [ids[won[0]]], "the other's intent is missing")
+        denied.finds([ids[won[0]]], "the other's intent is missing", [entity["id"] for entity in denied.missing()])
         found = it.a.query(INTENTS, site).must(200)
-        found.need(found.ids == [ids[won[0]]], "the stored one")
+        found.finds([ids[won[0]]], "the stored one")
 
 
 @check("Of two updates over one OVN that are sent at once, one succeeds", "P10 VERSION", [INTENT["update"]])

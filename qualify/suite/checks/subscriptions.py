@@ -36,7 +36,7 @@ def a_subscription_is_created_and_read(it):
     created.need(flags == (True, False), "only for intents")
     times = [it.dialect.second(told.get(name)) for name in ("time_start", "time_end")]
     created.need(times == [it.dialect.moment + STARTS, it.dialect.moment + ENDS], "the times that were put")
-    created.need([entity["id"] for entity in created.value.get("operational_intent_references", ())] == [there], "the intent that is there")
+    created.finds([there], "the intent that is there", [entity["id"] for entity in created.value.get("operational_intent_references", ())])
     created.need(not created.value.get("constraint_references"), "no constraint")
     read = it.a.get(SUBSCRIPTIONS, id_).must(200)
     read.need(read.reference == told, "the same subscription")
@@ -53,9 +53,9 @@ def a_subscription_is_its_suppliers_alone(it):
     it.b.delete(SUBSCRIPTIONS, one, told["version"]).must(403, "P9 MANAGER", standard=(403, 404))
     for supplier, own in ((it.a, one), (it.b, two)):
         found = supplier.query(SUBSCRIPTIONS, site).must(200)
-        found.need(found.ids == [own], "only its own")
+        found.finds([own], "only its own")
     found = it.a.query(SUBSCRIPTIONS, it.site()).must(200)
-    found.need(found.ids == [], "none elsewhere")
+    found.finds([], "none elsewhere")
     read = it.a.get(SUBSCRIPTIONS, one).must(200)
     read.need(read.reference == told, "the subscription as it was")
 
@@ -89,7 +89,7 @@ def a_subscription_is_deleted(it):
     deleted.need(deleted.reference == told, "the subscription as it was")
     it.a.get(SUBSCRIPTIONS, id_).must(404, "P7 FOUND")
     found = it.a.query(SUBSCRIPTIONS, site).must(200)
-    found.need(found.ids == [], "nothing")
+    found.finds([], "nothing")
     it.a.delete(SUBSCRIPTIONS, id_, told["version"]).must(404, "P7 FOUND")
     answer = it.b.intent(it.id(), it.volume(site)).must(201)
     answer.need(id_ not in answer.indexes, "no deleted subscription")
@@ -143,7 +143,7 @@ def who_does_not_meet_is_not_told(it):
     it.b_processing.subscription(ids[3], it.volume(site), intents=False, constraints=True).must(200)
     answer = it.b.intent(it.id(), it.volume(site)).must(201)
     for id_ in ids:
-        answer.need(id_ not in answer.indexes, "none of them")
+        answer.need(id_ not in answer.indexes, f"none of them, so not {id_}")
     for id_ in ids[:3]:
         read = it.a.get(SUBSCRIPTIONS, id_).must(200)
         read.need(read.reference["notification_index"] == 0, "index 0")
@@ -177,7 +177,8 @@ def all_who_meet_are_told(it):
         (it.a if url == "a" else it.b).subscription(id_, it.volume(site), url=url).must(200)
     answer = it.a.intent(it.id(), it.volume(site)).must(201)
     told = [(one["subscription_id"], by["uss_base_url"]) for by in answer.part("subscribers") for one in by["subscriptions"]]
-    answer.need(sorted(told) == sorted((id_, URL.format(url)) for id_, url in zip(ids, urls)), "the four, each once with its address")
+    answer.finds(ids, "the four, each once", [id_ for id_, _ in told])
+    answer.need(sorted(told) == sorted((id_, URL.format(url)) for id_, url in zip(ids, urls)), "the four, each at its address")
     answer.need(set(answer.indexes.values()) == {1}, "index 1 of each")
     if not it.dialect.is_standard:
         by_url = [by["uss_base_url"] for by in answer.value["subscribers"]]

@@ -1,0 +1,122 @@
+"""What a call raises. `maybe_made` says whether the change may have been made."""
+from __future__ import annotations
+
+import json
+import re
+from typing import Any, Optional, Sequence
+
+from .models import BadForm, Constraint, Intent, KeyMissing, decode
+from .pool import Response
+
+RULE = re.compile(r"([PH]\d+) ([A-Z]+)")
+# A proxy sends these before it forwards a request: at its rate limit, and if the request took too long to arrive.
+NOT_FORWARDED = (408, 429)
+
+
+class DssError(Exception):
+    """A call failed. `is_transient` says whether the same request may succeed later."""
+
+    is_transient = False
+
+    def __init__(self, what: str, maybe_made: bool = False) -> None:
+        super().__init__(what)
+        self.maybe_made = maybe_made
+
+
+class Unreachable(DssError):
+    """No connection could be opened. The request was not sent."""
+
+    is_transient = True
+
+
+class Unanswered(DssError):
+    """The connection ended or timed out before a response. A change was made, or it was not."""
+
+    is_transient = True
+
+
+class BadResponse(DssError):
+    """A response of success has another form than docs/openapi.yaml says."""
+
+
+class ResponseError(DssError):
+    """A response has a status of failure."""
+
+    def __init__(self, what: str, response: Response, maybe_made: bool = False) -> None:
+        super().__init__(f"{response.status} {what}", maybe_made)
+        self.status, self.body = response.status, response.body
+
+
+class Denial(ResponseError):
+    """The service denied the request and changed nothing. `rule` is such as `P8`, and `message` such as `P8 FRESH`.
+
+    `value` is the whole body. The gateway has messages of its own, whose `rule` is empty. `maybe_made` is True if an
+    earlier try of the same request was not answered. That try may have made the change."""
+
+    def __init__(self, message: str, response: Response, value: Any) -> None:
+        super().__init__(message, response)
+        found = RULE.fullmatch(message)
+        self.message, self.rule, self.value = message, found[1] if found else "", value
+
+
+class MissingKey(Denial):
+    """`P14 KEY`: the key lacks the current OVN of these references.
+
+    `over` is set if the response to the put was lost, the put was made, and it was repeated to find whom to notify. The
+    stored intent is then `over`, and the next put is an update of it."""
+
+    def __init__(self, body: KeyMissing, response: Response, value: Any) -> None:
+        super().__init__(body.message, response, value)
+        self.missing_operational_intents: Sequence[Intent] = body.missing_operational_intents
+        self.missing_constraints: Sequence[Constraint] = body.missing_constraints
+        self.over: Optional[Intent] = None
+
+
+class Fault(ResponseError):
+    """The service failed and changed nothing. At its quota a USS must delete something first."""
+
+    is_transient = True
+
+
+class Stopped(ResponseError):
+    """The service cannot tell what it stores. Read after its restart whether the change was made."""
+
+
+class ProxyError(ResponseError):
+    """Something in front of the service responded. `retry_after` is in seconds, if the response has it."""
+
+    def __init__(self, response: Response, maybe_made: bool) -> None:
+        super().__init__("from a proxy", response, maybe_made)
+        self.is_transient = response.status in NOT_FORWARDED or response.status >= 500
+        after = response.fields.get("retry-after", "")
+        self.retry_after = float(after) if re.fullmatch(r"\d{1,6}", after) else None
+
+
+def error_of(response: Response) -> Optional[ResponseError]:
+    """Returns the error of a response, or None if its status is one of success."""
+    if response.status in (200, 201):
+        return None
+    value = _json(response.body)
+    message = value.get("message") if isinstance(value, dict) else None
+    if not isinstance(message, str):
+        return ProxyError(response, response.status >= 500)
+    if message == "fault":
+        return Fault(message, response)
+    if message == "stopped":
+        return Stopped(message, response, True)
+    if message == "P14 KEY":
+        try:
+            return MissingKey(decode(KeyMissing, value), response, value)
+        except BadForm:
+            # the gateway lists references in the form of the standard
+            return Denial(message, response, value)
+    if RULE.fullmatch(message) or 400 <= response.status < 500 and response.status not in NOT_FORWARDED:
+        return Denial(message, response, value)
+    return ProxyError(response, response.status >= 500)
+
+
+def _json(body: bytes) -> Any:
+    try:
+        return json.loads(body)
+    except ValueError:
+        return None
