@@ -81,7 +81,7 @@ class Checkout:
         for name in "dss", "check", "HANDLES", ".ci/run", "README.md", "CHANGELOG.md", "CONTRIBUTING.md":
             self.top.joinpath(name).parent.mkdir(exist_ok=True, parents=True)
             shutil.copy2(TOP / name, self.top / name)
-        for name in "scripts", "examples", "docs", "deploy", "bench", "gateway":
+        for name in "scripts", "examples", "docs", "deploy", "bench", "gateway", "clients":
             shutil.copytree(TOP / name, self.top / name)
         lines = (TOP / "crates.txt").read_text().splitlines(True)
         lines = [it for it in lines if fnmatch.fnmatch(it.split(":")[0].split(" ")[0], crates)]
