@@ -85,7 +85,7 @@ def compile_sources(kit, made):
         module = room / "module.bc"
         if not module.is_file():
             raise Failure(f"rt try made no module: {tried.stdout[-2000:]!r} {tried.stderr[-2000:]!r}")
-        say("compiling, 2 to 8 minutes")
+        say("compiling, 4 to 10 minutes")
         words = [*FLAGS, f"--sysroot={kit / 'toolchain'}", "-c", "-x", "ir", str(module), "-o", f"{folder}/dss.o"]
         if subprocess.run([str(kit / "toolchain" / "bin" / "clang"), *words]).returncode:
             raise Failure("the kit's clang failed")
