@@ -33,12 +33,18 @@ class Changing(Service):
     def __enter__(self):
         super().__enter__()
         self.airspace, self.told = plain_policy.Airspace(0), b""
-        self.kept = self.connect()
+        self.kept = self.opened()
         return self
 
     def __exit__(self, *stopped):
         self.kept.close()
         super().__exit__(*stopped)
+
+    def opened(self):
+        """Returns a connection with a first response, so that it can be idle for a minute."""
+        connection = self.connect()
+        self.answer_to(connection, ("GET", f"{wire.AVAILABILITY}/uss-none", "Bearer tok-a", None))
+        return connection
 
     def write(self, text):
         """Replaces the token file atomically by one with that text."""
@@ -50,7 +56,10 @@ class Changing(Service):
         connection.sendall(wire.request(*call))
         came = b""
         while not (answers := wire.answers_of(came)):
-            came += connection.recv(1 << 16) or b"\r\n\r\n"
+            chunk = connection.recv(1 << 16)
+            if not chunk:
+                return came
+            came += chunk
         return answers[0]
 
     def checked(self, what, tokens):
@@ -63,7 +72,7 @@ class Changing(Service):
                 with self.connect() if new else contextlib.nullcontext(self.kept) as connection:
                     found += difference(f"{what}, {token}", self.answer_to(connection, call), wanted)
         self.kept.close()
-        self.kept = self.connect()
+        self.kept = self.opened()
         return found
 
     def lines(self):
