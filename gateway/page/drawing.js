@@ -1,4 +1,5 @@
-// The map itself: Mercator's projection, and cells on a canvas.
+// The map itself: Mercator's projection, and cells on a canvas over the ground.
+import { lineOf } from "./ground.js";
 
 const TILT = Math.PI / 180;
 const EARTH = 40075016;
@@ -50,8 +51,9 @@ function degrees(value, names, step) {
 }
 
 export class Drawing {
-  constructor(canvas) {
+  constructor(canvas, ground) {
     this.canvas = canvas;
+    this.ground = ground;
     this.context = canvas.getContext("2d");
     this.view = { x: 0.5, y: 0.5, scale: 1000 };
     this.area = [];
@@ -72,6 +74,7 @@ export class Drawing {
     this.height = this.canvas.clientHeight;
     this.canvas.width = Math.round(this.width * ratio);
     this.canvas.height = Math.round(this.height * ratio);
+    Object.assign(this.ground.canvas, { width: this.canvas.width, height: this.canvas.height });
     this.context.setTransform(ratio, 0, 0, ratio, 0, 0);
     this.last.view = null;
     if (this.isWhole) this.showWhole();
@@ -92,6 +95,7 @@ export class Drawing {
   // Without an area everything is looked at, and what is there first is what is framed.
   setArea(outlines, cells) {
     this.isEverywhere = !outlines.length;
+    this.ground.area = outlines.map((it) => lineOf([0, 2, 4, 6, 0].map((k) => [it[k], it[k + 1]])));
     this.area = (this.isEverywhere ? cells : outlines).map((it, k) => plane(`area ${k} ${it}`, it));
     this.showWhole();
   }
@@ -170,14 +174,11 @@ export class Drawing {
     const style = getComputedStyle(document.documentElement);
     this.colour = (name) => style.getPropertyValue(name).trim();
     const { context } = this;
-    context.fillStyle = this.colour("--outside");
-    context.fillRect(0, 0, this.width, this.height);
+    context.clearRect(0, 0, this.width, this.height);
+    this.drawGround();
     if (this.isMoving && this.last.view) {
       this.drawLast();
     } else {
-      context.fillStyle = this.colour("--ground");
-      if (this.isEverywhere) context.fillRect(0, 0, this.width, this.height);
-      else for (const it of this.area) this.trace([it], (path) => context.fill(path));
       this.drawGraticule();
       if (this.airspace) this.drawCells();
       this.drawWatched();
@@ -185,6 +186,14 @@ export class Drawing {
     }
     this.drawLabels();
     this.drawMiddle();
+  }
+
+  // Only where something of it has changed.
+  drawGround() {
+    const { view, width, height, ground } = this;
+    const key = [view.x, view.y, view.scale, width, height, ground.canvas.width, this.colour("--land"), ground.serial].join();
+    if (key !== this.groundKey) ground.draw(view, width, height, this.colour);
+    this.groundKey = key;
   }
 
   keepLast() {

@@ -1,6 +1,7 @@
 // The page: who may look, what is asked of the gateway and when, the controls, and the lists beside the map.
 import { Airspace, wordOf } from "./airspace.js";
 import { Drawing } from "./drawing.js";
+import { Ground } from "./ground.js";
 
 const EVERY = 3000; // milliseconds between two readings
 const STALE = 12; // seconds after which the service counts as one that does not answer
@@ -9,7 +10,8 @@ const MOST_LISTED = 200;
 const ALTITUDES = [null, ...range(0, 150, 10), ...range(150, 300, 25), ...range(300, 1000, 50), ...range(1000, 6001, 250)];
 
 const of = (id) => document.getElementById(id);
-const drawing = new Drawing(of("map"));
+const ground = new Ground(of("ground"));
+const drawing = new Drawing(of("map"), ground);
 let token = "", airspace = null, ahead = 0, altitude = null, lastAnswer = 0, skew = 0, timer = 0, asking = null, selection = 0;
 let isDue = false, resting = 0;
 
@@ -56,12 +58,24 @@ function take(data) {
   const isFirst = !airspace;
   airspace = new Airspace(data);
   if (isFirst) enter();
+  if (isFirst) layGround();
   if (isFirst) drawing.setArea(data.area, Object.values(data.cells));
   tellWhole(Boolean(data.subscriptions));
   const isSilent = data.fault && data.asked < data.now - 2 || data.asked && data.asked < data.now - STALE;
   tellFault(isSilent ? `The service does not answer${since(data.asked)}${data.fault ? `: ${data.fault}` : ""}` : "");
   boundTime();
   show();
+}
+
+// The map goes without a ground that cannot be read.
+async function layGround() {
+  for (const [path, take] of [["map/ground.json", (it) => ground.take(it)], ["map/ground.geojson", (it) => ground.add(it)]])
+    try {
+      take(await read(path));
+      drawing.draw();
+    } catch (fault) {
+      tellFault(`The ground cannot be drawn: ${fault.message}`);
+    }
 }
 
 // Whether the airspace was read as a whole, with the subscriptions.

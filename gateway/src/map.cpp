@@ -24,6 +24,9 @@ constexpr int kCoarsest = 6;
 constexpr long kArea = 8 * kCovered;
 // The shares of viewers, and of who asks for the page alone, in what is done at once. No supplier has such a name.
 constexpr const char *kShare = "/map", *kPageShare = "/map page";
+// The ground that the operator adds: none, and the most bytes of its file.
+constexpr const char* kNoGround = R"({"type":"FeatureCollection","features":[]})";
+constexpr size_t kGround = 8 << 20;
 // The page loads nothing from elsewhere, and runs nothing that is not a file of its own.
 constexpr const char* kPageFields =
     "Content-Security-Policy: default-src 'none'; script-src 'self'; style-src 'self'; connect-src 'self'; img-src 'self' data:; "
@@ -70,6 +73,33 @@ Moment moment_of(const std::string& target) {
   if (moment.altitude) *moment.altitude *= 10;
   return moment;
 }
+
+// ---- the operator's ground
+
+bool is_position(const json& it) {
+  auto is_degree = [&](size_t k, double most) { return it[k].is_number() && std::abs(it[k].get<double>()) <= most; };
+  return it.is_array() && it.size() >= 2 && is_degree(0, 180) && is_degree(1, 90);
+}
+
+// Whether it is a position, or lists of them to a depth.
+bool is_nested(const json& it, int depth) {
+  if (depth == 0) return is_position(it);
+  return it.is_array() && std::all_of(it.begin(), it.end(), [&](const json& one) { return is_nested(one, depth - 1); });
+}
+
+bool is_geometry(const json& it, int depth = 0) {
+  static const std::map<std::string, int> depths = {{"Point", 0},           {"MultiPoint", 1}, {"LineString", 1},
+                                                    {"MultiLineString", 2}, {"Polygon", 2},    {"MultiPolygon", 3}};
+  if (it.is_null()) return true;
+  if (!it.is_object() || !it.contains("type") || !it["type"].is_string()) return false;
+  std::string type = it["type"];
+  auto is_one = [&](const json& one) { return is_geometry(one, depth + 1); };
+  if (type == "GeometryCollection")
+    return depth < 8 && it.contains("geometries") && it["geometries"].is_array() && std::all_of(it["geometries"].begin(), it["geometries"].end(), is_one);
+  return depths.count(type) && it.contains("coordinates") && is_nested(it["coordinates"], depths.at(type));
+}
+
+bool is_feature(const json& it) { return it.is_object() && it.value("type", json()) == "Feature" && it.contains("geometry") && is_geometry(it["geometry"]); }
 
 double rounded(double degrees) { return std::round(degrees * 1e6) / 1e6; }
 
@@ -180,6 +210,17 @@ Reply data(const json& body, const char* type = "application/json") {
 
 }  // namespace
 
+std::string ground_of(const std::string& text, const std::string& file) {
+  if (text.size() > kGround) throw std::runtime_error(file + ": has over 8 MiB; simplify it");
+  json ground = json::parse(text, nullptr, false);
+  bool is_object = ground.is_object() && ground.contains("type") && ground["type"].is_string();
+  bool is_collection = is_object && ground["type"] == "FeatureCollection" && ground.contains("features") && ground["features"].is_array();
+  bool is_taken = is_collection ? std::all_of(ground["features"].begin(), ground["features"].end(), is_feature)
+                                : is_object && !ground["type"].get<std::string>().empty() && (is_feature(ground) || is_geometry(ground));
+  if (!is_taken) throw std::runtime_error(file + ": is no GeoJSON in degrees of WGS84 (RFC 7946); see the map of gateway/README.md");
+  return ground.dump(-1, ' ', false, json::error_handler_t::replace);
+}
+
 // From the operator's port of the service where that is said, and else by queries.
 std::unique_ptr<Sight> Map::sight_of(const std::string& token, const Options& options, Service& service) {
   if (options.airspace.empty()) return std::make_unique<Survey>(service, token, area_of(options.area));
@@ -189,7 +230,9 @@ std::unique_ptr<Sight> Map::sight_of(const std::string& token, const Options& op
 Map::Map(const Options& options, Service& service) : Map(tokens_of(options.tokens), options, service) {}
 
 Map::Map(const Tokens& tokens, const Options& options, Service& service)
-    : viewer_(tokens.viewer), sight_(sight_of(tokens.service, options, service)) {}
+    : viewer_(tokens.viewer),
+      ground_(options.ground.empty() ? kNoGround : ground_of(contents(options.ground), options.ground)),
+      sight_(sight_of(tokens.service, options, service)) {}
 
 Map::Tokens Map::tokens_of(const std::string& file) {
   std::istringstream lines(contents(file));
@@ -214,7 +257,7 @@ std::optional<Task> Map::admit(const Head& head, Note& note) {
   std::string path = head.target.substr(0, head.target.find('?'));
   if (path != "/map" && path.compare(0, 5, "/map/") != 0) return std::nullopt;
   auto file = page_file(path);
-  bool is_data = path == "/map/airspace.json" || path == "/map/airspace.geojson" || path == "/map/cell.json";
+  bool is_data = path == "/map/airspace.json" || path == "/map/airspace.geojson" || path == "/map/cell.json" || path == "/map/ground.geojson";
   if (!file && !is_data) throw Refusal(404, "there is no such path");
   note.route = path.substr(1);
   if (head.method != "GET") throw Refusal(405, "the path takes GET", "GET");
@@ -222,6 +265,7 @@ std::optional<Task> Map::admit(const Head& head, Note& note) {
   check_viewer(head);
   note.uss = "map";
   auto run = [this, path, target = head.target](auto&, auto&) {
+    if (path == "/map/ground.geojson") return Reply{200, ground_, "", "application/geo+json", kDataFields};
     Moment moment = moment_of(target);
     if (path == "/map/cell.json") return data(cell_of(*sight_, target, moment));
     auto picture = sight_->picture(moment);

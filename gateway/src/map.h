@@ -14,6 +14,7 @@ class Map {
     std::string tokens;  // a file: a line with the token of the service that it asks with, and one with the token of its viewers
     std::string area;    // tokens of cells, with commas; may be empty where there is an airspace
     std::string airspace;  // the URL of the operator's port of the service, where the airspace is taken from there
+    std::string ground;    // a GeoJSON file that the page draws on the ground; may be empty
   };
   Map(const Options& options, Service& service);
 
@@ -29,9 +30,12 @@ class Map {
   static std::unique_ptr<Sight> sight_of(const std::string& token, const Options& options, Service& service);
   void check_viewer(const Head& head) const;
 
-  std::string viewer_;
+  std::string viewer_, ground_;
   std::unique_ptr<Sight> sight_;
 };
+
+// A GeoJSON as the page takes it, of the text of a file; an exception where it is none.
+std::string ground_of(const std::string& text, const std::string& file);
 
 // For a new file of `tokens`: the token of a supplier of the service's token file that opens queries, and a drawn one.
 std::string make_map_tokens(const std::string& token_file, const std::string& uss);

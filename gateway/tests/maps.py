@@ -12,7 +12,7 @@ import shapes
 from flows import Place
 from properties import translate
 from world import (
-    ARBITRATION, CONSTRAINTS, FRONT, INTENTS, MANAGEMENT, MANHATTAN, STRATEGIC, SUBSCRIPTIONS, ZERO, Counted, Gateway, Service, circle, expect,
+    ARBITRATION, CONSTRAINTS, FRONT, INTENTS, MANAGEMENT, MANHATTAN, STRATEGIC, SUBSCRIPTIONS, TOP, ZERO, Counted, Gateway, Service, circle, expect,
     extent, free_port, intent, new_id, ovn)
 
 AREA = "89c25"  # New York, 32 cells of level 13 a side
@@ -311,6 +311,57 @@ def what_is_no_airspace(files, program):
         assert done.returncode == 1 and done.stderr.startswith("gateway: ") and done.stderr.count("\n") == 1, (url, done)
 
 
+# ---- the ground
+
+def the_ground(files, program):
+    """The shipped ground has all parts; a file of the operator is served to viewers only, and only if it is GeoJSON."""
+    shipped = json.loads((TOP / "gateway/page/ground.json").read_text())
+    assert len(shipped["land"]) > 1000 and len(shipped["borders"]) > 200 and len(shipped["lakes"]) > 50
+    assert ["Zurich", 853, 4738, 0] in shipped["cities"] and ["ZRH", 853, 4748] in shipped["airports"]
+    own = {"type": "FeatureCollection", "features": [
+        {"type": "Feature", "properties": {"name": "Hangar"}, "geometry": {"type": "Point", "coordinates": [8.5, 47.4]}},
+        {"type": "Feature", "properties": None, "geometry": {"type": "Polygon", "coordinates": [[[8, 47], [9, 47], [9, 48], [8, 47]]]}}]}
+    path = files.folder / "own.geojson"
+    path.write_text(json.dumps(own))
+    with over_whole(files, program, "--map-ground", str(path)) as place:
+        assert expect(place.gateway.ask(None, "GET", "/map/ground.json"), 200) == shipped
+        assert expect(place.read("/map/ground.geojson"), 200) == own
+        expect(place.gateway.ask(None, "GET", "/map/ground.geojson"), 401)
+    with over_map(files, program) as place:
+        assert expect(place.read("/map/ground.geojson"), 200)["features"] == []
+        words = place.gateway.words
+        for text in ("", "x", "[]", "{}", '{"type":"Point"}', '{"type":"Point","coordinates":[8,91]}', '{"type":"Polygon","coordinates":[8,47]}',
+                     '{"type":"FeatureCollection","features":[{"type":"Feature"}]}', '{"type":"Topology","arcs":[]}', '{"type":5}',
+                     '{"type":"FeatureCollection","features":[1]}', '{"type":"GeometryCollection","geometries":[{"type":"Point","coordinates":"x"}]}'):
+            path.write_text(text)
+            done = subprocess.run([program, "serve", *words, "--map-ground", path], capture_output=True, text=True, timeout=20)
+            assert done.returncode == 1 and "is no GeoJSON" in done.stderr and done.stderr.count("\n") == 1, (text, done)
+
+
+def the_ground_is_drawn(files, program):
+    """Land, water and the operator's own area have their colours on the page, in both themes, and change with the view."""
+    own = {"type": "Polygon", "coordinates": [[[-75, 40], [-73, 40], [-73, 41.5], [-75, 41.5], [-75, 40]]]}
+    path = files.folder / "own.geojson"
+    path.write_text(json.dumps(own))
+    with over_whole(files, program, "--map-ground", str(path), "--map-area", AREA) as place:
+        for scheme, land, water in (("light", [244, 243, 239], [219, 229, 237]), ("dark", [28, 34, 41], [16, 23, 30])):
+            with opened(place, 1200, 800, scheme) as page:
+                enter(page, place.viewer)
+                seen = f"({COLOURS})('ground').split(';')"
+                land, water = (",".join(map(str, it)) for it in (land, water))
+                # All of the area is below the operator's.
+                page.until(f"{seen}.length && !{seen}.includes('{land}') && !{seen}.includes('{water}')")
+                for _ in range(8):
+                    page.value("document.getElementById('farther').click()")
+                page.until(f"{seen}.includes('{land}') && {seen}.includes('{water}')")
+
+
+# The colours on a canvas that have more than 5,000 pixels.
+COLOURS = """(name) => { const c = document.getElementById(name), d = c.getContext('2d').getImageData(0, 0, c.width, c.height).data, n = {};
+    for (let k = 0; k < d.length; k += 4) { const it = `${d[k]},${d[k + 1]},${d[k + 2]}`; n[it] = (n[it] ?? 0) + 1; }
+    return Object.keys(n).filter((it) => n[it] > 5000).join(';'); }"""
+
+
 # ---- the page
 
 @contextlib.contextmanager
@@ -530,4 +581,4 @@ def ten_thousand_in_view(files, program):
 
 
 ALL = [who_may_look, without_the_option_there_is_no_map, where_things_are, many_are_found_together, a_wide_area_and_what_is_large, queries_are_few,
-       the_service_gone_and_back, the_whole_airspace, what_is_no_airspace, the_page, shapes_of_the_page, ten_thousand_in_view]
+       the_service_gone_and_back, the_whole_airspace, what_is_no_airspace, the_ground, the_ground_is_drawn, the_page, shapes_of_the_page, ten_thousand_in_view]
