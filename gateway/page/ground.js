@@ -1,5 +1,5 @@
 // The ground: land and water, lakes, borders, cities and airports, and what the operator's file adds.
-import { project } from "./drawing.js";
+import { project } from "./cells.js";
 
 const DIGITS = "ABCDEFGHIJKLMNOPQRSTUVWXYZabcdefghijklmnopqrstuvwxyz0123456789+/";
 const VALUES = new Map([...DIGITS].map((it, k) => [it, k]));
@@ -77,6 +77,15 @@ export class Ground {
     if (it.type === "MultiLineString") lines.push(...it.coordinates.map(lineOf));
     if (it.type === "Polygon") areas.push(...it.coordinates.map(lineOf));
     if (it.type === "MultiPolygon") areas.push(...it.coordinates.flat().map(lineOf));
+  }
+
+  // The name of the city next to a place on the plane, or of the place itself where none is near.
+  nearest(x, y) {
+    const far = (it) => Math.hypot(it.at[0] - x, it.at[1] - y);
+    const best = this.cities.reduce((best, it) => !best || far(it) < far(best) ? it : best, null);
+    if (best && far(best) < 0.004) return best.name;
+    const lat = 2 * Math.atan(Math.exp((0.5 - y) * 2 * Math.PI)) * 180 / Math.PI - 90, lng = (x - 0.5) * 360;
+    return `${Math.abs(lat).toFixed(1)}° ${lat < 0 ? "S" : "N"} ${Math.abs(lng).toFixed(1)}° ${lng < 0 ? "W" : "E"}`;
   }
 
   draw(view, width, height, colour) {

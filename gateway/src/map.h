@@ -2,6 +2,7 @@
 #pragma once
 
 #include <memory>
+#include <mutex>
 #include <optional>
 #include <string>
 
@@ -28,14 +29,14 @@ class Map {
   Map(const Tokens& tokens, const Options& options, Service& service);
   static Tokens tokens_of(const std::string& file);
   static std::unique_ptr<Sight> sight_of(const std::string& token, const Options& options, Service& service);
+  std::string changes_of(const std::string& target);
   void check_viewer(const Head& head) const;
 
   std::string viewer_, ground_;
   std::unique_ptr<Sight> sight_;
+  std::mutex mutex_;  // of the changes
+  Changes changes_;
 };
-
-// A GeoJSON as the page takes it, of the text of a file; an exception where it is none.
-std::string ground_of(const std::string& text, const std::string& file);
 
 // For a new file of `tokens`: the token of a supplier of the service's token file that opens queries, and a drawn one.
 std::string make_map_tokens(const std::string& token_file, const std::string& uss);
