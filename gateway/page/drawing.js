@@ -7,8 +7,8 @@ const TILT = Math.PI / 180;
 const EARTH = 40075016;
 const [FARTHEST, NEAREST] = [256, 5e7];
 // Up to so many references in view have outlines of their own, where a finest cell has so many pixels; otherwise pixels beside
-// another reference have the outline's colour.
-const [OUTLINED, SMALL, TINY] = [800, 7, 4];
+// another reference have the outline's colour. Lines around what is shared need more pixels.
+const [OUTLINED, SMALL, TINY, SHARED] = [800, 7, 4, 14];
 // From so many cells on, a map that moves is the last picture, moved along; it is drawn anew once it rests for so many milliseconds.
 const [MANY, REST] = [2000, 120];
 // How each state is filled, with stripes or without, and how its outline is drawn.
@@ -308,7 +308,7 @@ export class Drawing {
     }
     this.isOutlined = this.flights <= OUTLINED && this.finest >= SMALL;
     if (!this.isOutlined) this.paintEdges(places, cells, edges);
-    if (this.finest >= SMALL) this.paintShared(places, shared);
+    if (this.finest >= SHARED) this.paintShared(places, shared);
     this.pixels.getContext("2d").putImageData(this.image, 0, 0);
     this.context.imageSmoothingEnabled = false;
     this.context.drawImage(this.pixels, 0, 0, width, height);

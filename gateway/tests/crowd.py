@@ -24,7 +24,7 @@ def flights(place, count, spread):
     ovns, near, tokens = {}, collections.defaultdict(list), {}
     for k in range(count):
         uss, state = draw.choice(("uss-a", "uss-b", "uss-c")), draw.choice(STATES)
-        lat, lng = LAT + max(-2, min(2, draw.gauss(0, 0.5))) * spread, LNG + max(-2, min(2, draw.gauss(0, 0.7))) * spread
+        lat, lng = LAT + draw.gauss(0, 0.5) * spread, LNG + draw.gauss(0, 0.7) * spread
         volume = corridor(draw, lat, lng) if k % 4 == 0 else circle(lat, lng, draw.uniform(200, 1200))
         lower, start = draw.choice((0, 0, 30, 60, 120, 300, 600)), now - 60 + draw.choice((0, 0, 0, 0, 600, 1800))
         one = extent(volume, lower, lower + draw.choice((50, 90, 120)), start, start + draw.choice((3600, 7200, 10800)))

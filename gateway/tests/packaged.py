@@ -1,10 +1,12 @@
-"""The Debian package of the gateway that scripts/package makes.
+"""What scripts/package and gateway/fuzz make of the gateway.
 
-Cases check its paths, its program, its page, and the needs of its unit."""
+Cases check the package's paths, its program, its page, and the needs of its unit, and run the fuzzer."""
 import gzip
 import re
+import shutil
 import subprocess
 
+from maps import Skipped
 from world import TOP
 
 PATHS = {
@@ -37,5 +39,13 @@ def the_package(files, built):
     assert "dss\\-gateway tokens" in page and ".SH \"TRANSLATION\"" in page, page[:1000]
 
 
-# It takes the directory with the programs.
-ALL = [the_package]
+def readers_under_fuzzing(files, built):
+    """libFuzzer finds nothing within 30 seconds."""
+    if not shutil.which("clang++"):
+        raise Skipped("clang is not installed: apt-get install clang")
+    done = subprocess.run([TOP / "gateway" / "fuzz", "30"], capture_output=True, text=True, timeout=1800)
+    assert done.returncode == 0, done.stderr[-3000:]
+
+
+# They take the directory with the programs.
+ALL = [the_package, readers_under_fuzzing]

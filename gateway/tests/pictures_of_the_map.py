@@ -9,8 +9,8 @@ from crowd import flights
 from maps import enter, opened, over_whole
 from world import TOP, Files
 
-SIZES = [("", 1440, 900), ("-phone", 390, 844)]
-MOST = 37_000  # bytes of a picture
+# With the most bytes of a picture.
+SIZES = [("", 1440, 900, 55_000), ("-phone", 390, 844, 18_500)]
 
 
 def pictured(page, quality):
@@ -18,7 +18,7 @@ def pictured(page, quality):
 
 
 def take(place, name, count):
-    for size, width, height in SIZES:
+    for size, width, height, most in SIZES:
         for scheme in ("light", "dark"):
             with opened(place, width, height, scheme) as page:
                 enter(page, place.viewer)
@@ -26,7 +26,7 @@ def take(place, name, count):
                 if count < 1000:
                     page.value("document.querySelectorAll('#all button')[3].click()")
                 time.sleep(1.5)
-                data = next(it for it in (pictured(page, quality) for quality in (50, 30, 20, 12, 6, 3, 0)) if len(it) < MOST)
+                data = next(it for it in (pictured(page, quality) for quality in range(60, -1, -4)) if len(it) < most)
                 (TOP / "docs" / f"{name}{size}-{scheme}.webp").write_bytes(data)
 
 
