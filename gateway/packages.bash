@@ -1,6 +1,6 @@
 # Debian 12's packages of the gateway, for scripts that set `top` to the directory of the repository.
 
-packages=(g++ make libs2-dev libboost-dev nlohmann-json3-dev libtoml11-dev libssl-dev openssl curl)
+packages=(g++ make libs2-dev libboost-dev nlohmann-json3-dev libtoml11-dev libssl-dev zlib1g-dev openssl curl)
 
 # Installs the given packages that are missing.
 install_missing() {

@@ -1,84 +1,234 @@
-// What the page knows: references, the cells that they are in, and what shares a cell.
+// What the page knows: items of the gateway, where they are at a moment, and what meets there.
+import { cellOf, outlineOf } from "./cells.js";
 
-const LEAST_LEVEL = 6;
-const MOST_PAIRS = 500;
-
-const known = new Map();
-
-// Of a cell: its level, and the tokens of the coarser cells around it.
-function place(token) {
-  let found = known.get(token);
-  if (found) return found;
-  let id = BigInt("0x" + token.padEnd(16, "0")), lowest = id & -id;
-  const around = [];
-  const level = 30 - (lowest.toString(2).length - 1) / 2;
-  for (let k = level; k > LEAST_LEVEL; k--) {
-    lowest <<= 2n;
-    id = (id & -lowest) | lowest;
-    around.push(id.toString(16).padStart(16, "0").replace(/0+$/, ""));
-  }
-  known.set(token, found = { level, around });
-  return found;
-}
+const MOST_PAIRS = 500, MOST_TRIES = 300000;
+const ALWAYS = 1e15;
 
 // Most urgent first: the one that a cell has its colour of.
-const URGENT = ["Contingent", "Nonconforming", "constraint", "Activated", "Accepted"];
-export const wordOf = (reference) => reference.kind === "constraint" ? "constraint" : reference.state;
-const urgency = (reference) => URGENT.indexOf(wordOf(reference));
+export const STATES = ["Contingent", "Nonconforming", "constraint", "Activated", "Accepted"];
+export const stateOf = (item) => item.kind === "constraint" ? "constraint" : item.state;
+export const nameOf = (item) => (item.kind === "supplier" ? "u" : item.kind[0]) + item.id;
 
 export class Airspace {
-  constructor(data) {
-    this.data = data;
-    this.references = data.references;
-    this.subscriptions = data.subscriptions ?? [];
-    this.suppliers = [...new Set([...this.references.map((it) => it.manager), ...Object.keys(data.suppliers ?? {})])].sort();
-    this.waiting = new Set(this.references.flatMap((it) => it.perhaps)).size;
+  constructor() {
+    this.items = new Map();
+    this.version = "";
+    this.away = new Set();
+    this.serial = 0; // of what is known
+    this.build();
   }
 
-  get lastEnd() { return this.references.reduce((last, it) => Math.max(last, it.time_end), 0); }
+  // Takes an answer of the gateway; true where something changed.
+  take(data) {
+    const before = this.items.size;
+    if (data.is_all) this.items.clear();
+    for (const it of data.items) this.items.set(nameOf(it), it);
+    for (const name of data.gone) this.items.delete(name);
+    this.version = data.version;
+    this.isWhole = data.is_whole;
+    const away = new Set(data.away ?? []), isOther = away.size !== this.away.size || [...away].some((it) => !this.away.has(it));
+    this.away = away;
+    const isChanged = data.items.length > 0 || data.gone.length > 0 || data.is_all && before > 0;
+    if (isChanged) this.build();
+    return isChanged || isOther;
+  }
 
-  // Fills `shown`, `cells` and `pairs` for a moment. Until the service was asked for it, what may be there counts as there.
+  // Flat lists of the references, their volumes and the cells of these, coarse cells first.
+  build() {
+    this.serial++;
+    const all = [...this.items.values()];
+    this.references = all.filter((it) => it.kind === "intent" || it.kind === "constraint");
+    this.subscriptions = all.filter((it) => it.kind === "subscription");
+    this.suppliers = [...new Set(all.map((it) => it.kind === "supplier" ? it.id : it.manager))].sort();
+    this.indexOf = new Map(this.references.map((it, k) => [nameOf(it), k]));
+    this.rank = Uint8Array.from(this.references, (it) => STATES.indexOf(stateOf(it)));
+    const volumes = [], tokens = new Set();
+    this.waiting = 0;
+    this.references.forEach((it, reference) => {
+      for (const one of volumesOf(it)) {
+        volumes.push({ reference, ...one });
+        for (const token of one.tokens) tokens.add(token);
+        if (one.isPerhaps) this.waiting += one.tokens.length;
+      }
+    });
+    this.volumes = volumes;
+    this.firstVolume = new Int32Array(this.references.length + 1);
+    for (const it of volumes) this.firstVolume[it.reference + 1]++;
+    for (let k = 0; k < this.references.length; k++) this.firstVolume[k + 1] += this.firstVolume[k];
+    this.cells = [...tokens].map(cellOf).sort((a, b) => a.level - b.level);
+    const index = new Map(this.cells.map((it, k) => [it.token, k]));
+    this.parent = Int32Array.from(this.cells, (it) => index.get(it.around.find((one) => index.has(one))) ?? -1);
+    this.from = new Int32Array(volumes.length + 1);
+    volumes.forEach((it, k) => { this.from[k + 1] = this.from[k] + it.tokens.length; });
+    this.held = new Int32Array(this.from[volumes.length]);
+    let at = 0;
+    for (const it of volumes) for (const token of it.tokens) this.held[at++] = index.get(token);
+    this.referenceOf = Int32Array.from(volumes, (it) => it.reference);
+    this.perhaps = Uint8Array.from(volumes, (it) => it.isPerhaps ? 1 : 0);
+    this.isIntent = Uint8Array.from(this.references, (it) => it.kind === "intent" ? 1 : 0);
+    this.numbers = Float64Array.from(volumes.flatMap((it) => [it.start, it.end, it.lower, it.upper]));
+    const count = this.cells.length;
+    Object.assign(this, { top: new Int32Array(count), isSure: new Uint8Array(count), count: new Uint16Array(count), shared: new Uint8Array(count),
+      intents: new Uint16Array(count), last: new Int32Array(count), there: new Uint8Array(this.references.length), active: new Uint8Array(volumes.length) });
+    this.lastEnd = this.references.reduce((last, it) => Math.max(last, it.time_end), 0);
+  }
+
+  // Where the references are at a second and an altitude in metres or null: the most urgent reference of each cell, and what is shared.
   show(at, altitude) {
-    const { data } = this;
-    const wasAsked = data.at === at && (data.altitude ?? null) === altitude;
-    const isThere = (it) => wasAsked ? it.is_there : it.time_start <= at && at <= it.time_end;
-    this.shown = this.references.filter(isThere);
-    this.watching = this.subscriptions.filter(isThere);
-    const cells = this.byToken = new Map();
-    for (const it of this.shown)
-      for (const name of ["in", "perhaps"])
-        for (const token of it[name]) {
-          if (!cells.has(token)) cells.set(token, { token, level: place(token).level, own: { in: [], perhaps: [] } });
-          cells.get(token).own[name].push(it);
+    const { top, isSure, count, shared, intents, last, there, active, numbers, from, held, rank, references, parent,
+      referenceOf, perhaps, isIntent } = this;
+    const height = altitude === null ? null : altitude * 10;
+    top.fill(-1);
+    isSure.fill(0);
+    count.fill(0);
+    intents.fill(0);
+    last.fill(-1);
+    there.fill(0);
+    active.fill(0);
+    const away = this.away.size ? Uint8Array.from(references, (it) => this.away.has(nameOf(it))) : new Uint8Array(references.length);
+    for (let v = 0, k = 0; v < active.length; v++, k += 4) {
+      if (at < numbers[k] || at > numbers[k + 1] || height !== null && (height < numbers[k + 2] || height > numbers[k + 3])) continue;
+      const reference = referenceOf[v], isPerhaps = perhaps[v];
+      if (away[reference]) continue;
+      active[v] = there[reference] = 1;
+      for (let n = from[v]; n < from[v + 1]; n++) {
+        const cell = held[n], before = top[cell];
+        const isBefore = before < 0 || (isSure[cell] ? !isPerhaps && rank[reference] < rank[before] : !isPerhaps || rank[reference] < rank[before]);
+        if (isBefore) {
+          top[cell] = reference;
+          isSure[cell] = isPerhaps ? 0 : 1;
         }
-    for (const cell of cells.values()) {
-      const held = [cell, ...place(cell.token).around.map((it) => cells.get(it)).filter(Boolean)];
-      for (const name of ["in", "perhaps"]) cell[name] = held.flatMap((it) => it.own[name]).sort((a, b) => urgency(a) - urgency(b));
-      cell.all = cell.in.concat(cell.perhaps);
-      cell.isSure = cell.in.length > 0;
-      cell.isShared = cell.in.length > 1 && cell.in.some((it) => it.kind === "intent");
+        if (isPerhaps || last[cell] === reference) continue;
+        last[cell] = reference;
+        count[cell]++;
+        intents[cell] += isIntent[reference];
+      }
     }
-    this.cells = [...cells.values()].sort((a, b) => a.level - b.level);
-    this.findPairs();
-  }
-
-  // Of a supplier without references only a whole reading tells.
-  availabilityOf(uss) {
-    return this.data.suppliers?.[uss] ?? this.references.find((it) => it.manager === uss)?.uss_availability ?? "";
-  }
-
-  findPairs() {
-    const found = new Map();
-    for (const cell of this.cells)
-      for (let i = 0; cell.isShared && i < cell.in.length; i++)
-        for (let j = i + 1; j < cell.in.length && found.size < MOST_PAIRS; j++) {
-          const pair = [cell.in[i], cell.in[j]];
-          if (pair.every((it) => it.kind === "constraint")) continue;
-          const key = pair.map((it) => it.kind + it.id).sort().join();
-          if (!found.has(key)) found.set(key, { pair, token: cell.token, cells: 0 });
-          found.get(key).cells++;
+    for (let cell = 0; cell < top.length; cell++) {
+      const above = parent[cell];
+      if (above >= 0) {
+        count[cell] += count[above];
+        intents[cell] += intents[above];
+        const is = top[above];
+        if (is >= 0 && (top[cell] < 0 || (isSure[above] === isSure[cell] ? rank[is] < rank[top[cell]] : isSure[above]))) {
+          top[cell] = is;
+          isSure[cell] = isSure[above];
         }
-    this.pairs = [...found.values()];
-    this.hasMorePairs = found.size >= MOST_PAIRS;
+      }
+      shared[cell] = count[cell] > 1 && intents[cell] ? 1 : 0;
+    }
+    this.shownCount = there.reduce((sum, it) => sum + it, 0);
   }
+
+  get shown() { return this.references.filter((_, k) => this.there[k]); }
+
+  // The references in a cell at the moment that is shown, the most urgent first.
+  referencesIn(cell) {
+    const cells = new Set(), found = new Set();
+    for (let it = cell; it >= 0; it = this.parent[it]) cells.add(it);
+    for (let v = 0; v < this.volumes.length; v++) {
+      if (!this.active[v]) continue;
+      for (let n = this.from[v]; n < this.from[v + 1]; n++) if (cells.has(this.held[n])) found.add(this.volumes[v].reference);
+    }
+    return [...found].sort((a, b) => this.rank[a] - this.rank[b]).map((it) => this.references[it]);
+  }
+
+  // The outline of a reference where it is at the moment, or of all that it ever has.
+  outline(item) {
+    const reference = this.indexOf.get(nameOf(item));
+    const volumes = reference === undefined ? volumesOf(item) : this.volumes.slice(this.firstVolume[reference], this.firstVolume[reference + 1]);
+    const isThere = reference !== undefined && this.there[reference];
+    const shown = volumes.filter((_, k) => !isThere || this.active[this.firstVolume[reference] + k]);
+    const key = isThere && shown.length !== volumes.length ? shown.map((it) => volumes.indexOf(it)).join() : "";
+    const made = outlines.get(item) ?? outlines.set(item, new Map()).get(item);
+    if (!made.has(key)) made.set(key, outlineOf([...new Set(shown.flatMap((it) => it.tokens))]));
+    return made.get(key);
+  }
+
+  availabilityOf(uss) {
+    return this.items.get("u" + uss)?.uss_availability ?? this.references.find((it) => it.manager === uss)?.uss_availability ?? "";
+  }
+
+  isThere(item) {
+    const reference = this.indexOf.get(nameOf(item));
+    return reference !== undefined && this.there[reference] === 1;
+  }
+
+  // Pairs that share a cell at the moment that is shown, and an altitude where these are known; at least one is an intent.
+  pairs() {
+    const inCell = new Map();
+    for (let v = 0; v < this.volumes.length; v++) {
+      if (!this.active[v] || this.volumes[v].isPerhaps) continue;
+      for (let n = this.from[v]; n < this.from[v + 1]; n++) {
+        const list = inCell.get(this.held[n]);
+        if (list) list.push(v);
+        else inCell.set(this.held[n], [v]);
+      }
+    }
+    const found = new Map();
+    let tries = 0;
+    for (const [cell, own] of inCell) {
+      if (!this.shared[cell]) continue;
+      const all = [...own];
+      for (let it = this.parent[cell]; it >= 0; it = this.parent[it]) all.push(...inCell.get(it) ?? []);
+      for (let a = 0; a < own.length; a++)
+        for (let b = a + 1; b < all.length; b++) {
+          if (++tries > MOST_TRIES || found.size >= MOST_PAIRS) return { pairs: [...found.values()], hasMore: true };
+          const [one, other] = [this.volumes[own[a]], this.volumes[all[b]]];
+          if (one.reference === other.reference || one.lower > other.upper || other.lower > one.upper) continue;
+          const pair = [this.references[one.reference], this.references[other.reference]];
+          if (pair.every((it) => it.kind === "constraint")) continue;
+          const key = Math.min(one.reference, other.reference) * 1e6 + Math.max(one.reference, other.reference);
+          if (!found.has(key)) found.set(key, { pair, cell });
+        }
+    }
+    return { pairs: [...found.values()], hasMore: false };
+  }
+
+  // Groups of references that are near each other, the largest first: each with the box around its cells on the plane.
+  groups() {
+    const width = 1 / 240, bins = new Map();
+    this.references.forEach((it, k) => {
+      const v = this.firstVolume[k];
+      if (this.from[v] === this.from[this.firstVolume[k + 1]]) return;
+      const { corners } = this.cells[this.held[this.from[v]]];
+      const key = `${Math.floor(corners[0] / width)},${Math.floor(corners[1] / width)}`;
+      if (!bins.has(key)) bins.set(key, []);
+      bins.get(key).push(k);
+    });
+    const groups = [];
+    for (const [key, list] of bins) {
+      if (!list.length) continue;
+      const group = { references: [], box: [Infinity, Infinity, -Infinity, -Infinity] }, open = [key];
+      while (open.length) {
+        const at = open.pop(), held = bins.get(at);
+        if (!held?.length) continue;
+        group.references.push(...held);
+        bins.set(at, []);
+        const [x, y] = at.split(",").map(Number);
+        for (let a = -1; a <= 1; a++) for (let b = -1; b <= 1; b++) open.push(`${x + a},${y + b}`);
+      }
+      for (const k of group.references)
+        for (let n = this.from[this.firstVolume[k]]; n < this.from[this.firstVolume[k + 1]]; n++) {
+          const { corners } = this.cells[this.held[n]];
+          for (let c = 0; c < 8; c++) {
+            group.box[c % 2] = Math.min(group.box[c % 2], corners[c]);
+            group.box[2 + c % 2] = Math.max(group.box[2 + c % 2], corners[c]);
+          }
+        }
+      groups.push(group);
+    }
+    return groups.sort((a, b) => b.references.length - a.references.length);
+  }
+}
+
+const outlines = new WeakMap();
+
+// The volumes of an item; of one whose volumes are not known, where it is and where it may be.
+export function volumesOf(item) {
+  const words = (text) => text ? text.split(" ") : [];
+  if (item.volumes)
+    return item.volumes.map((it) => ({ tokens: words(it.cells), start: it.start, end: it.end, lower: it.lower, upper: it.upper, isPerhaps: false }));
+  return ["in", "perhaps"].filter((it) => item[it]).map((it) => (
+    { tokens: words(item[it]), start: item.time_start, end: item.time_end, lower: -ALWAYS, upper: ALWAYS, isPerhaps: it === "perhaps" }));
 }

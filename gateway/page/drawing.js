@@ -1,42 +1,26 @@
-// The map itself: Mercator's projection, and cells on a canvas.
+// The map itself: Mercator's projection, and references on canvases over the ground. A picture in memory says which cell each pixel
+// is in; so a change of time or altitude costs one pass over the pixels, however many references there are.
+import { nameOf, STATES, stateOf } from "./airspace.js";
+import { project } from "./cells.js";
 
 const TILT = Math.PI / 180;
 const EARTH = 40075016;
 const [FARTHEST, NEAREST] = [256, 5e7];
-// Pixels under which a cell has no outline, and how many cells have one path: a path of thousands takes long.
-const [SMALL, AT_ONCE] = [8, 100];
+// Up to so many references in view have outlines of their own, where a finest cell has so many pixels; otherwise pixels beside
+// another reference have the outline's colour. Lines around what is shared need more pixels.
+const [OUTLINED, SMALL, TINY, SHARED] = [800, 7, 4, 14];
 // From so many cells on, a map that moves is the last picture, moved along; it is drawn anew once it rests for so many milliseconds.
-const [MANY, REST] = [2000, 150];
-
-export function project(lng, lat) {
-  const bounded = Math.max(-85, Math.min(85, lat));
-  return [lng / 360 + 0.5, 0.5 - Math.log(Math.tan(Math.PI / 4 + bounded * TILT / 2)) / (2 * Math.PI)];
-}
+const [MANY, REST] = [2000, 120];
+// How each state is filled, with stripes or without, and how its outline is drawn.
+const FILLS = { Contingent: 0.5, Nonconforming: 0.14, constraint: 0.08, Activated: 0.5, Accepted: 0.14 };
+const STRIPES = { Nonconforming: [1, 0.75], constraint: [2, 0.6] };
+const WIDTHS = { Contingent: 3.5, Nonconforming: 2, constraint: 1, Activated: 1.2, Accepted: 1.6 };
+const DASHES = { Nonconforming: [6, 4], constraint: [2, 3] };
+// Which stripes a pixel lies on: 1 for rising ones, 2 for falling ones.
+const STRIPE_OF = Uint8Array.from({ length: 64 }, (_, k) => (((k >> 3) + k) % 8 < 2 ? 1 : 0) + (((k >> 3) - k + 64) % 8 < 1 ? 2 : 0));
 
 const latitude = (y) => 2 * Math.atan(Math.exp((0.5 - y) * 2 * Math.PI)) / TILT - 90;
 const longitude = (x) => (x - 0.5) * 360;
-
-// Outlines of cells on the plane, by their tokens: a cell never moves.
-const planes = new Map();
-
-function plane(token, numbers) {
-  let found = planes.get(token);
-  if (!found) {
-    found = [];
-    for (let k = 0; k < 8; k += 2) found.push(...project(numbers[k], numbers[k + 1]));
-    planes.set(token, found);
-  }
-  return found;
-}
-
-function holds(outline, x, y) {
-  let isInside = false;
-  for (let k = 0, last = 6; k < 8; last = k, k += 2) {
-    const [ax, ay, bx, by] = [outline[k], outline[k + 1], outline[last], outline[last + 1]];
-    if (ay > y !== by > y && x < (bx - ax) * (y - ay) / (by - ay) + ax) isInside = !isInside;
-  }
-  return isInside;
-}
 
 // A step of 1, 2 or 5 of some power of ten.
 function niceStep(least) {
@@ -50,18 +34,21 @@ function degrees(value, names, step) {
 }
 
 export class Drawing {
-  constructor(canvas) {
-    this.canvas = canvas;
+  // On the canvases of the ground, of the references, and of what is over them.
+  constructor(canvas, over, ground) {
+    Object.assign(this, { canvas, over, ground });
     this.context = canvas.getContext("2d");
+    this.overContext = over.getContext("2d");
+    this.pixels = document.createElement("canvas");
     this.view = { x: 0.5, y: 0.5, scale: 1000 };
-    this.area = [];
     this.airspace = null;
-    this.colourOf = () => "--accepted";
-    this.selected = null;
+    this.home = [];
+    this.colourOf = (it) => `--${stateOf(it).toLowerCase()}`;
+    this.selected = this.hovered = null;
     this.watched = [];
-    this.isEverywhere = false;
-    this.isDue = this.isMoving = this.usesKeys = false;
-    this.last = { canvas: document.createElement("canvas"), view: null };
+    this.isDue = this.isOverDue = this.isMoving = this.usesKeys = false;
+    this.built = "";
+    this.onView = () => {};
     new ResizeObserver(() => this.resize()).observe(canvas);
     matchMedia("(prefers-color-scheme: dark)").addEventListener("change", () => this.draw());
   }
@@ -70,16 +57,15 @@ export class Drawing {
     const ratio = window.devicePixelRatio || 1;
     this.width = this.canvas.clientWidth;
     this.height = this.canvas.clientHeight;
-    this.canvas.width = Math.round(this.width * ratio);
-    this.canvas.height = Math.round(this.height * ratio);
-    this.context.setTransform(ratio, 0, 0, ratio, 0, 0);
-    this.last.view = null;
-    if (this.isWhole) this.showWhole();
-    this.draw();
+    for (const it of [this.canvas, this.over, this.ground.canvas])
+      Object.assign(it, { width: Math.round(this.width * ratio), height: Math.round(this.height * ratio) });
+    this.ratio = ratio;
+    if (this.isHome) this.showHome();
+    this.drawNow();
   }
 
   moveOn() {
-    this.isWhole = false;
+    this.isHome = false;
     this.isMoving = this.airspace?.cells.length > MANY;
     clearTimeout(this.rest);
     if (this.isMoving) this.rest = setTimeout(() => {
@@ -87,40 +73,51 @@ export class Drawing {
       this.draw();
     }, REST);
     this.draw();
+    this.onView();
   }
 
-  // Without an area everything is looked at, and what is there first is what is framed.
-  setArea(outlines, cells) {
-    this.isEverywhere = !outlines.length;
-    this.area = (this.isEverywhere ? cells : outlines).map((it, k) => plane(`area ${k} ${it}`, it));
-    this.showWhole();
+  // What is framed first and again by Home: a box on the plane.
+  setHome(box) {
+    this.home = box;
+    this.showHome();
   }
 
-  showWhole() {
-    const box = [Infinity, Infinity, -Infinity, -Infinity];
-    for (const it of this.area)
-      for (let k = 0; k < 8; k++) {
-        box[k % 2] = Math.min(box[k % 2], it[k]);
-        box[2 + k % 2] = Math.max(box[2 + k % 2], it[k]);
-      }
-    this.isWhole = true;
-    if (this.area.length && this.width) this.frame(...box);
+  showHome() {
+    this.isHome = true;
+    if (this.home.length && this.width) this.frame(...this.home);
   }
 
   frame(left, top, right, bottom) {
-    const scale = 0.92 * Math.min(this.width / (right - left), this.height / (bottom - top));
-    this.view = { x: (left + right) / 2, y: (top + bottom) / 2, scale: Math.max(FARTHEST, Math.min(NEAREST, scale)) };
-    this.draw();
+    const scale = 0.86 * Math.min(this.width / (right - left), this.shownHeight() / (bottom - top));
+    this.go((left + right) / 2, (top + bottom) / 2, scale);
   }
 
-  // Goes to a cell, nearer where it would be small.
-  goTo(token) {
-    const it = this.outline(token);
-    if (!it) return;
-    const size = Math.max(it[0], it[2], it[4], it[6]) - Math.min(it[0], it[2], it[4], it[6]);
-    this.view = { x: (it[0] + it[4]) / 2, y: (it[1] + it[5]) / 2, scale: Math.max(this.view.scale, Math.min(NEAREST, 60 / size)) };
-    this.isWhole = false;
+  // The longitude and latitude of the middle of what is not covered.
+  place() {
+    const { x, y, scale } = this.view;
+    return [longitude(x), latitude(y - (this.covered ?? 0) / 2 / scale)];
+  }
+
+  goTo(lng, lat, scale) { this.go(...project(lng, lat), scale); }
+
+  // A sheet may be over the lower part of the map.
+  shownHeight() { return this.height - (this.covered ?? 0); }
+
+  go(x, y, scale) {
+    scale = Math.max(FARTHEST, Math.min(NEAREST, scale));
+    this.view = { x, y: y + (this.covered ?? 0) / 2 / scale, scale };
     this.draw();
+    this.onView();
+  }
+
+  // Shows a box: moves there where it is not in view, and nearer where it would be small.
+  reveal([left, top, right, bottom]) {
+    const { view: { x, y, scale }, width } = this, height = this.shownHeight(), size = Math.max(right - left, bottom - top);
+    const middle = y - (this.covered ?? 0) / 2 / scale;
+    const isInView = left > x - width / 2 / scale && right < x + width / 2 / scale && top > middle - height / 2 / scale && bottom < middle + height / 2 / scale;
+    if (isInView && size * scale > 24) return;
+    this.isHome = false;
+    this.go((left + right) / 2, (top + bottom) / 2, Math.min(0.6 * Math.min(width, height) / size, Math.max(scale, 60 / size)));
   }
 
   move(dx, dy) {
@@ -139,22 +136,17 @@ export class Drawing {
 
   at(px, py) { return [this.view.x + (px - this.width / 2) / this.view.scale, this.view.y + (py - this.height / 2) / this.view.scale]; }
 
-  pixels(outline) {
-    const { x, y, scale } = this.view;
-    return outline.map((it, k) => k % 2 ? (it - y) * scale + this.height / 2 : (it - x) * scale + this.width / 2);
-  }
-
-  // The finest cell that is drawn at a point.
+  // The finest cell that is drawn at a point, by its number; -1 where there is none.
   cellAt(px, py) {
-    const [x, y] = this.at(px, py);
-    const found = this.airspace?.cells.filter((it) => holds(this.outline(it.token), x, y)) ?? [];
-    return found.length ? found[found.length - 1] : null;
+    const [x, y] = [Math.floor(px), Math.floor(py)];
+    if (!this.ids || x < 0 || y < 0 || x >= this.width || y >= this.height) return -1;
+    return this.ids[y * this.width + x] - 1;
   }
 
-  // Also of a cell that was once there; none of others.
-  outline(token) {
-    const numbers = this.airspace?.data.cells[token];
-    return planes.get(token) ?? (numbers && plane(token, numbers));
+  // The most urgent reference at a point.
+  referenceAt(px, py) {
+    const cell = this.cellAt(px, py), top = cell < 0 ? -1 : this.airspace.top[cell];
+    return top < 0 ? null : this.airspace.references[top];
   }
 
   draw() {
@@ -167,58 +159,271 @@ export class Drawing {
   }
 
   drawNow() {
-    const style = getComputedStyle(document.documentElement);
-    this.colour = (name) => style.getPropertyValue(name).trim();
-    const { context } = this;
-    context.fillStyle = this.colour("--outside");
-    context.fillRect(0, 0, this.width, this.height);
-    if (this.isMoving && this.last.view) {
-      this.drawLast();
-    } else {
-      context.fillStyle = this.colour("--ground");
-      if (this.isEverywhere) context.fillRect(0, 0, this.width, this.height);
-      else for (const it of this.area) this.trace([it], (path) => context.fill(path));
-      this.drawGraticule();
-      if (this.airspace) this.drawCells();
-      this.drawWatched();
-      this.keepLast();
+    if (!this.width) return;
+    const style = getComputedStyle(document.documentElement), known = new Map();
+    this.colour = (name) => known.get(name) ?? known.set(name, style.getPropertyValue(name).trim()).get(name);
+    this.drawGround();
+    const { context, ratio } = this;
+    context.setTransform(1, 0, 0, 1, 0, 0);
+    context.clearRect(0, 0, this.canvas.width, this.canvas.height);
+    context.setTransform(ratio, 0, 0, ratio, 0, 0);
+    if (this.airspace) {
+      if (this.isMoving && this.painted) {
+        this.drawLast();
+      } else {
+        this.findCells();
+        this.paint();
+        this.drawOutlines();
+      }
     }
-    this.drawLabels();
-    this.drawMiddle();
+    this.drawOver();
   }
 
-  keepLast() {
-    const { canvas, last } = this;
-    if (!(this.airspace?.cells.length > MANY)) return;
-    Object.assign(last.canvas, { width: canvas.width, height: canvas.height });
-    last.canvas.getContext("2d").drawImage(canvas, 0, 0);
-    last.view = { ...this.view };
+  // Only where something of it has changed.
+  drawGround() {
+    const { view, width, height, ground } = this;
+    const key = [view.x, view.y, view.scale, width, height, ground.canvas.width, this.colour("--land"), ground.serial].join();
+    if (key !== this.groundKey) ground.draw(view, width, height, this.colour);
+    this.groundKey = key;
   }
 
   drawLast() {
-    const { view, width, height } = this, { canvas, view: old } = this.last, factor = view.scale / old.scale;
-    this.context.drawImage(canvas, (old.x - view.x) * view.scale + width / 2 * (1 - factor),
+    const { view, width, height, painted: old } = this, factor = view.scale / old.scale;
+    this.context.drawImage(this.pixels, (old.x - view.x) * view.scale + width / 2 * (1 - factor),
       (old.y - view.y) * view.scale + height / 2 * (1 - factor), width * factor, height * factor);
   }
 
-  // One path of the outlines, filled and drawn along.
-  trace(outlines, use) {
-    const path = new Path2D(), { x, y, scale } = this.view, [dx, dy] = [this.width / 2 - x * scale, this.height / 2 - y * scale];
-    for (const it of outlines) {
-      path.moveTo(it[0] * scale + dx, it[1] * scale + dy);
-      for (let k = 2; k < 8; k += 2) path.lineTo(it[k] * scale + dx, it[k + 1] * scale + dy);
-      path.closePath();
+  // For each pixel the number of its cell and one more, or 0: the finest of the cells that are around it.
+  findCells() {
+    const { view: { x, y, scale }, width, height, airspace } = this;
+    const key = [x, y, scale, width, height, airspace.serial].join();
+    if (key === this.built) return;
+    this.built = key;
+    if (this.ids?.length !== width * height) {
+      this.ids = new Int32Array(width * height);
+      Object.assign(this.pixels, { width, height });
+      this.image = this.pixels.getContext("2d").createImageData(width, height);
+      this.out = new Uint32Array(this.image.data.buffer);
+      this.known = new Uint8Array(0);
     }
-    use(path);
+    const { ids } = this, [dx, dy] = [width / 2 - x * scale, height / 2 - y * scale];
+    ids.fill(0);
+    this.finest = Infinity;
+    this.inView = new Uint8Array(airspace.cells.length);
+    const px = new Float64Array(4), py = new Float64Array(4);
+    airspace.cells.forEach(({ corners }, cell) => {
+      const turn = Math.round(x - corners[0]) * scale;
+      let [left, right, low, high] = [Infinity, -Infinity, Infinity, -Infinity];
+      for (let k = 0; k < 4; k++) {
+        px[k] = corners[2 * k] * scale + dx + turn;
+        py[k] = corners[2 * k + 1] * scale + dy;
+        left = Math.min(left, px[k]);
+        right = Math.max(right, px[k]);
+        low = Math.min(low, py[k]);
+        high = Math.max(high, py[k]);
+      }
+      if (right < 0 || left > width || high < 0 || low > height) return;
+      this.inView[cell] = 1;
+      this.finest = Math.min(this.finest, high - low);
+      // one that is smaller than a pixel still has one
+      const isTiny = right - left < 1.5 || high - low < 1.5;
+      if (isTiny) {
+        const at = [Math.floor((left + right) / 2), Math.floor((low + high) / 2)];
+        if (at[0] >= 0 && at[0] < width && at[1] >= 0 && at[1] < height) ids[at[1] * width + at[0]] = cell + 1;
+      }
+      for (let row = Math.max(0, Math.ceil(low - 0.5)), end = Math.min(height - 1, Math.floor(high - 0.5)); row <= end; row++) {
+        let [from, to] = [Infinity, -Infinity];
+        for (let k = 0; k < 4; k++) {
+          const n = (k + 1) & 3, level = row + 0.5;
+          if (py[k] > level === py[n] > level) continue;
+          const cut = px[k] + (level - py[k]) / (py[n] - py[k]) * (px[n] - px[k]);
+          from = Math.min(from, cut);
+          to = Math.max(to, cut);
+        }
+        const [first, last] = [Math.max(0, Math.ceil(from - 0.5)), Math.min(width, Math.floor(to - 0.5) + 1)];
+        if (last > first) ids.fill(cell + 1, row * width + first, row * width + last);
+      }
+    });
+    // where each row has cells
+    this.out.fill(0);
+    this.rows = new Int32Array(2 * height);
+    for (let row = 0; row < height; row++) {
+      let [from, to] = [row * width, (row + 1) * width];
+      while (from < to && ids[from] === 0) from++;
+      while (to > from && ids[to - 1] === 0) to--;
+      this.rows[2 * row] = from;
+      this.rows[2 * row + 1] = to;
+    }
+    // pixels whose neighbour on the right or below is in another cell
+    const edges = [];
+    if (this.finest >= TINY)
+      for (let row = 0, at = 0; row < height - 1; row++, at++)
+        for (let column = 0; column < width - 1; column++, at++)
+          if (ids[at] !== ids[at + 1] || ids[at] !== ids[at + width]) edges.push(at);
+    this.edges = Int32Array.from(edges);
   }
 
-  isInView(it) {
-    const { x, y, scale } = this.view, [across, up] = [this.width / 2 / scale, this.height / 2 / scale];
-    return Math.max(it[0], it[2], it[4], it[6]) >= x - across && Math.min(it[0], it[2], it[4], it[6]) <= x + across &&
-      Math.max(it[1], it[3], it[5], it[7]) >= y - up && Math.min(it[1], it[3], it[5], it[7]) <= y + up;
+  // The styles of references: numbers from 1 on, each with four colours by stripes, and one of an outline.
+  styles() {
+    const { airspace, colourOf } = this, numbers = new Map(), fills = [0, 0, 0, 0, 0, 0, 0, 0], edges = [0, 0];
+    const isFar = this.finest < SMALL;
+    const styleOf = new Uint16Array(airspace.references.length);
+    airspace.references.forEach((it, k) => {
+      const state = stateOf(it), name = colourOf(it), key = state + name;
+      if (!numbers.has(key)) {
+        numbers.set(key, numbers.size + 1);
+        const colour = this.colour(name), [stripe, ink] = STRIPES[state] ?? [0, 0];
+        const fill = FILLS[state] + (isFar ? 0.35 : 0); // so small that they have no outline
+        for (const isSure of [true, false]) {
+          for (let k = 0; k < 4; k++) fills.push(packed(colour, isSure ? k & stripe ? ink : fill : 0.12));
+          edges.push(packed(colour, isSure ? 0.95 : 0.5));
+        }
+      }
+      styleOf[k] = numbers.get(key);
+    });
+    return { styleOf, fills: Uint32Array.from(fills), edges: Uint32Array.from(edges) };
   }
 
-  isSmall(it) { return Math.abs(it[0] - it[4]) * this.view.scale < SMALL; }
+  paint() {
+    const { airspace, width, height, ids, out, edges: places } = this, { top, isSure, shared } = airspace;
+    const key = [airspace.serial, this.colour("--land"), this.colourKey, this.finest < SMALL].join();
+    if (key !== this.styleKey) Object.assign(this, { styleKey: key, style: this.styles() });
+    const { styleOf, fills, edges } = this.style;
+    const cells = new Uint16Array(top.length + 1);
+    this.flights = 0;
+    const seen = new Uint8Array(airspace.references.length);
+    for (let cell = 0; cell < top.length; cell++) {
+      const it = top[cell];
+      if (it < 0) continue;
+      cells[cell + 1] = 2 * styleOf[it] + (isSure[cell] ? 0 : 1);
+      if (this.inView[cell] && !seen[it]) {
+        seen[it] = 1;
+        this.flights++;
+      }
+    }
+    const { rows } = this;
+    for (let row = 0; row < height; row++) {
+      const stripes = (row & 7) << 3, begin = row * width, end = rows[2 * row + 1];
+      for (let at = rows[2 * row]; at < end; at++) out[at] = fills[cells[ids[at]] << 2 | STRIPE_OF[stripes | (at - begin & 7)]];
+    }
+    this.isOutlined = this.flights <= OUTLINED && this.finest >= SMALL;
+    if (!this.isOutlined) this.paintEdges(places, cells, edges);
+    if (this.finest >= SHARED) this.paintShared(places, shared);
+    this.pixels.getContext("2d").putImageData(this.image, 0, 0);
+    this.context.imageSmoothingEnabled = false;
+    this.context.drawImage(this.pixels, 0, 0, width, height);
+    this.painted = { ...this.view };
+  }
+
+  // An outline in the colour of the more urgent of two neighbours.
+  paintEdges(places, cells, edges) {
+    const { airspace: { top, rank }, ids, out, width } = this;
+    for (const at of places) {
+      const cell = ids[at];
+      for (const next of [at + 1, at + width]) {
+        const other = ids[next];
+        const [a, b] = [cell ? top[cell - 1] : -1, other ? top[other - 1] : -1];
+        if (a === b) continue;
+        const isOwn = b < 0 || a >= 0 && rank[a] <= rank[b];
+        out[isOwn ? at : next] = edges[cells[isOwn ? cell : other]];
+      }
+    }
+  }
+
+  // A thin line two pixels inside of where more than one is.
+  paintShared(places, shared) {
+    const { ids, out, width } = this, ink = packed(this.colour("--ink"), 0.85);
+    const isShared = (at) => ids[at] > 0 && shared[ids[at] - 1];
+    for (const at of places)
+      for (const step of [1, width]) {
+        const [here, there] = [isShared(at), isShared(at + step)];
+        if (here && !there && isShared(at - 2 * step)) out[at - 2 * step] = ink;
+        if (there && !here && isShared(at + 3 * step)) out[at + 3 * step] = ink;
+      }
+  }
+
+  // Where few are in view, each has an outline of its own, the most urgent on top.
+  drawOutlines() {
+    const { airspace, context } = this;
+    if (!this.isOutlined) return;
+    const paths = new Map();
+    const inView = this.airspace.references.filter((_, k) => airspace.there[k] && this.isInView(k));
+    for (const it of inView) {
+      const key = `${STATES.length - STATES.indexOf(stateOf(it))} ${this.colourOf(it)}`;
+      if (!paths.has(key)) paths.set(key, [stateOf(it), this.colourOf(it), new Path2D()]);
+      this.trace(airspace.outline(it), paths.get(key)[2]);
+    }
+    context.lineJoin = "round";
+    for (const [, [state, colour, path]] of [...paths].sort()) {
+      context.strokeStyle = this.colour(colour);
+      context.lineWidth = WIDTHS[state];
+      context.setLineDash(DASHES[state] ?? []);
+      context.stroke(path);
+    }
+    context.setLineDash([]);
+  }
+
+  isInView(reference) {
+    const { firstVolume, from, held } = this.airspace;
+    for (let n = from[firstVolume[reference]]; n < from[firstVolume[reference + 1]]; n++) if (this.inView[held[n]]) return true;
+    return false;
+  }
+
+  trace(rings, path) {
+    const { view: { x, y, scale }, width, height } = this;
+    for (const ring of rings) {
+      const [dx, dy] = [width / 2 + (Math.round(x - ring[0]) - x) * scale, height / 2 - y * scale];
+      path.moveTo(ring[0] * scale + dx, ring[1] * scale + dy);
+      for (let k = 2; k < ring.length; k += 2) path.lineTo(ring[k] * scale + dx, ring[k + 1] * scale + dy);
+    }
+    return path;
+  }
+
+  // ---- over the references
+
+  drawOverSoon() {
+    if (this.isOverDue || this.isDue) return;
+    this.isOverDue = true;
+    requestAnimationFrame(() => {
+      this.isOverDue = false;
+      if (this.colour) this.drawOver();
+    });
+  }
+
+  drawOver() {
+    const { overContext: context, ratio, width, height } = this;
+    context.setTransform(1, 0, 0, 1, 0, 0);
+    context.clearRect(0, 0, this.over.width, this.over.height);
+    context.setTransform(ratio, 0, 0, ratio, 0, 0);
+    this.drawWatched(context);
+    for (const [it, colour, line] of [[this.hovered, "--ink", 3], [this.selected, "--focus", 4]]) {
+      if (!it || !this.airspace) continue;
+      const path = this.trace(this.airspace.outline(it), new Path2D());
+      context.lineJoin = "round";
+      context.strokeStyle = this.colour("--ground");
+      context.lineWidth = line + 3;
+      context.stroke(path);
+      context.strokeStyle = this.colour(colour);
+      context.lineWidth = line;
+      context.stroke(path);
+    }
+    this.over.dataset.hovered = this.hovered ? nameOf(this.hovered) : "";
+    this.over.dataset.selected = this.selected ? nameOf(this.selected) : "";
+    this.drawLabels(context, width, height);
+    this.drawMiddle(context);
+  }
+
+  // Where subscriptions are, by lines of dots.
+  drawWatched(context) {
+    if (!this.watched.length) return;
+    context.strokeStyle = this.colour("--ink");
+    context.lineWidth = 2;
+    context.setLineDash([2, 5]);
+    const path = new Path2D();
+    for (const it of this.watched) this.trace(this.airspace.outline(it), path);
+    context.stroke(path);
+    context.setLineDash([]);
+  }
 
   // Lines of latitude and longitude, as lists of degrees and pixels.
   graticule() {
@@ -231,8 +436,9 @@ export class Drawing {
     return { step, across, up };
   }
 
-  drawGraticule() {
-    const { context, width, height } = this, { across, up } = this.graticule();
+  // What the lines are, and a scale, over the cells.
+  drawLabels(context, width, height) {
+    const { step, across, up } = this.graticule(), low = this.covered ?? 0;
     context.strokeStyle = this.colour("--lines");
     context.lineWidth = 1;
     context.beginPath();
@@ -245,11 +451,6 @@ export class Drawing {
       context.lineTo(width, py);
     }
     context.stroke();
-  }
-
-  // What the lines are, and a scale, over the cells.
-  drawLabels() {
-    const { context, width, height } = this, { step, across, up } = this.graticule();
     context.font = "11px system-ui, sans-serif";
     context.textAlign = "left";
     context.lineJoin = "round";
@@ -260,12 +461,12 @@ export class Drawing {
       context.strokeText(text, px, py);
       context.fillText(text, px, py);
     };
-    for (const [lng, px] of across) write(degrees((lng + 540) % 360 - 180, "EW", step), px + 4, height - 6);
-    for (const [lat, py] of up) if (py < height - 24) write(degrees(lat, "NS", step), 4, py - 4);
+    for (const [lng, px] of across) write(degrees((lng + 540) % 360 - 180, "EW", step), px + 4, height - low - 6);
+    for (const [lat, py] of up) if (py < height - low - 24) write(degrees(lat, "NS", step), 4, py - 4);
     // a bar of a length that is easily read, at the latitude of the middle
     const metre = this.view.scale / (EARTH * Math.cos(latitude(this.view.y) * TILT));
     const length = niceStep(50 / metre);
-    const [px, py] = [width - 14 - length * metre, height - 24];
+    const [px, py] = [width - 14 - length * metre, height - low - 24];
     context.lineWidth = 2;
     context.strokeStyle = this.colour("--ink");
     context.beginPath();
@@ -279,101 +480,10 @@ export class Drawing {
     write(length >= 1000 ? `${length / 1000} km` : `${length} m`, width - 14, py - 9);
   }
 
-  drawCells() {
-    const { context } = this;
-    const inView = this.airspace.cells.filter((it) => this.isInView(this.outline(it.token)));
-    const groups = new Map();
-    for (const it of inView) {
-      const outline = this.outline(it.token);
-      const key = `${it.isSure ? 1 : 0}${this.isSmall(outline) ? 1 : 0}${this.colourOf(it.all[0])}`;
-      if (!groups.has(key)) groups.set(key, []);
-      groups.get(key).push(outline);
-    }
-    for (const [key, outlines] of [...groups].sort()) {
-      const [isSure, isSmall] = [key[0] === "1", key[1] === "1"];
-      context.fillStyle = context.strokeStyle = this.colour(key.slice(2));
-      context.lineWidth = 1;
-      context.setLineDash(isSure ? [] : [4, 4]);
-      for (let k = 0; k < outlines.length; k += AT_ONCE)
-        this.trace(outlines.slice(k, k + AT_ONCE), (path) => {
-          context.globalAlpha = isSure ? isSmall ? 0.6 : 0.4 : 0.12;
-          context.fill(path);
-          context.globalAlpha = isSure ? 0.9 : 0.6;
-          if (!isSmall) context.stroke(path);
-        });
-    }
-    context.globalAlpha = 1;
-    context.setLineDash([]);
-    this.hatch(inView.filter((it) => it.all.some((one) => one.kind === "constraint")));
-    this.drawShared(inView.filter((it) => it.isShared));
-    this.drawSelected();
-  }
-
-  // Constraints have stripes, so that they are seen below what flies there.
-  hatch(cells) {
-    if (!cells.length) return;
-    const { context } = this;
-    context.save();
-    this.trace(cells.map((it) => this.outline(it.token)), (path) => context.clip(path));
-    context.strokeStyle = this.colour("--constraint");
-    context.lineWidth = 1.2;
-    context.globalAlpha = 0.55;
-    context.beginPath();
-    for (let at = -this.height; at < this.width; at += 9) {
-      context.moveTo(at, this.height);
-      context.lineTo(at + this.height, 0);
-    }
-    context.stroke();
-    context.restore();
-  }
-
-  // Where more than one is: an outline and their number, or a dot where the cell is too small for these.
-  drawShared(cells) {
-    const { context } = this;
-    context.strokeStyle = context.fillStyle = this.colour("--ink");
-    context.lineWidth = 2;
-    context.font = "bold 13px system-ui, sans-serif";
-    context.textAlign = "center";
-    context.textBaseline = "middle";
-    const large = cells.filter((it) => !this.isSmall(this.outline(it.token)));
-    for (let k = 0; k < large.length; k += AT_ONCE)
-      this.trace(large.slice(k, k + AT_ONCE).map((it) => this.outline(it.token)), (path) => context.stroke(path));
-    for (const it of cells) {
-      const p = this.pixels(this.outline(it.token)), [px, py] = [(p[0] + p[4]) / 2, (p[1] + p[5]) / 2];
-      if (this.isSmall(this.outline(it.token))) context.fillRect(px - 1, py - 1, 2, 2);
-      if (Math.abs(p[0] - p[4]) < 26 || Math.abs(p[1] - p[5]) < 20) continue;
-      context.lineWidth = 3.5;
-      context.strokeStyle = this.colour("--ground");
-      context.strokeText(it.in.length, px, py);
-      context.fillText(it.in.length, px, py);
-    }
-    context.textBaseline = "alphabetic";
-  }
-
-  // Where subscriptions are, by lines of dots.
-  drawWatched() {
-    const { context } = this;
-    const outlines = this.watched.map((it) => this.outline(it)).filter((it) => it && this.isInView(it));
-    context.strokeStyle = this.colour("--ink");
-    context.lineWidth = 2;
-    context.setLineDash([2, 5]);
-    for (let k = 0; k < outlines.length; k += AT_ONCE) this.trace(outlines.slice(k, k + AT_ONCE), (path) => context.stroke(path));
-    context.setLineDash([]);
-  }
-
-  drawSelected() {
-    const { context, selected } = this;
-    const outlines = (selected?.tokens ?? []).map((it) => this.outline(it)).filter(Boolean);
-    if (!outlines.length) return;
-    context.lineWidth = 4;
-    context.strokeStyle = this.colour("--focus");
-    this.trace(outlines, (path) => context.stroke(path));
-  }
-
   // What Enter takes, while the keyboard is used.
-  drawMiddle() {
+  drawMiddle(context) {
     if (!this.canvas.matches(":focus-visible") && !(this.usesKeys && this.canvas === document.activeElement)) return;
-    const { context } = this, [px, py] = [Math.round(this.width / 2) + 0.5, Math.round(this.height / 2) + 0.5];
+    const [px, py] = [Math.round(this.width / 2) + 0.5, Math.round(this.height / 2) + 0.5];
     context.strokeStyle = this.colour("--ink");
     context.lineWidth = 1.5;
     context.beginPath();
@@ -383,4 +493,10 @@ export class Drawing {
     }
     context.stroke();
   }
+}
+
+// A colour of the form #rrggbb and how much it covers, as a number of four bytes.
+function packed(colour, alpha) {
+  const number = parseInt(colour.slice(1, 7), 16);
+  return (Math.round(255 * alpha) << 24 | (number & 255) << 16 | (number >> 8 & 255) << 8 | number >> 16) >>> 0;
 }

@@ -1,5 +1,11 @@
 #include "gateway.h"
 
+#include <array>
+#include <iostream>
+
+#include <openssl/rand.h>
+#include <strings.h>
+
 #include "refusal.h"
 #include "translate.h"
 
@@ -21,6 +27,42 @@ void check_framing(const Head& head) {
 
 void check_method(const std::string& method, const std::string& taken, const char* why) {
   if ((", " + taken + ",").find(" " + method + ",") == std::string::npos) throw Refusal(405, why + taken, taken);
+}
+
+// What to do about a rule of the service that was broken.
+constexpr std::array<std::pair<const char*, const char*>, 12> kAdvice = {{
+    {"P6 AREA", "the volumes cover too much: send several requests"},
+    {"P7 FOUND", "nothing of this kind has this id, or it was deleted: query the area"},
+    {"P8 FRESH", "the id is in use: read it, and update it if it is yours, or use a new random UUID"},
+    {"P9 MANAGER", "another USS manages it: leave it to its manager"},
+    {"P10 VERSION", "the OVN or version in the path is not the current one: read the current one, and decide again"},
+    {"P11 ROLE", "the token lacks a scope that this needs: get a token with it"},
+    {"P12 CHANGE", "it cannot change to this state: delete it, and create another one"},
+    {"P13 ENDED", "no volume ends after the current time: send a later time_end"},
+    {"P14 KEY", "the key lacks the current OVN of what is listed: ask each manager at its uss_base_url, and add the OVNs to the key"},
+    {"P15 LIMIT", "a limit of versions is reached: delete it, and create it again"},
+    {"P16 SUBSCRIPTION", "the subscription does not exist or is of another USS: name one of yours"},
+    {"P17 DEPENDED", "intents name the subscription: delete them first, or update them without it"},
+}};
+
+void explain(json& answer) {
+  auto message = answer.find("message");
+  if (message == answer.end()) return;
+  for (const auto& [rule, advice] : kAdvice)
+    if (*message == rule) {
+      *message = std::string(rule) + ": " + advice;
+      return;
+    }
+}
+
+constexpr const char* kReports = "/dss/v1/reports";
+constexpr size_t kReport = 65536;
+
+// Leaves the tokens out of what is written down of a report.
+void redact(json& it) {
+  if (it.is_string() && strncasecmp(it.get_ref<const std::string&>().c_str(), "authorization", 13) == 0) it = "Authorization: (left out)";
+  if (it.is_structured())
+    for (json& one : it) redact(one);
 }
 
 Reply reply_of(const Answer& answer) { return {answer.status, answer.body.dump(-1, ' ', false, json::error_handler_t::replace), ""}; }
@@ -46,6 +88,14 @@ Task Gateway::admit(const Head& head, Note& note) {
   }
   auto of_map = map_ ? map_->admit(head, note) : std::nullopt;
   if (of_map) return *of_map;
+  if (head.target == kReports) {
+    note.route = "reports";
+    check_method(head.method, "POST", "the path takes ");
+    if (head.count("Authorization") != 1) throw Refusal(401, "one field Authorization is needed");
+    Caller caller = callers_.caller(head.value("Authorization"), std::time(nullptr));
+    note.uss = caller.uss;
+    return {caller.uss, true, [uss = caller.uss](const std::string& text, const std::atomic<bool>&) { return report(uss, text); }};
+  }
   auto route = route_of(head.target);
   if (!route) throw Refusal(404, "there is no such path");
   note.route = route->kind;
@@ -64,6 +114,28 @@ Reply Gateway::health() {
   return reply_of({200, {{"service", "answers"}}, nullptr});
 }
 
+// A line of the log has the report, with an id that its sender gets.
+Reply Gateway::report(const std::string& uss, const std::string& text) {
+  if (text.size() > kReport) throw Refusal(413, "a report has at most 65,536 bytes");
+  read_json(text);  // else a Refusal
+  json body = json::parse(text);
+  if (!body.contains("exchange") || !body["exchange"].is_object()) throw Refusal(400, "exchange must be an object");
+  unsigned char drawn[16];
+  if (RAND_bytes(drawn, sizeof drawn) != 1) throw std::runtime_error("no id can be drawn");
+  drawn[6] = (drawn[6] & 15) | 64;
+  drawn[8] = (drawn[8] & 63) | 128;
+  std::string id;
+  for (size_t k = 0; k < sizeof drawn; k++) {
+    if (k == 4 || k == 6 || k == 8 || k == 10) id += '-';
+    id += {"0123456789abcdef"[drawn[k] >> 4], "0123456789abcdef"[drawn[k] & 15]};
+  }
+  body["report_id"] = id;
+  Reply reply = reply_of({201, body, nullptr});
+  redact(body);
+  std::cerr << "gateway: report of " + uss + " " + body.dump(-1, ' ', true, json::error_handler_t::replace) + "\n";
+  return reply;
+}
+
 // What the service answers to a caller, in the standard's form.
 Reply Gateway::pass(const Call& call, const std::string& text, const std::atomic<bool>& is_gone) try {
   Budget budget(kSeconds, &is_gone);
@@ -73,6 +145,7 @@ Reply Gateway::pass(const Call& call, const std::string& text, const std::atomic
   Answer answer = ask(call, service, body, budget);
   Intents(secret_, wish_, call.caller, service).mark(answer.body);
   answer.body = answer_for_supplier(std::move(answer.body));
+  explain(answer.body);
   return reply_of(answer);
 } catch (const json::exception&) {
   throw Refusal(502, "the service's answer has not its form");

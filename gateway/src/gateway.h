@@ -39,6 +39,7 @@ class Gateway {
   struct Call;  // what is asked by whom
 
   Reply health();
+  static Reply report(const std::string& uss, const std::string& text);
   Reply pass(const Call& call, const std::string& text, const std::atomic<bool>& is_gone);
   Answer ask(const Call& call, Upstream& service, const json& body, const Budget& budget);
   Answer change_intent(const Call& call, Upstream& service, const json& body, const Budget& budget);

@@ -17,7 +17,7 @@ namespace {
 constexpr const char* kUsage =
     "gateway serve --port N|--socket PATH --service N --tokens FILE --keys FILE --issuer TEXT --audience TEXT --secret FILE\n"
     "              [--new-subscription make|ignore|refuse] [--connections N] [--kept-connections N]\n"
-    "              [--map-token FILE [--map-area CELL,CELL..] [--airspace-url http://127.0.0.1:N]]\n"
+    "              [--map-token FILE [--map-area CELL,CELL..] [--airspace-url http://127.0.0.1:N] [--map-ground FILE]]\n"
     "gateway tokens --secret FILE --suppliers FILE\n"
     "gateway map-token --tokens FILE --supplier USS\n"
     "gateway translate [--now SECONDS]\n";
@@ -50,8 +50,9 @@ void serve_by(const Options& options) {
   int kept = number_of(or_else("kept-connections", kKept), 0, 100, "count of connections");
   if (options.count("map-token") != (options.count("map-area") || options.count("airspace-url")))
     throw std::runtime_error("--map-token goes with --map-area or --airspace-url, and they with it");
+  if (options.count("map-ground") && !options.count("map-token")) throw std::runtime_error("--map-ground goes with --map-token");
   std::optional<Map::Options> map;
-  if (options.count("map-token")) map = {options.at("map-token"), or_else("map-area", ""), or_else("airspace-url", "")};
+  if (options.count("map-token")) map = {options.at("map-token"), or_else("map-area", ""), or_else("airspace-url", ""), or_else("map-ground", "")};
   Gateway gateway({{options.at("tokens"), options.at("keys"), options.at("issuer"), options.at("audience")}, options.at("secret"),
                    wish_of(or_else("new-subscription", "make")), number_of(options.at("service"), 1, 65535, "port"), size_t(kept),
                    map});
@@ -111,7 +112,7 @@ int run(const std::vector<std::string>& words) {
   std::vector<std::string> rest(words.begin() + !words.empty(), words.end());
   if (command == "serve") {
     serve_by(options_of(rest, {"service", "tokens", "keys", "issuer", "audience", "secret"},
-                        {"port", "socket", "new-subscription", "connections", "kept-connections", "map-token", "map-area", "airspace-url"}));
+                        {"port", "socket", "new-subscription", "connections", "kept-connections", "map-token", "map-area", "airspace-url", "map-ground"}));
     return 0;
   }
   if (command == "tokens") {

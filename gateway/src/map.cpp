@@ -8,7 +8,9 @@
 #include <openssl/crypto.h>
 #include <openssl/rand.h>
 #include <strings.h>
+#include <zlib.h>
 
+#include "ground.h"
 #include "page.h"
 #include "refusal.h"
 #include "survey.h"
@@ -24,6 +26,11 @@ constexpr int kCoarsest = 6;
 constexpr long kArea = 8 * kCovered;
 // The shares of viewers, and of who asks for the page alone, in what is done at once. No supplier has such a name.
 constexpr const char *kShare = "/map", *kPageShare = "/map page";
+// The least bytes that are packed, and how hard zlib tries.
+constexpr size_t kPacked = 1000;
+constexpr int kEffort = 4;
+// The ground that the operator adds, where that is none.
+constexpr const char* kNoGround = R"({"type":"FeatureCollection","features":[]})";
 // The page loads nothing from elsewhere, and runs nothing that is not a file of its own.
 constexpr const char* kPageFields =
     "Content-Security-Policy: default-src 'none'; script-src 'self'; style-src 'self'; connect-src 'self'; img-src 'self' data:; "
@@ -178,6 +185,35 @@ Reply data(const json& body, const char* type = "application/json") {
   return {200, body.dump(-1, ' ', false, json::error_handler_t::replace), "", type, kDataFields};
 }
 
+// Whether the client takes what is packed by gzip.
+bool takes_packed(const Head& head) {
+  std::istringstream codings(head.value("Accept-Encoding"));
+  for (std::string it; std::getline(codings, it, ',');) {
+    it.erase(std::remove(it.begin(), it.end(), ' '), it.end());
+    if (it == "gzip" || (it.compare(0, 7, "gzip;q=") == 0 && it.find_first_of("123456789", 7) != std::string::npos)) return true;
+  }
+  return false;
+}
+
+// A reply as it is, or packed where that is worth it.
+Reply packed(Reply reply) {
+  reply.fields += "Vary: Accept-Encoding\r\n";
+  z_stream stream{};
+  if (reply.body.size() < kPacked || deflateInit2(&stream, kEffort, Z_DEFLATED, MAX_WBITS + 16, MAX_MEM_LEVEL, Z_DEFAULT_STRATEGY) != Z_OK) return reply;
+  std::string made(deflateBound(&stream, reply.body.size()), '\0');
+  stream.next_in = reinterpret_cast<Bytef*>(reply.body.data());
+  stream.avail_in = uInt(reply.body.size());
+  stream.next_out = reinterpret_cast<Bytef*>(made.data());
+  stream.avail_out = uInt(made.size());
+  bool is_done = deflate(&stream, Z_FINISH) == Z_STREAM_END;
+  made.resize(stream.total_out);
+  deflateEnd(&stream);
+  if (!is_done) return reply;
+  reply.body = std::move(made);
+  reply.fields += "Content-Encoding: gzip\r\n";
+  return reply;
+}
+
 }  // namespace
 
 // From the operator's port of the service where that is said, and else by queries.
@@ -189,7 +225,9 @@ std::unique_ptr<Sight> Map::sight_of(const std::string& token, const Options& op
 Map::Map(const Options& options, Service& service) : Map(tokens_of(options.tokens), options, service) {}
 
 Map::Map(const Tokens& tokens, const Options& options, Service& service)
-    : viewer_(tokens.viewer), sight_(sight_of(tokens.service, options, service)) {}
+    : viewer_(tokens.viewer),
+      ground_(options.ground.empty() ? kNoGround : ground_of(contents(options.ground), options.ground)),
+      sight_(sight_of(tokens.service, options, service)) {}
 
 Map::Tokens Map::tokens_of(const std::string& file) {
   std::istringstream lines(contents(file));
@@ -210,23 +248,56 @@ void Map::check_viewer(const Head& head) const {
   if (token.size() != viewer_.size() || CRYPTO_memcmp(token.data(), viewer_.data(), token.size()) != 0) throw Refusal(401, "the token of the map is needed");
 }
 
+// What changed since a version; and, where items have no volumes, which are not there at a moment at which they may be by time.
+std::string Map::changes_of(const std::string& target) {
+  Moment moment = moment_of(target);
+  size_t from = target.find("since=");
+  std::string version = from == std::string::npos ? "" : target.substr(from + 6, target.find('&', from) - from - 6), changed;
+  Sight::State state;
+  {
+    std::lock_guard<std::mutex> lock(mutex_);
+    state = sight_->fill(changes_);
+    changed = changes_.since(version);
+  }
+  json head = {{"now", long(std::time(nullptr))}, {"asked", state.asked}, {"is_whole", sight_->is_whole()}};
+  if (!state.fault.empty()) head["fault"] = state.fault;
+  if (version.empty()) {
+    head["area"] = json::array();
+    for (S2CellId it : sight_->area()) head["area"].push_back(outline_of(it));
+  }
+  if (!sight_->is_whole() && !moment.is_all()) {
+    json& away = head["away"] = json::array();
+    auto picture = sight_->picture(moment);
+    for (size_t kind = 0; kind < picture.placed.size(); kind++)
+      for (const auto& [id, it] : picture.placed[kind])
+        if (!it.is_there) away.push_back(kItems[kind].first + id);
+  }
+  std::string text = head.dump(-1, ' ', false, json::error_handler_t::replace);
+  return text.substr(0, text.size() - 1) + "," + changed + "}";
+}
+
 std::optional<Task> Map::admit(const Head& head, Note& note) {
   std::string path = head.target.substr(0, head.target.find('?'));
   if (path != "/map" && path.compare(0, 5, "/map/") != 0) return std::nullopt;
   auto file = page_file(path);
-  bool is_data = path == "/map/airspace.json" || path == "/map/airspace.geojson" || path == "/map/cell.json";
+  bool is_data = path == "/map/airspace.json" || path == "/map/airspace.geojson" || path == "/map/cell.json" || path == "/map/ground.geojson" ||
+                 path == "/map/changes.json";
   if (!file && !is_data) throw Refusal(404, "there is no such path");
   note.route = path.substr(1);
   if (head.method != "GET") throw Refusal(405, "the path takes GET", "GET");
-  if (file) return Task{kPageShare, false, [it = *file](auto&, auto&) { return Reply{200, std::string(it.text), "", it.type, kPageFields}; }};
+  bool may_pack = takes_packed(head);
+  auto sent = [may_pack](Reply reply) { return may_pack ? packed(std::move(reply)) : reply; };
+  if (file) return Task{kPageShare, false, [sent, it = *file](auto&, auto&) { return sent({200, std::string(it.text), "", it.type, kPageFields}); }};
   check_viewer(head);
   note.uss = "map";
-  auto run = [this, path, target = head.target](auto&, auto&) {
+  auto run = [this, path, sent, target = head.target](auto&, auto&) {
+    if (path == "/map/ground.geojson") return sent({200, ground_, "", "application/geo+json", kDataFields});
+    if (path == "/map/changes.json") return sent({200, changes_of(target), "", "application/json", kDataFields});
     Moment moment = moment_of(target);
-    if (path == "/map/cell.json") return data(cell_of(*sight_, target, moment));
+    if (path == "/map/cell.json") return sent(data(cell_of(*sight_, target, moment)));
     auto picture = sight_->picture(moment);
     bool is_for_page = path == "/map/airspace.json";
-    return is_for_page ? data(airspace_of(*sight_, picture, moment)) : data(features_of(picture, moment), "application/geo+json");
+    return sent(is_for_page ? data(airspace_of(*sight_, picture, moment)) : data(features_of(picture, moment), "application/geo+json"));
   };
   return Task{kShare, false, run};
 }

@@ -2,6 +2,7 @@
 #pragma once
 
 #include <memory>
+#include <mutex>
 #include <optional>
 #include <string>
 
@@ -14,6 +15,7 @@ class Map {
     std::string tokens;  // a file: a line with the token of the service that it asks with, and one with the token of its viewers
     std::string area;    // tokens of cells, with commas; may be empty where there is an airspace
     std::string airspace;  // the URL of the operator's port of the service, where the airspace is taken from there
+    std::string ground;    // a GeoJSON file that the page draws on the ground; may be empty
   };
   Map(const Options& options, Service& service);
 
@@ -27,10 +29,13 @@ class Map {
   Map(const Tokens& tokens, const Options& options, Service& service);
   static Tokens tokens_of(const std::string& file);
   static std::unique_ptr<Sight> sight_of(const std::string& token, const Options& options, Service& service);
+  std::string changes_of(const std::string& target);
   void check_viewer(const Head& head) const;
 
-  std::string viewer_;
+  std::string viewer_, ground_;
   std::unique_ptr<Sight> sight_;
+  std::mutex mutex_;  // of the changes
+  Changes changes_;
 };
 
 // For a new file of `tokens`: the token of a supplier of the service's token file that opens queries, and a drawn one.

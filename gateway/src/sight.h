@@ -8,6 +8,7 @@
 #include <string>
 #include <tuple>
 
+#include "changes.h"
 #include "geometry.h"
 #include "upstream.h"
 
@@ -24,6 +25,23 @@ struct Moment {
 
 using References = std::map<std::string, json>;  // by their ids, as they are shown to everybody
 
+// The letter of an item's name, and its kind: references by theirs, then subscriptions and suppliers.
+constexpr std::array<std::pair<char, const char*>, 4> kItems = {{{'i', "intent"}, {'c', "constraint"}, {'s', "subscription"}, {'u', "supplier"}}};
+
+// Tokens with blanks in between.
+template <typename Set>
+std::string words_of(const Set& cells) {
+  std::string words;
+  for (S2CellId it : cells) words += (words.empty() ? "" : " ") + it.ToToken();
+  return words;
+}
+
+// Adds an item of a kind, by its id.
+inline void add_item(std::map<std::string, std::string>& items, size_t kind, const std::string& id, json item) {
+  item["kind"] = kItems[kind].second;
+  items[kItems[kind].first + id] = item.dump(-1, ' ', false, json::error_handler_t::replace);
+}
+
 class Sight {
  public:
   struct Placed {
@@ -39,7 +57,17 @@ class Sight {
     std::string fault;                             // why there was none since, where it is not empty
   };
 
+  // Of the last whole answer: its second, or 0 before the first, and why there was none since, where it is not empty.
+  struct State {
+    long asked;
+    std::string fault;
+  };
+
   virtual ~Sight() = default;
+  // What is known, as items for viewers: references, and subscriptions and suppliers where these are known.
+  virtual State fill(Changes& changes) = 0;
+  // Whether items have all their volumes, so that a viewer knows where they are at any moment.
+  virtual bool is_whole() const = 0;
   // What is known, after a look where there was none for a while.
   virtual Picture picture(const Moment& moment) = 0;
   // What is in a cell at a moment, as the service answers now; a Refusal where it does not.

@@ -291,3 +291,17 @@ void Survey::look_into(const std::vector<Node>& nodes) {
     }
   }
 }
+
+Sight::State Survey::fill(Changes& changes) {
+  Picture made = picture({});
+  std::map<std::string, std::string> items;
+  for (size_t kind = 0; kind < made.placed.size(); kind++)
+    for (const auto& [id, it] : made.placed[kind]) {
+      json item = it.reference;
+      item["in"] = words_of(it.in);
+      item["perhaps"] = words_of(it.perhaps);
+      add_item(items, kind, id, item);
+    }
+  changes.take(std::move(items));
+  return {made.asked, made.fault};
+}

@@ -25,6 +25,8 @@ class Survey : public Sight {
   // What is known, after a look at the whole area where there was none for a while. The survey goes on as long as somebody asks for
   // pictures.
   Picture picture(const Moment& moment) override;
+  State fill(Changes& changes) override;
+  bool is_whole() const override { return false; }
   std::array<References, 2> in_cell(S2CellId cell, const Moment& moment) override;
 
   bool may_be_asked(S2CellId cell) const override;

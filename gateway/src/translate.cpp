@@ -313,6 +313,8 @@ IntentPut intent_for_service(const json& body, const Budget& budget) {
       if (!is_visible(it.text(), 16, 128)) it.refuse("must be an OVN, 16 to 128 visible ASCII characters");
       put.body["key"].push_back(it.text());
     }
+  if (Member suffix = given["requested_ovn_suffix"]; !suffix.is_absent())
+    suffix.refuse("is not taken: leave it out, and use the OVN of the response");
   Member named = given["subscription_id"], wanted = given["new_subscription"];
   if (!named.is_absent()) {
     if (!is_uuid(named.text())) named.refuse("must be a UUID");
@@ -350,6 +352,9 @@ json subscription_for_service(const json& body, long now, const Budget& budget) 
   bounds.time_end = bounds.time_end.value_or(*bounds.time_start + kDay);
   must_be_kept(extent["time_start"], *bounds.time_start);
   must_be_kept(extent["time_end"], *bounds.time_end);
+  // both were rounded outwards
+  if (*bounds.time_end - *bounds.time_start > kDay + 1)
+    extent["time_end"].refuse("is over 24 hours after time_start: put a shorter subscription, and update it before it ends");
   std::vector<Outline> outline;
   outline.push_back(outline_of(extent["volume"]));
   bool for_intents = given["notify_for_operational_intents"].truth(), for_constraints = given["notify_for_constraints"].truth();

@@ -51,12 +51,14 @@ void Whole::take(const json& page, Read& read) {
     for (const auto& [uss, availability] : it->items()) read.suppliers[uss] = availability;
 }
 
-Whole::Read Whole::read_once() const {
-  Read read{{}, {}, {}, long(std::time(nullptr)), -1, true, false};
+std::optional<Whole::Read> Whole::read_once(const Read* before) const {
+  Read read{{}, {}, {}, -1, true, false};
   std::string next;
   do {
     json page = read_operators(port_, "/airspace" + (next.empty() ? "" : "?after=" + next));
     long serial = page.at("serial");
+    if (before && before->is_one && serial == before->serial) return std::nullopt;
+    before = nullptr;
     read.is_one = read.is_one && (read.serial < 0 || read.serial == serial);
     read.serial = serial;
     take(page, read);
@@ -66,22 +68,23 @@ Whole::Read Whole::read_once() const {
   return read;
 }
 
-std::shared_ptr<const Whole::Read> Whole::latest(std::string& fault) {
+std::shared_ptr<const Whole::Read> Whole::latest(State& state) {
   std::lock_guard<std::mutex> lock(mutex_);
   if (last_try_ == Clock::time_point() || Clock::now() - last_try_ >= kFresh) try {
-      Read read = read_once();
-      for (int k = 1; k < kTries && !read.is_one; k++) read = read_once();
-      fault_ = read.has_more ? "over " + std::to_string(kMost) + " references: the first of them are shown" : "";
-      read_ = std::make_shared<const Read>(std::move(read));
+      long asked = std::time(nullptr);
+      auto read = read_once(read_.get());
+      for (int k = 1; k < kTries && read && !read->is_one; k++) read = read_once(nullptr);
+      if (read) read_ = std::make_shared<const Read>(std::move(*read));
+      state_ = {asked, read_->has_more ? "over " + std::to_string(kMost) + " references: the first of them are shown" : ""};
       last_try_ = Clock::now();
     } catch (const json::exception&) {
-      fault_ = "the service's answer has not its form";
+      state_.fault = "the service's answer has not its form";
       last_try_ = Clock::now();
     } catch (const std::exception& it) {
-      fault_ = it.what();
+      state_.fault = it.what();
       last_try_ = Clock::now();
     }
-  fault = fault_;
+  state = state_;
   return read_;
 }
 
@@ -111,11 +114,41 @@ std::optional<Sight::Placed> Whole::Thing::placed(const Moment& moment, long now
   return made.in.empty() ? std::nullopt : std::make_optional(made);
 }
 
+std::optional<json> Whole::Thing::item(long now) const {
+  json made = shown, &listed = made["volumes"] = json::array();
+  for (const Volume& it : volumes)
+    if (now <= it.end) listed.push_back({{"cells", words_of(it.cells)}, {"lower", it.lower}, {"upper", it.upper}, {"start", it.start}, {"end", it.end}});
+  return listed.empty() ? std::nullopt : std::make_optional(made);
+}
+
+Sight::State Whole::fill(Changes& changes) {
+  State state{};
+  auto read = latest(state);
+  if (!read || read == filled_) return state;
+  std::map<std::string, std::string> items;
+  auto suppliers = read->suppliers;
+  long now = std::time(nullptr);
+  size_t kind = 0;
+  for (const auto* things : {&read->things[0], &read->things[1], &read->subscriptions}) {
+    for (const auto& [id, it] : *things) {
+      suppliers[it.shown.at("manager")] = it.shown.at("uss_availability");
+      if (auto item = it.item(now)) add_item(items, kind, id, *item);
+    }
+    kind++;
+  }
+  for (const auto& [uss, availability] : suppliers) add_item(items, kind, uss, {{"id", uss}, {"uss_availability", availability}});
+  changes.take(std::move(items));
+  filled_ = read;
+  return state;
+}
+
 Sight::Picture Whole::picture(const Moment& moment) {
   Picture made{};
-  auto read = latest(made.fault);
+  State state{};
+  auto read = latest(state);
+  made.fault = state.fault;
+  made.asked = state.asked;
   if (!read) return made;
-  made.asked = read->asked;
   made.subscriptions.emplace();
   made.suppliers = read->suppliers;
   long now = std::time(nullptr);
@@ -131,9 +164,9 @@ Sight::Picture Whole::picture(const Moment& moment) {
 }
 
 std::array<References, 2> Whole::in_cell(S2CellId cell, const Moment& moment) {
-  std::string fault;
-  auto read = latest(fault);
-  if (!read) throw Refusal(502, fault);
+  State state{};
+  auto read = latest(state);
+  if (!read) throw Refusal(502, state.fault);
   std::array<References, 2> found;
   long now = std::time(nullptr);
   for (Kind kind : kKinds)

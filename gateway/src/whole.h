@@ -15,6 +15,8 @@ class Whole : public Sight {
   Whole(int port, const Cells& area) : port_(port), area_(area) {}
 
   Picture picture(const Moment& moment) override;
+  State fill(Changes& changes) override;
+  bool is_whole() const override { return true; }
   std::array<References, 2> in_cell(S2CellId cell, const Moment& moment) override;
   bool may_be_asked(S2CellId) const override { return true; }
   const Cells& area() const override { return area_; }
@@ -33,27 +35,31 @@ class Whole : public Sight {
 
     bool is_in(S2CellId cell, const Moment& moment, long now) const;
     std::optional<Placed> placed(const Moment& moment, long now) const;
+    // With its volumes that have not ended; none where it has.
+    std::optional<json> item(long now) const;
   };
   struct Read {
     std::array<std::map<std::string, Thing>, 2> things;
     std::map<std::string, Thing> subscriptions;
     std::map<std::string, std::string> suppliers;
-    long asked, serial;
+    long serial;
     bool is_one, has_more;
   };
 
   static Volume volume_of(const json& volume);
   static void take(const json& page, Read& read);
-  Read read_once() const;
+  // None where nothing has changed since the one that was read before.
+  std::optional<Read> read_once(const Read* before) const;
   // What was read last, anew where that was a while ago; none before the first that was read.
-  std::shared_ptr<const Read> latest(std::string& fault);
+  std::shared_ptr<const Read> latest(State& state);
 
   int port_;
   Cells area_;
   std::mutex mutex_;  // of all below
   std::shared_ptr<const Read> read_;
   Clock::time_point last_try_;
-  std::string fault_;
+  State state_ = {};
+  std::shared_ptr<const Read> filled_;  // of one thread at a time, which fills
 };
 
 // The port of `http://127.0.0.1:PORT`; an exception for any other text.

@@ -11,7 +11,7 @@ from world import TOP
 
 SOURCES = TOP / "gateway" / "src"
 FLAWED = '#include <cstdlib>\n#include <string>\nstatic const std::string kFlaw = std::getenv("FLAW") ? std::getenv("FLAW") : "";\n'
-LIBRARIES = ["-ls2", "-lssl", "-lcrypto", "-labsl_strings", "-labsl_base", "-labsl_raw_logging_internal", "-pthread"]
+LIBRARIES = ["-ls2", "-lssl", "-lcrypto", "-lz", "-labsl_strings", "-labsl_base", "-labsl_raw_logging_internal", "-pthread"]
 # A part of the cases suffices.
 COUNTS = {"points_inside_are_covered": 1000, "volumes_of_puts": 30}
 

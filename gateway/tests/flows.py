@@ -10,8 +10,8 @@ import shapes
 from properties import translate
 from standard import check
 from world import (
-    BESIDE, FAR, INTENTS, MANHATTAN, MONITORING, STRATEGIC, SUBSCRIPTIONS, TOP, ZERO, Gateway, Recorded, Service, circle, expect, extent,
-    intent, new_id)
+    BESIDE, FAR, FRONT, INTENTS, MANHATTAN, MONITORING, STRATEGIC, SUBSCRIPTIONS, TOP, ZERO, Gateway, Recorded, Service, circle, expect,
+    extent, intent, new_id, stamp)
 
 URL = {"uss_base_url": "https://uss.example"}
 
@@ -236,6 +236,35 @@ def body_of_the_document(files, program):
     assert translate(program, [("intent", usual)]) == [flat]
 
 
+def reports(files, program):
+    """A report gets an id and stands in the log, without the tokens in it; anything else is refused."""
+    with over_tables(files, program) as place:
+        path = f"{FRONT}reports"
+        body = {"exchange": {"url": "https://b.example", "method": "GET", "headers": ["Authorization: Bearer abc.def.ghi", "Accept: */*"],
+                             "recorder_role": "Client", "request_time": stamp(0), "problem": "late\n\u00fc"}}
+        made = expect(place.a("POST", path, body), 201)
+        assert made == {**body, "report_id": made["report_id"]} and len(made["report_id"]) == 36, made
+        (line,) = [it for it in place.gateway.lines().splitlines() if "report of" in it]
+        assert line.startswith("gateway: report of uss-a ") and made["report_id"] in line and "abc.def" not in line and line.isascii(), line
+        assert expect(place.a("POST", path, body), 201)["report_id"] != made["report_id"]
+        for wrong in ({}, {"exchange": []}, "x", "[]"):
+            expect(place.a("POST", path, wrong), 400)
+        expect(place.a("POST", path, {"exchange": {"problem": "x" * 70_000}}), 413)
+        expect(place.a("GET", path), 405)
+        expect(place.gateway.ask(None, "POST", path, body), 401)
+
+
+def advice(files, program):
+    """A denial of the service says what to do."""
+    with over_tables(files, program) as place:
+        name = new_id()
+        expect(place.a("PUT", f"{INTENTS}/{name}", intent(extent(MANHATTAN))), 201)
+        expect(place.a("PUT", f"{INTENTS}/{name}", intent(extent(MANHATTAN))), 409, "P8 FRESH: the id is in use")
+        expect(place.b("PUT", f"{INTENTS}/{new_id()}", intent(extent(MANHATTAN))), 409, "P14 KEY: the key lacks")
+        expect(place.a("GET", f"{INTENTS}/{new_id()}"), 404, "P7 FOUND: nothing of this kind")
+
+
 ALL = [
+    reports, advice,
     states_and_scopes, explicit_subscriptions, implicit_subscriptions, shared_implicit_subscriptions, answers_lost_on_the_way,
     new_subscription_over_tables, drawn_outlines_meet, body_of_the_document]

@@ -76,7 +76,7 @@ def paths_and_methods(files, program):
     name, ovn = new_id(), "0123456789abcdef0"
     with over_tables(files, program) as place:
         ask = lambda *words: check(place.gateway.ask(token, *words))
-        for path in ("/", "/dss/v1", FRONT, f"{FRONT}reports", f"{INTENTS}", f"{INTENTS}/", f"{INTENTS}/{name}/", f"{INTENTS}/query/x",
+        for path in ("/", "/dss/v1", FRONT, f"{FRONT}reports/", f"{INTENTS}", f"{INTENTS}/", f"{INTENTS}/{name}/", f"{INTENTS}/query/x",
                      f"{INTENTS}/{name}/{ovn}/x", f"/{INTENTS}/{name}", f"{PATH}/{ovn}", "/DSS/v1/subscriptions/query", f"{FRONT}%73ubscriptions/{name}",
                      "/x" * 2000, "*", f"http://127.0.0.1{PATH}"):
             expect(ask("GET", path), 404, "no such path")

@@ -1,7 +1,12 @@
 """The map: its data byte for byte, and its page in Chromium without a window, if that is installed."""
 import contextlib
+import gzip
+import http.client
 import json
+import math
 import random
+import re
+import signal
 import subprocess
 import time
 
@@ -12,7 +17,7 @@ import shapes
 from flows import Place
 from properties import translate
 from world import (
-    ARBITRATION, CONSTRAINTS, FRONT, INTENTS, MANAGEMENT, MANHATTAN, STRATEGIC, SUBSCRIPTIONS, ZERO, Counted, Gateway, Service, circle, expect,
+    ARBITRATION, CONSTRAINTS, FAR, FRONT, INTENTS, MANAGEMENT, MANHATTAN, STRATEGIC, SUBSCRIPTIONS, TOP, ZERO, Counted, Gateway, Service, circle, expect,
     extent, free_port, intent, new_id, ovn)
 
 AREA = "89c25"  # New York, 32 cells of level 13 a side
@@ -91,7 +96,7 @@ def who_may_look(files, program):
     """Data needs the token of viewers, in a field. That token permits nothing else, and no other token gives access to
     the map."""
     with over_map(files, program) as place:
-        for path in ("/map/airspace.json", "/map/airspace.geojson", f"/map/cell.json?cell={AREA}"):
+        for path in ("/map/airspace.json", "/map/airspace.geojson", "/map/changes.json", "/map/ground.geojson", f"/map/cell.json?cell={AREA}"):
             for token in (None, "x", place.viewer[:-1], place.viewer[:-1] + "x", place.viewer + "x", files.token("uss-a", STRATEGIC)):
                 refused = place.gateway.ask(token, "GET", path)
                 expect(refused, 401)
@@ -311,6 +316,57 @@ def what_is_no_airspace(files, program):
         assert done.returncode == 1 and done.stderr.startswith("gateway: ") and done.stderr.count("\n") == 1, (url, done)
 
 
+# ---- the ground
+
+def the_ground(files, program):
+    """The shipped ground has all parts; a file of the operator is served to viewers only, and only if it is GeoJSON."""
+    shipped = json.loads((TOP / "gateway/page/ground.json").read_text())
+    assert len(shipped["land"]) > 1000 and len(shipped["borders"]) > 200 and len(shipped["lakes"]) > 50
+    assert ["Zurich", 853, 4738, 0] in shipped["cities"] and ["ZRH", 853, 4748] in shipped["airports"]
+    own = {"type": "FeatureCollection", "features": [
+        {"type": "Feature", "properties": {"name": "Hangar"}, "geometry": {"type": "Point", "coordinates": [8.5, 47.4]}},
+        {"type": "Feature", "properties": None, "geometry": {"type": "Polygon", "coordinates": [[[8, 47], [9, 47], [9, 48], [8, 47]]]}}]}
+    path = files.folder / "own.geojson"
+    path.write_text(json.dumps(own))
+    with over_whole(files, program, "--map-ground", str(path)) as place:
+        assert expect(place.gateway.ask(None, "GET", "/map/ground.json"), 200) == shipped
+        assert expect(place.read("/map/ground.geojson"), 200) == own
+        expect(place.gateway.ask(None, "GET", "/map/ground.geojson"), 401)
+    with over_map(files, program) as place:
+        assert expect(place.read("/map/ground.geojson"), 200)["features"] == []
+        words = place.gateway.words
+        for text in ("", "x", "[]", "{}", '{"type":"Point"}', '{"type":"Point","coordinates":[8,91]}', '{"type":"Polygon","coordinates":[8,47]}',
+                     '{"type":"FeatureCollection","features":[{"type":"Feature"}]}', '{"type":"Topology","arcs":[]}', '{"type":5}',
+                     '{"type":"FeatureCollection","features":[1]}', '{"type":"GeometryCollection","geometries":[{"type":"Point","coordinates":"x"}]}'):
+            path.write_text(text)
+            done = subprocess.run([program, "serve", *words, "--map-ground", path], capture_output=True, text=True, timeout=20)
+            assert done.returncode == 1 and "is no GeoJSON" in done.stderr and done.stderr.count("\n") == 1, (text, done)
+
+
+def the_ground_is_drawn(files, program):
+    """Land, water and the operator's own area have their colours on the page, in both themes, and change with the view."""
+    own = {"type": "Polygon", "coordinates": [[[-75, 40], [-73, 40], [-73, 41.5], [-75, 41.5], [-75, 40]]]}
+    path = files.folder / "own.geojson"
+    path.write_text(json.dumps(own))
+    with over_whole(files, program, "--map-ground", str(path), "--map-area", AREA) as place:
+        for scheme, land, water in (("light", [244, 243, 239], [219, 229, 237]), ("dark", [28, 34, 41], [16, 23, 30])):
+            with opened(place, 1200, 800, scheme) as page:
+                enter(page, place.viewer)
+                seen = f"({COLOURS})('ground').split(';')"
+                land, water = (",".join(map(str, it)) for it in (land, water))
+                # All of the area is below the operator's.
+                page.until(f"{seen}.length && !{seen}.includes('{land}') && !{seen}.includes('{water}')")
+                for _ in range(8):
+                    page.value("document.getElementById('farther').click()")
+                page.until(f"{seen}.includes('{land}') && {seen}.includes('{water}')")
+
+
+# The colours on a canvas that have more than 5,000 pixels.
+COLOURS = """(name) => { const c = document.getElementById(name), d = c.getContext('2d').getImageData(0, 0, c.width, c.height).data, n = {};
+    for (let k = 0; k < d.length; k += 4) { const it = `${d[k]},${d[k + 1]},${d[k + 2]}`; n[it] = (n[it] ?? 0) + 1; }
+    return Object.keys(n).filter((it) => n[it] > 5000).join(';'); }"""
+
+
 # ---- the page
 
 @contextlib.contextmanager
@@ -384,19 +440,21 @@ def middle(page):
 
 
 def a_click_lists_it(page, first, version):
-    page.value("document.querySelectorAll('details').forEach((it) => it.open = true)")
     page.until("document.querySelector('#all button')")
     page.value("document.querySelector('#all button').click()")
-    page.until(f"document.getElementById('selected-list').innerText.includes('{first}')")
-    page.value("document.getElementById('nearer').click()")
-    time.sleep(0.3)
+    # The details open below the row.
+    page.until(f"document.querySelector('#all li').innerText.includes('{first}') && !document.getElementById('selected').hidden")
+    assert text(page, "selected-list") == ""
+    page.value("location.hash = '#40.744,-73.978,12,now,all,'")
+    time.sleep(0.5)
     page.click(*middle(page))
-    page.until("/^Cell 89c25904: 1|^Cell 89c2590c: 1/.test(document.getElementById('selected-title').textContent)")
+    page.until(f"document.getElementById('selected-list').innerText.includes('{first}')")
     listed = text(page, "selected-list")
-    assert all(it in listed for it in (first, "Accepted", "uss-a (Unknown)", "https://uss.example")) and version not in listed, listed
+    assert all(it in listed for it in ("uss-a (Unknown)", "https://uss.example", "WGS84")) and version not in listed, listed
+    assert text(page, "selected-title").startswith(f"Accepted {first[:8]} of uss-a")
     assert version not in page.value("document.documentElement.outerHTML")
     page.click(20, 20)
-    page.until("document.getElementById('selected-title').textContent === 'Nothing is here'")
+    page.until("document.getElementById('selected').hidden")
 
 
 def sliders_take_it_away(page, place, now):
@@ -418,6 +476,7 @@ def sliders_take_it_away(page, place, now):
 def the_keyboard_alone(page, first):
     page.value("document.getElementById('map').focus()")
     page.key("Home")
+    time.sleep(0.3)
     whole = drawn(page)
     for key in ("ArrowLeft", "ArrowUp", "+", "-"):
         page.key(key)
@@ -425,16 +484,20 @@ def the_keyboard_alone(page, first):
     assert drawn(page) != whole
     page.value("[...document.querySelectorAll('#all button')].find((it) => it.textContent.startsWith('Accepted')).focus()")
     page.key("Enter")
-    page.until(f"document.getElementById('selected-list').innerText.includes('{first}')")
+    page.until(f"document.getElementById('over').dataset.selected === 'i{first}'")
     page.value("document.getElementById('map').focus()")
+    page.key("Escape")
+    page.until("document.getElementById('selected').hidden && document.getElementById('over').dataset.selected === ''")
+    page.value("location.hash = '#40.744,-73.978,12,now,all,'")
+    time.sleep(0.5)
     page.key("Enter")
-    page.until("/^Cell \\w+: 1/.test(document.getElementById('selected-title').textContent)")
+    page.until(f"document.getElementById('selected-list').innerText.includes('{first}')")
     page.key("Escape")
     page.until("document.getElementById('selected').hidden")
     before = page.value("document.getElementById('altitude').value")
     page.value("document.getElementById('altitude').focus()")
     page.key("ArrowRight")
-    page.until("document.getElementById('altitude-shown').textContent === '0 m'")
+    page.until("document.getElementById('altitude-shown').textContent === '0 m (WGS84)'")
     page.key("ArrowLeft")
     page.until(f"document.getElementById('altitude').value === '{before}'")
 
@@ -445,7 +508,7 @@ def pairs_are_listed(page, place, first, version):
     listed = text(page, "pairs")
     assert first[:8] in listed and second[:8] in listed, listed
     page.value("document.querySelector('#pairs button').click()")
-    page.until("/: 2$/.test(document.getElementById('selected-title').textContent)")
+    page.until("document.getElementById('selected-list').innerText.includes('In the same cell (1)')")
     page.value("document.getElementById('by-supplier').click()")
     page.until("document.getElementById('legend').innerText.includes('uss-c')")
 
@@ -476,7 +539,7 @@ def shapes_of_the_page(files, program):
                 page.value("document.querySelector('#all button').click()")
                 page.until("!document.getElementById('selected').hidden")
                 # Input of a USS is text.
-                assert "https://<b>www" in text(page, "selected-list")
+                assert "https://<b>www" in text(page, "side")
                 wide = page.value("[document.documentElement.scrollWidth, ...[...document.querySelectorAll('body *')]"
                                   ".map((it) => Math.ceil(it.getBoundingClientRect().right))]")
                 assert max(wide) <= width, (width, max(wide))
@@ -487,23 +550,18 @@ def shapes_of_the_page(files, program):
 
 def many_references(count):
     """Returns an airspace as the gateway gives it to the page, each reference in two adjacent cells."""
-    draw, now, cells, references = random.Random(5), int(time.time()), {}, []
+    draw, now, items = random.Random(5), int(time.time()), []
     first = s2.S2CellId.FromToken("89c3").range_min().parent(13)
     numbers = [first.id() % 2**64 + k * 2**35 for k in range(4**7)]
-
-    def outline(number):
-        cell = s2.S2Cell(s2.S2CellId(number))
-        corners = [s2.S2LatLng(cell.GetVertex(k)) for k in range(4)]
-        return [round(it, 6) for corner in corners for it in (corner.lng().degrees(), corner.lat().degrees())]
-    for k in range(count):
+    for _ in range(count):
         at = draw.randrange(len(numbers) - 1)
-        tokens = [f"{it:016x}".rstrip("0") for it in numbers[at : at + 2]]
-        cells |= {token: outline(it) for token, it in zip(tokens, numbers[at : at + 2]) if token not in cells}
-        references.append({
+        cells = " ".join(f"{it:016x}".rstrip("0") for it in numbers[at : at + 2])
+        start, end = now - 60, now + draw.randrange(100, 9000)
+        items.append({
             "id": new_id(), "kind": "intent", "state": draw.choice(("Accepted", "Activated", "Nonconforming", "Contingent")), "version": 1,
-            "manager": f"uss-{draw.randrange(12)}", "uss_availability": "Normal", "uss_base_url": "https://uss.example", "time_start": now - 60,
-            "time_end": now + draw.randrange(100, 9000), "in": tokens, "perhaps": [], "is_there": True})
-    return {"now": now, "asked": now, "at": now - now % 10, "cells": cells, "references": references, "area": [outline(first.parent(6).id() % 2**64)]}
+            "manager": f"uss-{draw.randrange(12)}", "uss_availability": "Normal", "uss_base_url": "https://uss.example", "time_start": start,
+            "time_end": end, "volumes": [{"cells": cells, "lower": 0, "upper": 1200, "start": start, "end": end}]})
+    return {"now": now, "asked": now, "is_whole": True, "is_all": True, "version": "x-1", "area": [], "items": items, "gone": []}
 
 
 def frames(page, count, act):
@@ -515,19 +573,226 @@ def frames(page, count, act):
 
 
 def ten_thousand_in_view(files, program):
-    """The page draws ten thousand references soon, by processor time, without a graphics processor."""
+    """The page shows ten thousand references soon. A step of a slider takes some 16 ms of script in the median, without a
+    graphics processor; a busy machine is allowed four times as much, and 400 ms for one step in a hundred."""
     with over_map(files, program) as place, opened(place, 1600, 900) as page:
-        page.answer_with("*/map/airspace.json*", json.dumps(many_references(10_000)))
+        page.answer_with("*/map/changes.json*", json.dumps(many_references(10_000)))
         enter(page, place.viewer)
         page.until("document.getElementById('counts').textContent === '10000 of 10000 are there'")
         moving = frames(page, 20, """document.getElementById('map').dispatchEvent(
             new KeyboardEvent('keydown', { key: k % 2 ? 'ArrowLeft' : 'ArrowRight' }))""")
-        sliding = frames(page, 10, """(() => { const it = document.getElementById('time'); it.value = 300 + 300 * k;
-            it.dispatchEvent(new Event('input', { bubbles: true })); })()""")
-        assert moving < 0.1 and sliding < 0.4, (moving, sliding)
+        steps = sorted(page.value(STEPS))
+        print(f"a moved frame: {1000 * moving:.0f} ms of processor; a step: {steps[len(steps) // 2]:.1f} ms of script in the median, {steps[-2]:.1f} at p99")
+        assert moving < 0.1 and steps[len(steps) // 2] < 64 and steps[-2] < 400, (moving, steps)
         left = int(text(page, "counts").split()[0])
         assert 4000 < left < 9000, left
 
 
+# The milliseconds of script of each of a hundred steps of the time, one with each frame: the event and the frame that it asks for.
+STEPS = """(async () => { const slider = document.getElementById('time'), spent = [];
+    for (let k = 0; k < 100; k++) {
+        const from = performance.now();
+        slider.value = 300 + 60 * (k % 50);
+        slider.dispatchEvent(new Event('input', { bubbles: true }));
+        const used = performance.now() - from;
+        await new Promise((done) => requestAnimationFrame(done));
+        spent.push(used + Number(document.getElementById('over').dataset.step));
+    }
+    return spent; })()"""
+
+
+# ---- what changed
+
+def packed(place, path):
+    """Returns the bytes of a response as they are sent to a browser, and its JSON."""
+    connection = http.client.HTTPConnection("127.0.0.1", place.gateway.port, timeout=60)
+    with contextlib.closing(connection):
+        connection.request("GET", path, headers={"Authorization": f"Bearer {place.viewer}", "Accept-Encoding": "deflate, gzip;q=0.5"})
+        got = connection.getresponse()
+        body = got.read()
+        assert got.status == 200 and "Accept-Encoding" in got.getheader("Vary"), got.status
+        is_packed = got.getheader("Content-Encoding") == "gzip"
+        return len(body), json.loads(gzip.decompress(body) if is_packed else body)
+
+
+def what_changed(files, program):
+    """A viewer gets all items first, then those that changed and the names of those that are gone; without an OVN."""
+    now = int(time.time())
+    with over_whole(files, program) as place:
+        read = lambda version: packed(place, f"/map/changes.json?since={version}")
+        first, version = put_intent(place, extent(MANHATTAN, 0, 100, now, now + 600), extent(FAR, 200, 300, now + 1200, now + 1800))
+        names = lambda it: {(one["kind"], one["id"]) for one in it["items"]}
+        all_of = until(lambda: read("")[1], lambda it: ("intent", first) in names(it))
+        assert all_of["is_all"] and all_of["is_whole"] and names(all_of) == {("intent", first), ("supplier", "uss-a")}, all_of
+        (seen,) = [it for it in all_of["items"] if it["kind"] == "intent"]
+        cells = [sorted(it["cells"].split()) for it in seen["volumes"]]
+        assert cells[0] == INSIDE and [(it["lower"], it["upper"], it["start"], it["end"]) for it in seen["volumes"]] == [
+            (0, 1000, now, now + 600), (2000, 3000, now + 1200, now + 1800)], seen
+        size, same = read(all_of["version"])
+        assert size < 1000 and same["version"] == all_of["version"] and not same["is_all"] and same["items"] == same["gone"] == [], (size, same)
+        other = put_constraint(place, circle(40.6, -74.1, 300), 200, 300, now, now + 7200)
+        more = until(lambda: read(all_of["version"])[1], lambda it: it["items"])
+        assert names(more) == {("constraint", other), ("supplier", "uss-c")} and more["gone"] == [], more
+        expect(place.a("DELETE", f"{INTENTS}/{first}/{version}"), 200)
+        less = until(lambda: read(more["version"])[1], lambda it: it["gone"])
+        assert less["gone"] == [f"i{first}", "uuss-a"] and less["items"] == [], less
+        expect(place.ask("uss-v", ARBITRATION, "PUT", f"{FRONT}uss_availability/uss-c", {"availability": "Down"}), 200)
+        down = until(lambda: read(less["version"])[1], lambda it: it["items"])
+        assert {it["uss_availability"] for it in down["items"]} == {"Down"} and len(down["items"]) == 2, down
+        for unknown in ("x", "x-1", more["version"] + "9", more["version"].split("-")[0] + "-", "-1", all_of["version"].split("-")[0] + "--1"):
+            assert read(unknown)[1]["is_all"], unknown
+        assert '"ovn"' not in json.dumps(all_of)
+        plain = place.gateway.ask(place.viewer, "GET", "/map/ground.json")
+        assert "Content-Encoding" not in plain.headers and packed(place, "/map/ground.json")[0] < 150_000
+    with over_map(files, program) as place:
+        name, _ = put_intent(place, extent(MANHATTAN, 0, 100, now, now + 3600))
+        settled(place, 1)
+        found = expect(place.read(f"/map/changes.json?at={now + 60}"), 200)
+        assert not found["is_whole"] and [it["in"] for it in found["items"]] == [" ".join(INSIDE)] and found["away"] == [], found
+        assert expect(place.read(f"/map/changes.json?at={now + 60}&altitude=101"), 200)["away"] == [f"i{name}"]
+
+
+# ---- what the page shows
+
+def over(page, name):
+    return page.value(f"document.getElementById('over').dataset.{name}")
+
+
+def point(page, x, y):
+    page.call("Input.dispatchMouseEvent", type="mouseMoved", x=x, y=y)
+
+
+def objects_of_the_page(files, program):
+    """Hovering highlights a whole flight, a click selects it, the others in its cell are named, and the selection follows
+    the sliders."""
+    now = int(time.time())
+    with over_whole(files, program) as place:
+        first, version = put_intent(place, extent(circle(47.4, 8.5, 3000), 0, 100, now, now + 7200))
+        second, _ = put_intent(place, extent(circle(47.4, 8.5, 100), 200, 300, now, now + 3600), key=[version], state="Activated")
+        with opened(place) as page:
+            enter(page, place.viewer)
+            page.until("document.getElementById('counts').textContent === '2 of 2 are there'")
+            x, y = middle(page)
+            point(page, x, y)
+            page.until(f"document.getElementById('over').dataset.hovered === 'i{second}'")  # Activated is on top of Accepted
+            assert text(page, "tip") == f"Activated {second[:8]} of uss-a"
+            point(page, 5, 5)
+            page.until("document.getElementById('over').dataset.hovered === '' && document.getElementById('tip').hidden")
+            page.click(x, y)
+            page.until(f"document.getElementById('over').dataset.selected === 'i{second}'")
+            listed = text(page, "selected-list")
+            assert "200 to 300 m over the WGS84 ellipsoid" in listed and "In the same cell (1)" in listed and first[:8] in listed, listed
+            assert page.value("document.getElementById('selected').getBoundingClientRect().top") < 800
+            page.value("document.querySelector('#selected-list button').click()")
+            page.until(f"document.getElementById('over').dataset.selected === 'i{first}'")
+            assert "0 to 100 m" in text(page, "selected-list")
+            slide(page, "altitude", "20")
+            page.until("document.getElementById('selected-list').innerText.includes('no, not at this time and altitude')")
+            slide(page, "altitude", "0")
+            page.until("/shown\\s+yes/.test(document.getElementById('selected-list').innerText)")
+            # No conflict: they share a cell, and no altitude.
+            assert text(page, "pairs-count") == "0" and text(page, "pairs") == ""
+            # The outline is one ring, though the flight has many cells.
+            rings = page.value(f"""import('/map/cells.js').then((it) => it.outlineOf({json.dumps(sorted(fine("89c25")))}).map((ring) => ring.length))""")
+            assert rings == [2 * (4 * 2**5 + 1)], rings
+
+
+def cells_of_the_page(files, program):
+    """The page computes the corners of cells as S2 does."""
+    draw = random.Random(9)
+    cells = [s2.S2CellId(s2.S2LatLng.FromDegrees(draw.uniform(-84, 84), draw.uniform(-180, 180))).parent(draw.randrange(1, 14)) for _ in range(300)]
+    with over_map(files, program) as place, opened(place) as page:
+        found = page.value(f"import('/map/cells.js').then((it) => {json.dumps([it.ToToken() for it in cells])}.map((one) => it.cellOf(one)).map("
+                           "(one) => [one.level, one.corners, one.around]))")
+    for cell, (level, corners, around) in zip(cells, found):
+        assert level == cell.level() and around == [cell.parent(k).ToToken() for k in range(level - 1, 0, -1)], (cell.ToToken(), around)
+        for k in range(4):
+            vertex = s2.S2LatLng(s2.S2Cell(cell).GetVertex(k))
+            lat, lng = max(-85, min(85, vertex.lat().degrees())), vertex.lng().degrees()
+            x, y = lng / 360 + 0.5, 0.5 - math.log(math.tan(math.pi / 4 + math.radians(lat) / 2)) / (2 * math.pi)
+            off = (corners[2 * k] - x + 0.5) % 1 - 0.5
+            assert abs(off) < 1e-9 and abs(corners[2 * k + 1] - y) < 1e-9 or abs(vertex.lat().degrees()) > 89.9, (cell.ToToken(), corners)
+
+
+def lists_and_links(files, program):
+    """Lists have twenty rows and a filter; a link gives the same view; groups have buttons with their counts."""
+    now = int(time.time())
+    with over_whole(files, program) as place:
+        for k in range(23):
+            put_intent(place, extent(circle(47.2 + 0.02 * k, 8.5, 10), 0, 100, now, now + 7200))
+        name, _ = put_intent(place, extent(circle(-33.9, 18.4, 10), 0, 100, now, now + 7200), state="Activated")
+        with opened(place) as page:
+            enter(page, place.viewer)
+            page.until("document.querySelectorAll('#all li').length === 21")
+            assert text(page, "groups").split("\n") == ["Zurich 23", "Cape Town 1"] or "23" in text(page, "groups"), text(page, "groups")
+            page.value("document.querySelector('#all li:last-child button').click()")
+            page.until("document.querySelectorAll('#all li').length === 25")
+            page.value("(() => { const it = document.getElementById('filter'); it.value = 'activ'; it.dispatchEvent(new Event('input')); })()")
+            page.until("document.querySelectorAll('#all li').length === 1")
+            page.value("document.querySelector('#all button').click()")
+            page.until(f"location.hash.endsWith(',now,all,i{name}')")
+            slide(page, "time", "1800")
+            slide(page, "altitude", "5")
+            page.until(f"/^#-33[.]9\\d+,18[.]\\d+,[\\d.]+,\\d{{10}},40,i{name}$/.test(location.hash)")
+            link = page.value("location.href")
+        with opened(place) as page:
+            page.open(link)
+            enter(page, place.viewer)
+            page.until(f"document.getElementById('over').dataset.selected === 'i{name}'")
+            page.until(f"location.hash.slice(1).split(',').slice(0, 2).join() === '{','.join(link.split('#')[1].split(',')[:2])}'")
+            assert text(page, "altitude-shown") == "40 m (WGS84)" and text(page, "time-shown").startswith("in "), text(page, "time-shown")
+            assert page.value("document.getElementById('selected').hidden") is False
+
+
+def a_sheet_on_a_phone(files, program):
+    """A narrow window has a sheet over the map: low at first, open with what is selected first, and closed again."""
+    with over_whole(files, program) as place:
+        name, _ = put_intent(place, extent(circle(47.4, 8.5, 3000)))
+        with opened(place, 390, 844) as page:
+            enter(page, place.viewer)
+            page.until("document.getElementById('counts').textContent.startsWith('1 of 1')")
+            top = "document.getElementById('side').getBoundingClientRect().top"
+            assert page.value(top) > 650 and page.value("document.getElementById('map').clientHeight") == 844
+            page.until("document.getElementById('over').dataset.hovered !== undefined")
+            page.click(195, (page.value(top)) / 2)
+            page.until(f"document.getElementById('over').dataset.selected === 'i{name}'")
+            page.until(f"{top} < 400")
+            box = page.value("(() => { const b = document.getElementById('selected-list').getBoundingClientRect(); return [b.top, b.bottom]; })()")
+            assert 280 < box[0] < box[1] < 844, box
+            page.value("document.getElementById('sheet').click()")
+            page.until(f"{top} > 650 && document.getElementById('sheet').getAttribute('aria-expanded') === 'false'")
+
+
+def age_of_the_data(files, program):
+    """The age of the data turns amber after 6 s and red after 12 s, also while a request hangs."""
+    with over_whole(files, program) as place, opened(place) as page:
+        enter(page, place.viewer)
+        page.until("document.getElementById('age').textContent === 'live'")
+        place.gateway.process.send_signal(signal.SIGSTOP)
+        try:
+            page.until("document.getElementById('age').className === 'late'", 12)
+            assert int(text(page, "age").split()[0]) in range(6, 12)
+            page.until("document.getElementById('age').className === 'stale'", 12)
+        finally:
+            place.gateway.process.send_signal(signal.SIGCONT)
+        page.until("document.getElementById('age').className === ''", 40)
+
+
+def contrasts(files, program):
+    """Each state's colour has a contrast of 3:1 or more to land and water, in both themes."""
+    css = (TOP / "gateway/page/map.css").read_text()
+    for theme in css.split("@media (prefers-color-scheme: dark)")[:2]:
+        colours = dict(re.findall(r"--(\w+): (#[0-9a-f]{6});", theme))
+
+        def light(name):
+            parts = [int(colours[name][k : k + 2], 16) / 255 for k in (1, 3, 5)]
+            return sum(w * (it / 12.92 if it <= 0.03928 else ((it + 0.055) / 1.055) ** 2.4) for w, it in zip((0.2126, 0.7152, 0.0722), parts))
+        for state in ("accepted", "activated", "nonconforming", "contingent", "constraint", *(f"s{k}" for k in range(8))):
+            for ground in ("land", "water"):
+                a, b = sorted((light(state), light(ground)))
+                assert (b + 0.05) / (a + 0.05) >= 3, (state, ground, (b + 0.05) / (a + 0.05))
+
+
 ALL = [who_may_look, without_the_option_there_is_no_map, where_things_are, many_are_found_together, a_wide_area_and_what_is_large, queries_are_few,
-       the_service_gone_and_back, the_whole_airspace, what_is_no_airspace, the_page, shapes_of_the_page, ten_thousand_in_view]
+       the_service_gone_and_back, the_whole_airspace, what_is_no_airspace, the_ground, the_ground_is_drawn, what_changed, objects_of_the_page,
+       cells_of_the_page, lists_and_links, a_sheet_on_a_phone, age_of_the_data, contrasts, the_page, shapes_of_the_page, ten_thousand_in_view]

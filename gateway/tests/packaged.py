@@ -1,11 +1,12 @@
-"""The Debian package of the gateway that scripts/package makes.
-
-Cases check its paths, its program, its page, and the needs of its unit."""
+"""The scripts around the gateway: its Debian package, gateway/run and gateway/fuzz."""
 import gzip
 import re
+import shutil
+import socket
 import subprocess
 
-from world import TOP
+from maps import Skipped
+from world import TOP, free_port
 
 PATHS = {
     "usr/bin/dss-gateway", "usr/lib/systemd/system/dss-gateway.service", "usr/share/man/man1/dss-gateway.1.gz",
@@ -37,5 +38,24 @@ def the_package(files, built):
     assert "dss\\-gateway tokens" in page and ".SH \"TRANSLATION\"" in page, page[:1000]
 
 
-# It takes the directory with the programs.
-ALL = [the_package]
+def a_taken_port_is_named(files, built):
+    """gateway/run names the option of a port that is taken, before it installs or builds anything."""
+    with socket.create_server(("127.0.0.1", 0)) as taken:
+        port, free = str(taken.getsockname()[1]), str(free_port())
+        for words in (["--port", port, "--service", free], ["--port", free, "--service", port],
+                      ["--port", free, "--service", free, "--airspace-url", f"http://127.0.0.1:{port}"]):
+            done = subprocess.run([TOP / "gateway" / "run", *words], capture_output=True, text=True, timeout=20)
+            option = next(it for it in words if words[words.index(it) + 1].endswith(port))
+            assert done.returncode == 1 and done.stderr.startswith(f"gateway/run: {option} {port}: "), (words, done)
+
+
+def readers_under_fuzzing(files, built):
+    """libFuzzer finds nothing within 30 seconds."""
+    if not shutil.which("clang++"):
+        raise Skipped("clang is not installed: apt-get install clang")
+    done = subprocess.run([TOP / "gateway" / "fuzz", "30"], capture_output=True, text=True, timeout=1800)
+    assert done.returncode == 0, done.stderr[-3000:]
+
+
+# They take the directory with the programs.
+ALL = [the_package, a_taken_port_is_named, readers_under_fuzzing]

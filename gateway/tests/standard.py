@@ -37,6 +37,7 @@ FORMS = [
     form({"subscription": SUBSCRIPTION}, operational_intent_references=many(INTENT), constraint_references=many(CONSTRAINT)),
     form({"subscriptions": many(SUBSCRIPTION)}),
     form({"version": TEXT, "status": form({"uss": TEXT, "availability": {"enum": ["Unknown", "Normal", "Down"]}})}),
+    form({"report_id": ID, "exchange": {"type": "object"}}),
 ]
 DENIED = [
     form({"message": TEXT}),

@@ -24,7 +24,7 @@ def walk_of_the_readme(files, program):
     assert done.returncode == 0 and len(answers) == 4, (done, open(files.folder / "run.log").read())
     created, denied, second, found = answers
     first = created["operational_intent_reference"]
-    assert denied["message"] == "P14 KEY" and [it["id"] for it in denied["missing_operational_intents"]] == [first["id"]]
+    assert denied["message"].startswith("P14 KEY: the key lacks") and [it["id"] for it in denied["missing_operational_intents"]] == [first["id"]]
     assert second["operational_intent_reference"]["manager"] == "uss-b"
     seen = {it["id"]: "ovn" in it for it in found["operational_intent_references"]}
     assert seen == {first["id"]: False, second["operational_intent_reference"]["id"]: True}

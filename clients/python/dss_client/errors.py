@@ -8,7 +8,8 @@ from typing import Any, Optional, Sequence
 from .models import BadForm, Constraint, Intent, KeyMissing, decode
 from .pool import Response
 
-RULE = re.compile(r"([PH]\d+) ([A-Z]+)")
+# The gateway says after the rule what to do.
+RULE = re.compile(r"([PH]\d+) ([A-Z]+)(?:: .*)?")
 # A proxy sends these before it forwards a request: at its rate limit, and if the request took too long to arrive.
 NOT_FORWARDED = (408, 429)
 
