@@ -86,7 +86,9 @@ def ask_often(count, port, token, method, path, body=None):
 
 def answer(connection, token, method, path, body=None, fields=None):
     """Returns the status of a request. If the proxy made the response, it is JSON, and says when to try again."""
-    connection.request(method, path, body, ({"Authorization": f"Bearer {token}"} if token else {}) | (fields or {}))
+    # A proxy that refuses a request may close before it has read the whole body.
+    with contextlib.suppress(BrokenPipeError, ConnectionResetError, ssl.SSLEOFError):
+        connection.request(method, path, body, ({"Authorization": f"Bearer {token}"} if token else {}) | (fields or {}))
     got = connection.getresponse()
     text = got.read()
     if got.status != 200:
