@@ -93,6 +93,10 @@ class ProxyError(ResponseError):
         self.retry_after = float(after) if re.fullmatch(r"\d{1,6}", after) else None
 
 
+# How the message of a proxy's own response begins, with the configurations in deploy.
+OF_PROXY = "proxy: "
+
+
 def error_of(response: Response) -> Optional[ResponseError]:
     """Returns the error of a response, or None if its status is one of success."""
     if response.status in (200, 201):
@@ -101,6 +105,9 @@ def error_of(response: Response) -> Optional[ResponseError]:
     message = value.get("message") if isinstance(value, dict) else None
     if not isinstance(message, str):
         return ProxyError(response, response.status >= 500)
+    if message.startswith(OF_PROXY):
+        # With 429, 503 and every 4xx, the proxy did not pass the request on.
+        return ProxyError(response, response.status in (502, 504))
     if message == "fault":
         return Fault(message, response)
     if message == "stopped":
