@@ -43,7 +43,7 @@ ENDED, STAYING = 600, 60
 STOPS, KILLS = lengths.of(8, 16), lengths.of(4, 8)
 # One of so many memory allocations is refused. Calls on files fail alone or with all after it, in turn: one of so many
 # of these ways is tried.
-STEP, CALLS_STEP = 61, 9
+STEP, CALLS_STEP = lengths.of(251, 61), 9
 CELL = ("89c25904", 288901920, 288901920)
 ID = "00000000-0000-4000-8000-{:012x}".format
 
