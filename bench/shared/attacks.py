@@ -311,7 +311,7 @@ def haproxy(service):
 
 
 class Waits(threading.Thread):
-    """Sends a request at a time until it is told to end, and keeps the seconds that each took, and other statuses."""
+    """Sends one request at a time until `end`, and records the seconds of each, and other statuses."""
 
     def __init__(self, each, ask):
         super().__init__(daemon=True)
