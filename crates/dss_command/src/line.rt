@@ -44,7 +44,8 @@ pub trait Commands {
 
     /// Runs the command `serve`.
     fn serve<E: Write>(self, given: ServeArgs<'_>, error: &mut E) -> Result<(), Fault>
-        ensures { does (CommandArgs.Serve given.entry) None (E.contents error.old) (E.contents error.new)
+        ensures { does (CommandArgs.Serve given.entry) None (E.contents error.old)
+            (E.contents error.new)
             result };
 
     /// Runs the command `self`.
@@ -105,7 +106,8 @@ pub trait Commands {
 
     /// Runs the command `tokens --new-salt`.
     fn new_salt<W: Write>(self, output: &mut W) -> Result<(), Fault>
-        ensures { does CommandArgs.NewSalt None (W.contents output.old) (W.contents output.new) result };
+        ensures { does CommandArgs.NewSalt None (W.contents output.old)
+            (W.contents output.new) result };
 }
 
 /// Returns the exit status of a command. Prints its fault first, on one line.

@@ -19,7 +19,8 @@ use std::io::Write;
 
 /// Writes all of the bytes. The only possible fault is `Output`.
 pub fn put<W: Write>(bytes: &[u8], output: &mut W) -> Result<(), Fault>
-    ensures whole { OnOk result (Appends (W.contents output.old) (W.contents output.new) bytes.now) }
+    ensures whole { OnOk result (Appends (W.contents output.old)
+        (W.contents output.new) bytes.now) }
     ensures output { IfErr result (λ fault. fault ≡ Output) }
 {
     match output.write_all(bytes) {

@@ -138,8 +138,12 @@ pub record ServesClosing {D : Type 0} {g : disk.Ghosts D}
 
 -- States that the clients of a port were answered over a mirrored space over tables. The space was
 -- read at most once for the mirror. All calls were in batches that have ended, with purges between
--- them. After a fault some calls were executed, or none. Then the space is returned, without the
--- mirror.
+-- them. Then the space is returned, without the mirror.
+--
+-- `first` is the space, with its mirror, before the first call, and `last` the one after the last.
+-- After `Ok` (`served`), the clients were answered from `first` to `last`. After `Err` (`part`),
+-- there are two cases: no call was made, so that space and clock are as before; or the clients were
+-- answered from `first` to `last`.
 pub record ServesMirrored {S M : Type 0} (tables : spaces.Ghosts (SqlSpaceModel S))
     (space : spaces.Ghosts (QuotaModel (MirroredModel (SqlSpaceModel S))))
     (m : moments.Ghosts M) (gives : List ℕ → Type 0) (keep : Option ℕ) (tokens : TokenFile)

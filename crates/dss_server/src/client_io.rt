@@ -299,13 +299,16 @@ impl<T: Socket> ClientIo<T> {
         ensures step { IfOk result (λ step. (c : Connection)
             × IsStep S.Space M.gives (callers_of context.entry.tokens.now)
             service.old service.new moments.old moments.new (connection_of self.old) c step
-            × ReleasesUnless (S.is_pending (space_of service.old) || S.is_pending (space_of service.new))
+            × ReleasesUnless
+                (S.is_pending (space_of service.old) || S.is_pending (space_of service.new))
             c (connection_of self.new)) }
-        ensures part { IfErr result (IsStepPart S.Space M.gives (callers_of context.entry.tokens.now)
+        ensures part { IfErr result (IsStepPart S.Space M.gives
+            (callers_of context.entry.tokens.now)
             service.old service.new moments.old moments.new
             (connection_of self.old) (connection_of self.new)) }
         ensures socket { socket_of self.new ≡ socket_of self.old }
-        ensures is_running { GoesOn S.Space S.GroupCommit.own M.Moments (callers_of context.entry.tokens.now)
+        ensures is_running { GoesOn S.Space S.GroupCommit.own M.Moments
+            (callers_of context.entry.tokens.now)
             service.old service.new moments.old moments.new }
         ensures stays { Stays S.Space service.old service.new }
     {
@@ -329,7 +332,8 @@ impl<T: Socket> ClientIo<T> {
         alloc: Global,
         committed: Result<(), SpaceFault>,
     ) -> Result<(), AllocError>
-        ensures told { IsAnsweredBy committed (connection_of self.old) (connection_of self.new) result }
+        ensures told { IsAnsweredBy committed (connection_of self.old)
+            (connection_of self.new) result }
         ensures socket { socket_of self.new ≡ socket_of self.old }
     {
         match committed {

@@ -118,7 +118,8 @@ impl StoreWatch {
         ensures silent { 0 < failures_of self.old → as_nanos now < silent_until self.old
             → IsNone result }
         ensures told { IfSome result (λ it. unreported_of self.new ≡ 0) }
-        ensures unreported { IfNone result (unreported_of self.new ≡ one_more (unreported_of self.old)) }
+        ensures unreported { IfNone result (unreported_of self.new
+            ≡ one_more (unreported_of self.old)) }
     {
         let is_first = !self.is_failing();
         self.failures = self.failures.saturating_add(1);

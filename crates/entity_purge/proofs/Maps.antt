@@ -71,6 +71,16 @@ pub kept_whole : {X : Type 0} (p : X → Bool) (o : Option X) → ((x : X) → o
 kept_whole p None all = refl
 kept_whole p (Some x) all = ap (λ (b : Bool). cond b (Some x) None) (all x refl)
 
+-- An option that lacks at most a value that fails the test is the same after the filter.
+pub kept_partly : {X : Type 0} (p : X → Bool) (n m : Option X) → ((x : X) → n ≡ Some x → m ≡ Some x) → ((x : X) → m ≡ Some x → p x ≡ true → n ≡ Some x) → if_kept p n ≡ if_kept p m
+kept_partly p (Some x) m old stays = ap (if_kept p) (sym (old x refl))
+kept_partly p None None old stays = refl
+kept_partly p None (Some x) old stays =
+    elim (p x) as (λ b. p x ≡ b → None ≡ cond b (Some x) None) [
+      | true ↦ λ t. stays x refl t
+      | false ↦ λ t. refl
+    ] refl
+
 -- A value that the filter retains was there and passes the test.
 pub kept_was : {X : Type 0} (p : X → Bool) (o : Option X) (x : X) → if_kept p o ≡ Some x → (o ≡ Some x) × (p x ≡ true)
 kept_was p None x h = cc
@@ -205,6 +215,11 @@ module _ {K X : Type 0} {R : K → K → Ordering} (o : IsTotalOrder R) (same : 
   pub maps_agree : (p q : K × X → Bool) (m : FinMap R X) → ((k : K) (x : X) → get m k ≡ Some x → p (k, x) ≡ q (k, x)) → kept_where p m ≡ kept_where q m
   maps_agree p q m agree = same_map o same (kept_where p m) (kept_where q m) (λ k.
       get_kept p m k ∙ (kept_agree (λ x. p (k, x)) (λ x. q (k, x)) (get m k) (λ x h. agree k x h) ∙ sym (get_kept q m k)))
+
+  -- A map that lacks only entries that fail the test is the same after the filter.
+  pub maps_partly : (p : K × X → Bool) (n m : FinMap R X) → ((k : K) (x : X) → get n k ≡ Some x → get m k ≡ Some x) → ((k : K) (x : X) → get m k ≡ Some x → p (k, x) ≡ true → get n k ≡ Some x) → kept_where p n ≡ kept_where p m
+  maps_partly p n m old stays = same_map o same (kept_where p n) (kept_where p m) (λ k.
+      get_kept p n k ∙ (kept_partly (λ x. p (k, x)) (get n k) (get m k) (old k) (stays k) ∙ sym (get_kept p m k)))
 
   -- If the first test implies the second, filtering by the second first does not matter.
   pub maps_twice : (p q : K × X → Bool) (m : FinMap R X) → ((k : K) (x : X) → get m k ≡ Some x → p (k, x) ≡ true → q (k, x) ≡ true) → kept_where p (kept_where q m) ≡ kept_where p m

@@ -1,5 +1,5 @@
 -- The effect of a purge on an airspace.
-use Rattle.std.specs.Prelude.{◌≡◌, ℕ, ◌≤◌, ◌&&◌, not, nat_le, Bool, true, false, cond, List, filter, Option, Some, None, is_some}
+use Rattle.std.specs.Prelude.{◌≡◌, ℕ, ◌≤◌, ◌&&◌, not, nat_le, Bool, true, false, cond, List, filter, Option, Some, None, is_some, ◌↔◌}
 use Rattle.std.specs.declared.cmp.Ordering.{Ordering}
 use Rattle.std.specs.List.{AllByRecursion, list_any}
 use Rattle.std.specs.FinMap.{FinMap, entries, from_sorted, get, remove}
@@ -73,13 +73,28 @@ purged until a = record a {
 abbrev pub SameOncePurged : ℕ → Airspace → Airspace → Type 0
 SameOncePurged until a b = purged until a ≡ purged until b
 
--- Holds if the second airspace is the first one after all, some or none of the purge's removals.
+-- Holds if the second airspace is the first one after all, some or none of the purge's removals: a
+-- purge of either gives the same. `LacksOnlyDue` is the plain form.
 pub record IsPartlyPurged (until : ℕ) (a b : Airspace) : Type 0 where
   pub entities : (k : EntityKey) (e : Entity) → get b.entities k ≡ Some e
       → get a.entities k ≡ Some e
   pub subscriptions : (id : ℕ) (s : Sub) → get b.subscriptions id ≡ Some s
       → get a.subscriptions id ≡ Some s
   pub same : SameOncePurged until b a
+
+-- Holds if the second airspace lacks nothing but entities and subscriptions of the first one that
+-- are due for the purge. Nothing is new in it, and everything else is equal.
+pub record LacksOnlyDue (until : ℕ) (a b : Airspace) : Type 0 where
+  pub no_new_entity : (k : EntityKey) (e : Entity) → get b.entities k ≡ Some e
+      → get a.entities k ≡ Some e
+  pub entities_stay : (k : EntityKey) (e : Entity) → get a.entities k ≡ Some e
+      → has_ended until e ≡ false → get b.entities k ≡ Some e
+  pub no_new_subscription : (id : ℕ) (s : Sub) → get b.subscriptions id ≡ Some s
+      → get a.subscriptions id ≡ Some s
+  pub subscriptions_stay : (id : ℕ) (s : Sub) → get a.subscriptions id ≡ Some s
+      → is_due_for_purge until a (id, s) ≡ false → get b.subscriptions id ≡ Some s
+  pub availabilities : b.availabilities ≡ a.availabilities
+  pub serial : b.serial ≡ a.serial
 
 -- The airspace without an entity, and without a subscription. The serial stays, because a purge is
 -- not a change.
@@ -137,6 +152,10 @@ PurgesJoin = (u v : ℕ) (a : Airspace) → u ≤ v → purged v (purged u a) �
 -- States that a purge up to the same or an earlier time is a part of a purge.
 abbrev pub PurgedIsPartly : Type 0
 PurgedIsPartly = (u until : ℕ) (a : Airspace) → u ≤ until → IsPartlyPurged until a (purged u a)
+
+-- States that an airspace is partly purged exactly if it lacks nothing but what is due.
+abbrev pub PartlyIsPlain : Type 0
+PartlyIsPlain = (until : ℕ) (a b : Airspace) → IsPartlyPurged until a b ↔ LacksOnlyDue until a b
 
 -- States that a purge can be done in chunks. If an airspace is partly purged, it stays so after one
 -- or more further items are purged. If nothing remains to purge, the purge is complete.

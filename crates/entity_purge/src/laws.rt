@@ -1,6 +1,6 @@
 //! Laws of a purge. Each is the contract of a function that does nothing.
 ghost use Rattle.entity_purge.specs.PurgeItem.{GoneIsPurged};
-ghost use Rattle.entity_purge.specs.Purge.{EndedIsAll, ChunksMakePurges, PurgeIsExact, PurgeKeeps, PurgeKeepsReferences, PurgesJoin, PurgedIsPartly};
+ghost use Rattle.entity_purge.specs.Purge.{EndedIsAll, ChunksMakePurges, PurgeIsExact, PurgeKeeps, PurgeKeepsReferences, PurgesJoin, PartlyIsPlain, PurgedIsPartly};
 
 /// States that volumes have ended by a time exactly if each of them has.
 pub fn ended_when_all_volumes_ended()
@@ -26,6 +26,13 @@ pub fn purge_keeps()
 /// States that two consecutive purges equal the later one.
 pub fn purges_join()
     ensures { PurgesJoin }
+{}
+
+/// States that an airspace is partly purged exactly if it lacks nothing but what is due.
+///
+/// Nothing is new in it, and everything else is equal.
+pub fn partly_purged_lacks_only_due()
+    ensures { PartlyIsPlain }
 {}
 
 /// States that a purge can be done in chunks.

@@ -80,7 +80,7 @@ numbered_purged salt (segment ∷ segments) batches last a b is kept =
       | false ↦ λ more.
           numbered_purged salt segments batches _ more.0 b
           (kept_partly salt _ segment.until (airspace_after_batches salt a segment.batches) more.0 (kept_run salt last (answered_calls (all_timed segment.batches) (all_delivered segment.batches)) a is) more.1) more.2
-    ] kept
+    ] kept.1
 
 pub purged_numbered : {S : Type 0} (k : settles.Ghosts S) (salt : List ℕ) (n : ℕ) (segments : List Segment) (batches : List Batch) (new : Service S) (a : Airspace) → RunsPurged k salt (empty_at n) segments batches new → k.persists (space_of new) a → AllNumbered salt a
 purged_numbered k salt n segments batches new a runs held = numbered_purged salt segments batches _ (empty_at n) a (kept_empty salt n) (runs.kept a held)

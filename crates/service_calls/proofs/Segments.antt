@@ -66,14 +66,16 @@ either false is not = not refl
 -- The durable airspace is one that these replies allow.
 kept_of_both : (salt : List ℕ) (a : Airspace) (segments : List Segment) (batches : List Batch) (b : Airspace) → AreDeliveredAndDurable salt a segments batches b → MayHavePersistedPurged salt a segments batches b
 kept_of_both salt a [] batches b both = both.1
-kept_of_both salt a (segment ∷ segments) batches b both =
-    elim (has_stopped (all_delivered segment.batches)) as (λ x. IfStopped x (AllStopped segments batches × MayHavePersisted salt a segment.batches b)
-    ((c : Airspace) × IsPartlyPurged segment.until (airspace_after_batches salt a segment.batches) c × AreDeliveredAndDurable salt c segments batches b)
-    → IfStopped x (MayHavePersisted salt a segment.batches b)
-    ((c : Airspace) × IsPartlyPurged segment.until (airspace_after_batches salt a segment.batches) c × MayHavePersistedPurged salt c segments batches b)) [
-      | true ↦ λ kept. kept.1
-      | false ↦ λ more. (more.0, more.1, kept_of_both salt more.0 segments batches b more.2)
-    ] both.1
+kept_of_both salt a (segment ∷ segments) batches b both = (
+  tt,
+  elim (has_stopped (all_delivered segment.batches)) as (λ x. IfStopped x (AllStopped segments batches × MayHavePersisted salt a segment.batches b)
+      ((c : Airspace) × IsPartlyPurged segment.until (airspace_after_batches salt a segment.batches) c × AreDeliveredAndDurable salt c segments batches b)
+      → IfStopped x (MayHavePersisted salt a segment.batches b)
+      ((c : Airspace) × IsPartlyPurged segment.until (airspace_after_batches salt a segment.batches) c × MayHavePersistedPurged salt c segments batches b)) [
+        | true ↦ λ kept. kept.1
+        | false ↦ λ more. (more.0, more.1, kept_of_both salt more.0 segments batches b more.2)
+      ] both.1,
+)
 
 -- ---- one segment before others
 

@@ -102,29 +102,44 @@ uncommitted calls = record { calls = calls; settled = Err Unchanged }
 abbrev pub airspace_of : List ℕ → Airspace → Batch → Airspace
 airspace_of salt a batch = airspace_after salt a (answered_calls (timed_in batch) (replies_delivered batch))
 
--- Holds if the airspace can be durable after a batch in which some reply is `Stopped`: the airspace
--- without the pending changes, or with them. A call with the reply `Stopped` may have had its
--- effect.
-abbrev pub MayHaveLeft : List ℕ → Airspace → Batch → Airspace → Type 0
-MayHaveLeft salt a batch after = (after ≡ airspace_of salt a (uncommitted batch.calls))
-    ⊎ MayHaveStepped salt a (timed_in batch) (replies_made batch) after
+-- Holds if the airspace is the one that the batch leaves if its pending changes are lost.
+abbrev pub LeftWithoutPending : List ℕ → Airspace → Batch → Airspace → Type 0
+LeftWithoutPending salt a batch after = after ≡ airspace_of salt a (uncommitted batch.calls)
 
+-- Holds if the airspace is one that the batch can leave if its pending changes are durable. A call
+-- with the reply `Stopped` had its effect, or had none.
+abbrev pub LeftWithPending : List ℕ → Airspace → Batch → Airspace → Type 0
+LeftWithPending salt a batch after =
+    MayHaveStepped salt a (timed_in batch) (replies_made batch) after
+
+-- Holds if the airspace can be durable after a batch in which some reply is `Stopped`: the pending
+-- changes are lost, or they are durable.
+abbrev pub MayHaveLeft : List ℕ → Airspace → Batch → Airspace → Type 0
+MayHaveLeft salt a batch after =
+    LeftWithoutPending salt a batch after ⊎ LeftWithPending salt a batch after
+
+-- True if some reply that the batch delivered is `Stopped`.
+abbrev pub batch_stops : Batch → Bool
+batch_stops batch = has_stopped (replies_delivered batch)
+
+-- Holds if P holds when something stopped, and Q when nothing did.
 abbrev pub IfStopped : Bool → Type 0 → Type 0 → Type 0
 IfStopped true P Q = P
 IfStopped false P Q = Q
 
--- Holds if the airspace can be durable after batches. It is the one after all answered calls, or
--- one that the first batch with a reply `Stopped` may have left.
+-- Holds if the airspace can be durable after batches. There are two cases. If some batch delivered
+-- `Stopped`, the airspace is one that the first such batch can have left. Otherwise it is the one
+-- after all answered calls.
 abbrev pub MayHavePersisted : List ℕ → Airspace → List Batch → Airspace → Type 0
 MayHavePersisted salt a [] after = after ≡ a
 MayHavePersisted salt a (batch ∷ batches) after =
-    IfStopped (has_stopped (replies_delivered batch)) (MayHaveLeft salt a batch after)
+    IfStopped (batch_stops batch) (MayHaveLeft salt a batch after)
     (MayHavePersisted salt (airspace_of salt a batch) batches after)
 
 -- Holds if every reply after the first batch with a reply `Stopped` is `Stopped`.
 abbrev pub StayStoppedIn : List Batch → Type 0
 StayStoppedIn [] = Unit {0}
-StayStoppedIn (batch ∷ batches) = IfStopped (has_stopped (replies_delivered batch))
+StayStoppedIn (batch ∷ batches) = IfStopped (batch_stops batch)
     (All (λ r. r ≡ Stopped) (all_delivered batches)) (StayStoppedIn batches)
 
 -- Holds if the delivered replies are those of the policy, except for the calls that failed. While

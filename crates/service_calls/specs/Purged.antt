@@ -1,5 +1,5 @@
 -- Batches with purges of ended items between them.
-use Rattle.std.specs.Prelude.{◌≡◌, ◌<◌, ◌≤◌, ℕ, true, false, List, [], ◌∷◌, ◌++◌, length, All, Result, Ok, Err, IsErrOf, IfOk}
+use Rattle.std.specs.Prelude.{◌≡◌, ◌<◌, ◌≤◌, ℕ, Bool, true, false, List, [], ◌∷◌, ◌++◌, length, All, Result, Ok, Err, IsErrOf, IfOk}
 use Rattle.entity_core.specs.Airspace.{Airspace, empty_at}
 use Rattle.entity_purge.specs.declared.purge_item.PurgeItem.{PurgeItem}
 use Rattle.entity_purge.specs.PurgeItem.{AreDueForPurge, IsPurgedAlready, without_items}
@@ -115,33 +115,57 @@ all_delivered_in (segment ∷ segments) batches = all_delivered segment.batches 
 abbrev pub AllStopped : List Segment → List Batch → Type 0
 AllStopped segments batches = All (λ r. r ≡ Stopped) (all_delivered_in segments batches)
 
+-- True if some reply that the segment delivered is `Stopped`.
+abbrev pub segment_stops : Segment → Bool
+segment_stops segment = has_stopped (all_delivered segment.batches)
+
+-- What is claimed over segments. Each claim is about batches and the airspace before them.
+pub record SegmentClaim : Type 1 where
+  -- Of the batches of each segment.
+  pub each : Airspace → List Batch → Type 0
+  -- Of the batches of the first segment that delivered `Stopped`, and of the segments and batches
+  -- after it.
+  pub stopped : Airspace → List Batch → List Segment → List Batch → Type 0
+  -- Of the batches after the last segment.
+  pub last : Airspace → List Batch → Type 0
+
+-- Holds if the claim is true over segments and the batches after them, beginning in an airspace.
+-- After a segment that delivered no `Stopped`, the next one begins in the airspace that this one
+-- left, partly purged. After one that did, nothing more is claimed than `stopped`.
+abbrev pub OverSegments : SegmentClaim → List ℕ → Airspace → List Segment → List Batch → Type 0
+OverSegments claim salt a [] batches = claim.last a batches
+OverSegments claim salt a (segment ∷ segments) batches = claim.each a segment.batches
+    × IfStopped (segment_stops segment) (claim.stopped a segment.batches segments batches)
+    ((b : Airspace) × IsPartlyPurged segment.until (airspace_after_batches salt a segment.batches) b
+    × OverSegments claim salt b segments batches)
+
 -- Holds if the replies in each segment are those of the policy over the airspace that the segment
 -- before left, partly purged. After the first segment that stopped, every reply is `Stopped`.
 abbrev pub AreDeliveredPurged : List ℕ → Airspace → List Segment → List Batch → Type 0
-AreDeliveredPurged salt a [] batches = AreTold salt a batches
-AreDeliveredPurged salt a (segment ∷ segments) batches = AreTold salt a segment.batches
-    × IfStopped (has_stopped (all_delivered segment.batches)) (AllStopped segments batches)
-    ((b : Airspace) × IsPartlyPurged segment.until (airspace_after_batches salt a segment.batches) b
-    × AreDeliveredPurged salt b segments batches)
+AreDeliveredPurged salt a segments batches = OverSegments (record {
+  each = AreTold salt;
+  stopped = λ a now segments batches. AllStopped segments batches;
+  last = AreTold salt;
+}) salt a segments batches
 
 -- Holds if the airspace can be durable after segments and batches: after the segment that stopped,
 -- or after the batches over the airspace that the segments before left, partly purged.
 abbrev pub MayHavePersistedPurged : List ℕ → Airspace → List Segment → List Batch → Airspace → Type 0
-MayHavePersistedPurged salt a [] batches after = MayHavePersisted salt a batches after
-MayHavePersistedPurged salt a (segment ∷ segments) batches after =
-    IfStopped (has_stopped (all_delivered segment.batches)) (MayHavePersisted salt a segment.batches after)
-    ((b : Airspace) × IsPartlyPurged segment.until (airspace_after_batches salt a segment.batches) b
-    × MayHavePersistedPurged salt b segments batches after)
+MayHavePersistedPurged salt a segments batches after = OverSegments (record {
+  each = λ a now. Unit {0};
+  stopped = λ a now segments batches. MayHavePersisted salt a now after;
+  last = λ a now. MayHavePersisted salt a now after;
+}) salt a segments batches
 
 -- Holds if both the replies and the durable airspace are possible over the same airspaces between
 -- segments.
 abbrev pub AreDeliveredAndDurable : List ℕ → Airspace → List Segment → List Batch → Airspace → Type 0
-AreDeliveredAndDurable salt a [] batches after = AreTold salt a batches × MayHavePersisted salt a batches after
-AreDeliveredAndDurable salt a (segment ∷ segments) batches after = AreTold salt a segment.batches
-    × IfStopped (has_stopped (all_delivered segment.batches))
-    (AllStopped segments batches × MayHavePersisted salt a segment.batches after)
-    ((b : Airspace) × IsPartlyPurged segment.until (airspace_after_batches salt a segment.batches) b
-    × AreDeliveredAndDurable salt b segments batches after)
+AreDeliveredAndDurable salt a segments batches after = OverSegments (record {
+  each = AreTold salt;
+  stopped = λ a now segments batches.
+      AllStopped segments batches × MayHavePersisted salt a now after;
+  last = λ a now. AreTold salt a now × MayHavePersisted salt a now after;
+}) salt a segments batches
 
 -- Holds if the delivered replies and the durable airspace are those of the policy over what the
 -- purges left. While the service is not shut, no reply is `Stopped` and one airspace is durable. No

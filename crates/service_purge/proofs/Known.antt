@@ -21,7 +21,7 @@ use Rattle.service_calls.proofs.Counts.{tally_run}
 use Rattle.service_calls.proofs.Joined.{goes_first, stops_then}
 use Rattle.service_calls.proofs.BatchLaws.{kept_all}
 use Rattle.service_calls.proofs.SegmentLaws.{kept_partly}
-use Rattle.service_purge.specs.Segments.{Follow, SegmentsAreAware, Stretch, done_in, last_put}
+use Rattle.service_purge.specs.Segments.{SegmentsAreAware, Stretch, StretchesTo, done_in, last_put}
 
 -- ---- counts over calls, and over later calls
 
@@ -91,20 +91,22 @@ module _ (salt : List ℕ) (a : Airspace) (batches : List Batch) (told : AreTold
 
 -- The properties over all stretches, given a last put of each entity and the counted calls.
 record KnownSince (salt : List ℕ) (last : EntityKey → Option MadeCall) (made : List MadeCall) (from : Airspace) (segments : List Segment) (batches : List Batch) (a : Airspace) : Type 0 where
-  stretches : List Stretch
-  follow : Follow salt from segments batches stretches a
-  told : AllByRecursion (λ stretch. AreTold salt stretch.from stretch.batches) stretches
-  kept : Kept salt (λ k. later_or (last_put salt stretches k) (last k)) a
-  counted : AllCounted (made ++ done_in salt stretches) a
+  came : StretchesTo salt from segments batches a
+  kept : Kept salt (λ k. later_or (last_put salt (came.first ∷ came.others) k) (last k)) a
+  counted : AllCounted (made ++ done_in salt (came.first ∷ came.others)) a
 
 known_since : (salt : List ℕ) (segments : List Segment) (batches : List Batch) (last : EntityKey → Option MadeCall) (made : List MadeCall) (from a : Airspace) → Kept salt last from → AllCounted made from
     → has_stopped (all_delivered_in segments batches) ≡ false → AreDeliveredAndDurable salt from segments batches a → KnownSince salt last made from segments batches a
 known_since salt [] batches last made from a kept counted goes both =
     let is : a ≡ airspace_after_batches salt from batches = kept_all salt from batches a goes both.1 in
     record {
-      stretches = record { from = from; batches = batches } ∷ [];
-      follow = (refl, is);
-      told = (both.0, tt);
+      came = record {
+        first = record { from = from; batches = batches };
+        others = [];
+        begins = refl;
+        follow = record { batches = refl; left = is };
+        told = (both.0, tt);
+      };
       kept = subst (Kept salt (λ k. later_or (writer salt from batches both.0 goes k) (last k))) (sym is) (kept_then salt from batches both.0 goes last kept);
       counted = subst (λ (ms : List MadeCall). AllCounted (made ++ ms) a) (sym (append-nil (done salt from batches both.0 goes)))
           (subst (AllCounted (made ++ done salt from batches both.0 goes)) (sym is) (counted_then salt from batches both.0 goes made counted));
@@ -121,11 +123,15 @@ known_since salt (segment ∷ segments) batches last made from a kept counted go
     (λ id s there. counted_then salt from segment.batches both.0 first made counted id s (left.1.subscriptions id s there))
     (sym (stops_then (all_delivered segment.batches) (all_delivered_in segments batches) first) ∙ goes) left.2 in
     record {
-      stretches = record { from = from; batches = segment.batches } ∷ rest.stretches;
-      follow = (refl, (left.0, left.1, rest.follow));
-      told = (both.0, rest.told);
-      kept = subst (λ (f : EntityKey → Option MadeCall). Kept salt f a) (λ i k. later_later (last_put salt rest.stretches k) (put k) (last k) i) rest.kept;
-      counted = subst (λ (ms : List MadeCall). AllCounted ms a) (append_assoc made calls (done_in salt rest.stretches)) rest.counted;
+      came = record {
+        first = record { from = from; batches = segment.batches };
+        others = rest.came.first ∷ rest.came.others;
+        begins = refl;
+        follow = (record { batches = refl; partly = subst (IsPartlyPurged segment.until after) (sym rest.came.begins) left.1 }, rest.came.follow);
+        told = (both.0, rest.came.told);
+      };
+      kept = subst (λ (f : EntityKey → Option MadeCall). Kept salt f a) (λ i k. later_later (last_put salt (rest.came.first ∷ rest.came.others) k) (put k) (last k) i) rest.kept;
+      counted = subst (λ (ms : List MadeCall). AllCounted ms a) (append_assoc made calls (done_in salt (rest.came.first ∷ rest.came.others))) rest.counted;
     }
 
 -- ---- the law
@@ -133,13 +139,9 @@ known_since salt (segment ∷ segments) batches last made from a kept counted go
 pub segments_aware : {S : Type 0} (k : settles.Ghosts S) → SegmentsAreAware k
 segments_aware k salt n segments batches new a runs goes held =
     let known = known_since salt segments batches (λ l. None) [] (empty_at n) a (kept_empty salt n) (none_counted n) goes (runs.both a held) in
-    let kept : Kept salt (last_put salt known.stretches) a = subst (λ (f : EntityKey → Option MadeCall). Kept salt f a) (λ i l. later_none (last_put salt known.stretches l) i) known.kept in
+    let stretches : List Stretch = known.came.first ∷ known.came.others in
+    let kept : Kept salt (last_put salt stretches) a = subst (λ (f : EntityKey → Option MadeCall). Kept salt f a) (λ i l. later_none (last_put salt stretches l) i) known.kept in
     record {
-      stretches = known.stretches;
-      follow = known.follow;
-      told = known.told;
-      proper = kept.proper;
-      serials = kept.serials;
-      knew = kept.knew;
-      counted = known.counted;
+      came = known.came;
+      known = record { proper = kept.proper; serials = kept.serials; knew = kept.knew; counted = known.counted };
     }

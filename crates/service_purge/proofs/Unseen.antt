@@ -66,7 +66,7 @@ module _ (salt : List ℕ) (segment : Segment) (segments : List Segment) (batche
     told_left told = subst (λ x. IfStopped x (AllStopped segments batches) ((b : Airspace) × IsPartlyPurged segment.until left b × AreDeliveredPurged salt b segments batches)) first_goes told.1
 
     kept_left : (c : Airspace) → MayHavePersistedPurged salt a (segment ∷ segments) batches c → (b : Airspace) × IsPartlyPurged segment.until left b × MayHavePersistedPurged salt b segments batches c
-    kept_left c kept = subst (λ x. IfStopped x (MayHavePersisted salt a segment.batches c) ((b : Airspace) × IsPartlyPurged segment.until left b × MayHavePersistedPurged salt b segments batches c)) first_goes kept
+    kept_left c kept = subst (λ x. IfStopped x (MayHavePersisted salt a segment.batches c) ((b : Airspace) × IsPartlyPurged segment.until left b × MayHavePersistedPurged salt b segments batches c)) first_goes kept.1
 
     -- The replies in the segment, and in what follows.
     told_more : delivered_replies (all_delivered segment.batches) ≡ replies_of salt a (answered_of segment.batches) → delivered_replies (all_delivered_in segments batches) ≡ replies_of salt left (answered_in segments batches)

@@ -22,16 +22,32 @@ pub record Stretch : Type 0 where
   pub from : Airspace
   pub batches : List Batch
 
--- Holds if these are the stretches of the segments and of the batches after them, and `after` is
--- the airspace left. Each stretch begins in the airspace that the one before left, partly purged.
-abbrev pub Follow : List ℕ → Airspace → List Segment → List Batch → List Stretch → Airspace → Type 0
-Follow salt a [] batches stretches after = (stretches ≡ record { from = a; batches = batches } ∷ [])
-    × (after ≡ airspace_after_batches salt a batches)
-Follow salt a (segment ∷ segments) batches [] after = ⊥
-Follow salt a (segment ∷ segments) batches (stretch ∷ stretches) after =
-    (stretch ≡ record { from = a; batches = segment.batches })
-    × ((b : Airspace) × IsPartlyPurged segment.until (airspace_after_batches salt a segment.batches) b
-    × Follow salt b segments batches stretches after)
+-- The airspace that a stretch leaves.
+abbrev pub left_by : List ℕ → Stretch → Airspace
+left_by salt stretch = airspace_after_batches salt stretch.from stretch.batches
+
+-- Holds if the stretch is that of the segment, and the next one begins in the airspace that it
+-- leaves, partly purged.
+pub record LeadsTo (salt : List ℕ) (segment : Segment) (stretch next : Stretch) : Type 0 where
+  pub batches : stretch.batches ≡ segment.batches
+  pub partly : IsPartlyPurged segment.until (left_by salt stretch) next.from
+
+-- Holds if the stretch is that of the batches after all segments, and leaves the airspace.
+pub record EndsIn (salt : List ℕ) (batches : List Batch) (stretch : Stretch) (after : Airspace)
+    : Type 0 where
+  pub batches : stretch.batches ≡ batches
+  pub left : after ≡ left_by salt stretch
+
+-- Holds if these are the stretches of the segments, in order, and of the batches after them.
+-- `after` is the airspace left.
+abbrev pub Follow : List ℕ → List Segment → List Batch → List Stretch → Airspace → Type 0
+Follow salt [] batches [] after = ⊥
+Follow salt [] batches (stretch ∷ []) after = EndsIn salt batches stretch after
+Follow salt [] batches (stretch ∷ next ∷ stretches) after = ⊥
+Follow salt (segment ∷ segments) batches [] after = ⊥
+Follow salt (segment ∷ segments) batches (stretch ∷ []) after = ⊥
+Follow salt (segment ∷ segments) batches (stretch ∷ next ∷ stretches) after =
+    LeadsTo salt segment stretch next × Follow salt segments batches (next ∷ stretches) after
 
 -- The last call in all stretches that was answered `Done` and created or updated the entity of a
 -- key.
@@ -46,13 +62,18 @@ done_in salt stretches =
     flat_map (λ stretch. done_calls salt stretch.from (all_timed stretch.batches)
     (all_delivered stretch.batches)) stretches
 
--- Holds if an airspace has these properties after segments and the batches after them.
-pub record KnownOver (salt : List ℕ) (from : Airspace) (segments : List Segment)
+-- The stretches by which an airspace came about, from another one.
+pub record StretchesTo (salt : List ℕ) (from : Airspace) (segments : List Segment)
     (batches : List Batch) (a : Airspace) : Type 0 where
-  pub stretches : List Stretch
-  pub follow : Follow salt from segments batches stretches a
+  pub first : Stretch
+  pub others : List Stretch
+  pub begins : first.from ≡ from
+  pub follow : Follow salt segments batches (first ∷ others) a
   -- The replies in each stretch are those of the policy, except for the calls that failed.
-  pub told : AllByRecursion (λ stretch. AreTold salt stretch.from stretch.batches) stretches
+  pub told : AllByRecursion (λ stretch. AreTold salt stretch.from stretch.batches) (first ∷ others)
+
+-- Holds if an airspace has these properties after stretches.
+pub record KnownAfter (salt : List ℕ) (stretches : List Stretch) (a : Airspace) : Type 0 where
   pub proper : IsAirspace a
   -- Serials differ. The last put of the later of two meeting entities knew the other, if the later
   -- one is an intent that is planned or flown as planned. The put can be in any stretch.
@@ -62,6 +83,13 @@ pub record KnownOver (salt : List ℕ) (from : Airspace) (segments : List Segmen
   -- last call that created it.
   pub counted : (id : ℕ) (s : Sub) → get a.subscriptions id ≡ Some s
       → IsCounted id (done_in salt stretches) s.index
+
+-- Holds if an airspace came about by some stretches of the segments and of the batches after them,
+-- and has these properties after them.
+pub record KnownOver (salt : List ℕ) (from : Airspace) (segments : List Segment)
+    (batches : List Batch) (a : Airspace) : Type 0 where
+  pub came : StretchesTo salt from segments batches a
+  pub known : KnownAfter salt (came.first ∷ came.others) a
 
 -- ---- the same without purges
 

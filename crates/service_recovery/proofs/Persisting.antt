@@ -48,19 +48,21 @@ due_unstopped salt a b (r ∷ rs) goes is =
 pub without_empty_purged : (salt : List ℕ) (a b : Airspace) (segments : List Segment) (batches : List Batch) → MayHavePersistedPurged salt a segments (batches ++ uncommitted [] ∷ []) b → MayHavePersistedPurged salt a segments batches b
 without_empty_purged salt a b [] batches may = without_empty salt a b batches may
 without_empty_purged salt a b (s ∷ ss) batches may =
-    let after = airspace_after_batches salt a s.batches in
-    elim (has_stopped (all_delivered s.batches)) as (λ x. IfStopped x (MayHavePersisted salt a s.batches b) ((c : Airspace) × IsPartlyPurged s.until after c × MayHavePersistedPurged salt c ss (batches ++ uncommitted [] ∷ []) b)
-    → IfStopped x (MayHavePersisted salt a s.batches b) ((c : Airspace) × IsPartlyPurged s.until after c × MayHavePersistedPurged salt c ss batches b)) [
-      | true ↦ λ left. left
-      | false ↦ λ more. (more.0, more.1, without_empty_purged salt more.0 b ss batches more.2)
-    ] may
+    let after = airspace_after_batches salt a s.batches in (
+      tt,
+      elim (has_stopped (all_delivered s.batches)) as (λ x. IfStopped x (MayHavePersisted salt a s.batches b) ((c : Airspace) × IsPartlyPurged s.until after c × MayHavePersistedPurged salt c ss (batches ++ uncommitted [] ∷ []) b)
+          → IfStopped x (MayHavePersisted salt a s.batches b) ((c : Airspace) × IsPartlyPurged s.until after c × MayHavePersistedPurged salt c ss batches b)) [
+            | true ↦ λ left. left
+            | false ↦ λ more. (more.0, more.1, without_empty_purged salt more.0 b ss batches more.2)
+          ] may.1,
+    )
 
 -- If no call of a segment returned `Stopped`, the next segments continue from its airspace, partly
 -- purged.
 going_on : (salt : List ℕ) (a b : Airspace) (s : Segment) (ss : List Segment) (batches : List Batch) → has_stopped (all_delivered s.batches) ≡ false → MayHavePersistedPurged salt a (s ∷ ss) batches b
     → (c : Airspace) × IsPartlyPurged s.until (airspace_after_batches salt a s.batches) c × MayHavePersistedPurged salt c ss batches b
 going_on salt a b s ss batches goes may =
-    subst (λ x. IfStopped x (MayHavePersisted salt a s.batches b) ((c : Airspace) × IsPartlyPurged s.until (airspace_after_batches salt a s.batches) c × MayHavePersistedPurged salt c ss batches b)) goes may
+    subst (λ x. IfStopped x (MayHavePersisted salt a s.batches b) ((c : Airspace) × IsPartlyPurged s.until (airspace_after_batches salt a s.batches) c × MayHavePersistedPurged salt c ss batches b)) goes may.1
 
 pub due_purged : (salt : List ℕ) (a b : Airspace) (segments : List Segment) (batches : List Batch) → has_stopped (all_delivered_in segments batches) ≡ false → MayHavePersistedPurged salt a segments batches b → IsExpectedAfter salt a segments batches b
 due_purged salt a b [] batches goes is = due_unstopped salt a b batches goes is

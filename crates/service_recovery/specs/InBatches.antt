@@ -52,8 +52,13 @@ module _ {D : Type 0} {g : disk.Ghosts D} (tables : spaces.Ghosts (SqlSpaceModel
 
   -- States that a run in batches continues its files. A service started over files and received
   -- batches of calls. After some batches, it purged some of what had ended. The last calls were
-  -- ended by no commit. The space over tables was abandoned, and a crash left what it may of the
+  -- ended by no commit. The space over tables was abandoned, and a crash left what it can of the
   -- files. The changes that were pending then are lost.
+  --
+  -- The premises go from files to files, in the order in which things happen. `old` starts over the
+  -- files `before`. `segments` lead from `old` to `purged`, `batches` from there to `mid`, and the
+  -- open batch `calls` to `new`. `last` is what the space over tables in `new` leaves of its store,
+  -- and `after` is what a crash leaves of that.
   abbrev pub ContinuesInBatches : Type 0
   ContinuesInBatches =
       (before after : Image) (old purged mid new : Service (QuotaModel (MirroredModel (SqlSpaceModel (FileStore D g)))))

@@ -72,9 +72,16 @@ AloneIsStepped =
     (salt : List ℕ) (a b : Airspace) (calls : List TimedCall) (replies : List Reply)
     → MayHavePersisted salt a (alone calls replies ∷ []) b ↔ MayHaveStepped salt a calls replies b
 
--- Holds if the airspace may follow from the other one in this run: by the policy's steps for the
--- calls that were answered. Of the first batch with a `Stopped`, if there is one, the calls up to
--- it count, or all of its calls. Whatever was purged between two batches had ended.
+-- Holds if the airspace can follow from the other one in this run: by the policy's steps for the
+-- calls that were answered. Of the first batch with a `Stopped`, if there is one, the calls without
+-- pending changes count, or all calls up to the `Stopped`, with its own call or without it. Only
+-- what had ended was purged between two segments.
+--
+-- Example: a run without segments has one batch of two calls. The first creates an intent and has
+-- the reply `Done`, which is deferred. The second deletes a constraint and has the reply `Stopped`.
+-- Three airspaces can follow from `a`: `a` itself, `a` with the intent, and `a` with the intent and
+-- without the constraint. If the second reply is `Done` too and the batch was committed, only the
+-- last one can follow.
 abbrev pub MayCome : Airspace → Run → Airspace → Type 0
 MayCome a run b = MayHavePersistedPurged run.salt a run.segments run.batches b
 

@@ -47,21 +47,33 @@ ReportedBy (Space Unchanged) refusals refusals' broken broken' =
     ((refusals < refusals') ⊎ (refusals' ≡ max_count)) × (broken' ≡ broken)
 ReportedBy (Space Broken) refusals refusals' broken broken' = broken' ≡ true
 
+-- Holds if the call failed because the space broke, or P holds.
+abbrev pub UnlessItBroke : {T : Type 0} → Result T CallFault → Type 0 → Type 0
+UnlessItBroke result P = MatchResult result (λ _. P) (λ fault. UnlessBroke fault P)
+
+-- Holds if the second space holds each airspace that the first one holds.
+abbrev pub HoldsAllOf : {S : Type 0} → Ghosts S → S → S → Type 0
+HoldsAllOf g first second = (a : Airspace) → g.holds first a → g.holds second a
+
+-- Holds if the fault count and the broken flag of the space are as before after `Ok`, and match the
+-- fault otherwise.
+abbrev pub MatchesFault : {S T : Type 0} → Ghosts S → S → S → Result T CallFault → Type 0
+MatchesFault g old new result = MatchResult result
+    (λ _. (g.refusals new ≡ g.refusals old) × (g.is_broken new ≡ g.is_broken old))
+    (λ h. ReportedBy h (g.refusals old) (g.refusals new) (g.is_broken old) (g.is_broken new))
+
 -- Holds if a lookup leaves the content of the space, and its result has P in each airspace that the
--- space held.
+-- space held. If the space is not sound afterwards, only `fixed` and `told` are claimed.
 pub record LooksUp {S T : Type 0} (g : Ghosts S) (old new : S) (result : Result T CallFault)
     (P : Airspace → T → Type 0) : Type 0 where
   pub fixed : g.fixed new ≡ g.fixed old
   pub sound : g.is_sound new → g.is_sound old
   pub whole : g.is_sound new → g.is_whole old → g.is_whole new
-  pub stays : g.is_sound new
-      → MatchResult result (λ _. (a : Airspace) → g.holds old a → g.holds new a)
-      (λ h. UnlessBroke h ((a : Airspace) → g.holds old a → g.holds new a))
-  pub no_other : g.is_sound new → (a : Airspace) → g.holds new a → g.holds old a
+  -- The space still holds what it held, unless it broke. It holds nothing else.
+  pub stays : g.is_sound new → UnlessItBroke result (HoldsAllOf g old new)
+  pub no_other : g.is_sound new → HoldsAllOf g new old
   pub found : g.is_sound new → IfOk result (λ x. (a : Airspace) → g.holds old a → P a x)
-  pub told : MatchResult result
-      (λ _. (g.refusals new ≡ g.refusals old) × (g.is_broken new ≡ g.is_broken old))
-      (λ h. ReportedBy h (g.refusals old) (g.refusals new) (g.is_broken old) (g.is_broken new))
+  pub told : MatchesFault g old new result
 
 abbrev pub facts_in : own.OwnedFacts → Facts
 facts_in g = record {

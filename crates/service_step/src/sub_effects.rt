@@ -37,7 +37,8 @@ fn sub_of(
     id: EntityId,
     put: &SubPut,
 ) -> Result<Sub, AllocError>
-    ensures { IfOk result (λ sub. sub ≡ sub_stored_as salt.now serial manager.now index id put.now) }
+    ensures { IfOk result (λ sub. sub ≡ sub_stored_as salt.now serial manager.now index id
+        put.now) }
 {
     Ok(Sub {
         id,

@@ -31,16 +31,25 @@ pub trait GroupCommit: Space {
         ensures settles { CallCommits Self.Space self.old self.new result persists };
 
     /// If no change is pending, visible and durable airspaces are the same.
-    ghost persists_held: { (s : Self) (a : Airspace) → is_pending s ≡ false → Self.holds s a ↔ persists s a };
+    ghost persists_held: { (s : Self) (a : Airspace) → is_pending s ≡ false
+        → Self.holds s a ↔ persists s a };
 
     /// While changes are pending, calls do not change the durable airspace.
+    ///
+    /// `fixed` stands for what no call but `commit` changes. For a store with an in-memory mirror
+    /// that is the store itself while the mirror exists. So the durable airspace is the store's:
+    /// it was there before the first pending change, stays until `commit`, and is what a crash
+    /// leaves. The trait knows neither stores nor mirrors, so it says only that two states with
+    /// the same fixed part have the same durable airspace.
     ghost persists_while_pending: { (s t : Self) (a : Airspace) → Self.fixed t ≡ Self.fixed s
         → (is_pending s || is_pending t) ≡ true → persists s a ↔ persists t a };
 
     /// While changes are pending, no call breaks the space.
-    ghost unbroken_while_pending: { (s t : Self) → Self.fixed t ≡ Self.fixed s → (is_pending s || is_pending t) ≡ true
+    ghost unbroken_while_pending: { (s t : Self) → Self.fixed t ≡ Self.fixed s
+        → (is_pending s || is_pending t) ≡ true
         → Self.is_broken t ≡ Self.is_broken s };
 
     /// A sound space with pending changes is not broken.
-    ghost pending_is_unbroken: { (s : Self) → Self.is_sound s → is_pending s ≡ true → Self.is_broken s ≡ false };
+    ghost pending_is_unbroken: { (s : Self) → Self.is_sound s → is_pending s ≡ true
+        → Self.is_broken s ≡ false };
 }

@@ -17,5 +17,6 @@ pub trait Purge: Space {
     fn purge(&mut self, gone: &[PurgeItem]) -> Result<(), SpaceFault>
         requires can { ForEachHeld Self.Space self.old (CanPurgeAll gone.now) }
         ensures tells { CallReportsFault Self.Space self.old self.new result }
-        ensures changes { CallChanges Self.Space self.old self.new result (without_items gone.now) };
+        ensures changes { CallChanges Self.Space self.old self.new result
+            (without_items gone.now) };
 }

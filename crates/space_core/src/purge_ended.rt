@@ -19,7 +19,8 @@ pub trait PurgeEnded: GroupCommit {
         ensures tells { CallReportsFault Self.Space self.old self.new result }
         ensures reads { CallReads Self.Space self.old self.new result
             (λ a gone. IsPurgeChunk until most gone.items a) }
-        ensures waits { Self.GroupCommit.is_pending self.new ≡ Self.GroupCommit.is_pending self.old };
+        ensures waits { Self.GroupCommit.is_pending self.new
+            ≡ Self.GroupCommit.is_pending self.old };
 
     /// Purges all items in order, or none.
     ///
@@ -30,5 +31,6 @@ pub trait PurgeEnded: GroupCommit {
         requires can { ForEachHeld Self.Space self.old (CanPurgeAll gone.now) }
         ensures tells { CallReportsFault Self.Space self.old self.new result }
         ensures changes { CallChanges Self.Space self.old self.new result (without_items gone.now) }
-        ensures waits { Self.GroupCommit.is_pending self.new ≡ Self.GroupCommit.is_pending self.old };
+        ensures waits { Self.GroupCommit.is_pending self.new
+            ≡ Self.GroupCommit.is_pending self.old };
 }

@@ -178,7 +178,8 @@ pub trait Space {
             (changed change notify.now) };
 
     /// A sound space that is not broken does not hold two different airspaces.
-    ghost content_unique: { (s : Self) (a b : Airspace) → is_sound s → is_broken s ≡ false → holds s a
+    ghost content_unique: { (s : Self) (a b : Airspace) → is_sound s → is_broken s ≡ false
+        → holds s a
         → holds s b → a ≡ b };
 
     /// A sound space that is not broken and holds an airspace is whole.
@@ -186,7 +187,8 @@ pub trait Space {
         → is_whole s };
 
     /// A sound space that is whole holds some airspace, even if it is broken.
-    ghost content_exists: { (s : Self) → is_sound s → is_whole s → ∥ ((a : Airspace) × holds s a) ∥₁ };
+    ghost content_exists: { (s : Self) → is_sound s → is_whole s
+        → ∥ ((a : Airspace) × holds s a) ∥₁ };
 
     /// Every airspace that a sound space holds is valid.
     ghost content_valid: { (s : Self) (a : Airspace) → is_sound s → holds s a → IsAirspace a };

@@ -33,6 +33,6 @@ module _ {X : Type 0} (look : ℕ → Option X) (volumes : X → List Extent) (t
   ]
 
   pub all_taken : (near : BTreeMap Part ℕ) (ids : BTreeSet ℕ) → All (Taken ids) near.entries → AllPassing look volumes test areas near ids
-  all_taken near ids all = λ part x v j a l p at at_a b h.
-      let e = entry_of near (Taken ids) all part (j % 64) b in
-      e.2 x v j a l p at at_a e.1 h
+  all_taken near ids all = λ part x l p m.
+      let e = entry_of near (Taken ids) all part (m.place % 64) m.bit in
+      e.2 x m.volume m.place m.area l p m.volume_at m.area_at e.1 m.meeting

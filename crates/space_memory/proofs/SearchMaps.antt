@@ -32,7 +32,7 @@ use Rattle.space_memory.specs.CellIndex as entities
 use Rattle.space_memory.specs.CellIndex.{IsMarked, Mark, holder_of}
 use Rattle.space_memory.specs.IndexedSubscriptions as subscriptions
 use Rattle.space_memory.specs.IndexedSubscriptions.{volumes_of}
-use Rattle.space_memory.specs.Found.{AllPassing, Judges, OnlyPassing, entity_of, is_own_of, is_sought_of}
+use Rattle.space_memory.specs.Found.{AllPassing, Judges, MeetsNear, OnlyPassing, entity_of, is_own_of, is_sought_of}
 use Rattle.std.specs.Int.{bit_at}
 use Rattle.space_memory.specs.Near.{HasMeeting, IsAt, Part}
 use Rattle.space_memory.proofs.CellSets.{equal_is}
@@ -109,7 +109,9 @@ module _ (es : List Entity) (marks : BTreeSet Mark) (areas : List Region) (near 
       let bit = has (holder_of x) v.0 v.1 small cells a.0 a.1 (a.2, a.3) a.4 in
       let at_id : get (entity_map es) (kind, x.id) ≡ Some x = ap (get (entity_map es)) here ∙ at in
       let t_id : is_sought kind areas except ((kind, x.id), x) ≡ true = subst (λ (q : EntityKey). is_sought kind areas except (q, x) ≡ true) (sym here) t in
-      (x.id, here, all (x.id, v.0) x v.1 a.0 a.1 at_id t_id (v.2, v.3) (a.2, a.3) bit (meet_to (region_of v.1) a.1 a.4))
+      let meets_near : MeetsNear x.volumes areas near (x.id, v.0) =
+      record { volume = v.1; volume_at = (v.2, v.3); place = a.0; area = a.1; area_at = (a.2, a.3); bit = bit; meeting = meet_to (region_of v.1) a.1 a.4 } in
+      (x.id, here, all (x.id, v.0) x at_id t_id meets_near)
 
   meeting_found : (found : List Entity) → found ≡ filter_map (entity_of (entity_map es) kind) ids.keys → found ≡ meeting_in (entity_map es) kind areas except
   unfolding meeting_in
@@ -145,7 +147,9 @@ module _ (ss : List Sub) (marks : BTreeSet Mark) (areas : List Region) (near : B
       let a = any_from (λ a. meets (region_of s.volume) a) (λ a. Meet (region_of s.volume) a) (λ a. meet_from (region_of s.volume) a) areas meeting in
       let bit = has (subscriptions.holder_of s) 0 s.volume (omega arith) (index id s at) a.0 a.1 (a.2, a.3) a.4 in
       let same : s.id ≡ id = own ss id s at in
-      subst (λ (k : ℕ). contains nat_cmp ids k ≡ true) same (all (s.id, 0) s s.volume a.0 a.1 (ap (get (subscription_map ss)) same ∙ at) (subst (λ (k : ℕ). test (k, s) ≡ true) (sym same) t) (omega arith, refl) (a.2, a.3) bit (meet_to (region_of s.volume) a.1 a.4))
+      let meets_near : MeetsNear (volumes_of s) areas near (s.id, 0) =
+      record { volume = s.volume; volume_at = (omega arith, refl); place = a.0; area = a.1; area_at = (a.2, a.3); bit = bit; meeting = meet_to (region_of s.volume) a.1 a.4 } in
+      subst (λ (k : ℕ). contains nat_cmp ids k ≡ true) same (all (s.id, 0) s (ap (get (subscription_map ss)) same ∙ at) (subst (λ (k : ℕ). test (k, s) ≡ true) (sym same) t) meets_near)
 
   passing : (p test : ℕ × Sub → Bool) → ((s : ℕ × Sub) → p s ≡ test s) → ((s : ℕ × Sub) → test s ≡ true → meets_some s.1.volume areas ≡ true) → OnlyPassing (get (subscription_map ss)) test ids → AllPassing (get (subscription_map ss)) volumes_of test areas near ids
       → filter_map (get (subscription_map ss)) ids.keys ≡ map (λ (e : ℕ × Sub). e.1) (filter p (entries (subscription_map ss)))

@@ -37,13 +37,24 @@ abbrev pub OnlyPassing : {X : Type 0} → (ℕ → Option X) → (ℕ × X → B
 OnlyPassing {X} look test ids = (id : ℕ) (x : X) → contains nat_cmp ids id ≡ true
     → look id ≡ Some x → test (id, x) ≡ true
 
+-- Holds if the candidate is a volume of this list that meets an area, and the candidate's bit for
+-- this area is set.
+pub record MeetsNear (volumes : List Extent) (areas : List Region) (near : BTreeMap Part ℕ)
+    (part : Part) : Type 0 where
+  pub volume : Extent
+  pub volume_at : IsAt volumes part.1 volume
+  pub place : ℕ
+  pub area : Region
+  pub area_at : IsAt areas place area
+  pub bit : HasBit near part (place % 64)
+  pub meeting : meets (region_of volume) area ≡ true
+
 -- Holds if the ids include each value that passes the test and has a candidate volume that meets an
 -- area.
 abbrev pub AllPassing : {X : Type 0} → (ℕ → Option X) → (X → List Extent) → (ℕ × X → Bool)
     → List Region → BTreeMap Part ℕ → BTreeSet ℕ → Type 0
-AllPassing {X} look volumes test areas near ids = (part : Part) (x : X) (v : Extent) (j : ℕ)
-    (a : Region) → look part.0 ≡ Some x → test (part.0, x) ≡ true → IsAt (volumes x) part.1 v
-    → IsAt areas j a → HasBit near part (j % 64) → meets (region_of v) a ≡ true
+AllPassing {X} look volumes test areas near ids = (part : Part) (x : X) → look part.0 ≡ Some x
+    → test (part.0, x) ≡ true → MeetsNear (volumes x) areas near part
     → contains nat_cmp ids part.0 ≡ true
 
 -- The entity with this kind and id, if any.

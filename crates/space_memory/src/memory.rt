@@ -104,7 +104,8 @@ impl MemorySpace {
         ensures done { OnOk result
             (content_of self.new ≡ changed change notify.now (content_of self.old)) }
         ensures refused { OnErr result (content_of self.new ≡ content_of self.old) }
-        ensures tells { ReportsFault (refusals_of self.old) (refusals_of self.new) false false result }
+        ensures tells { ReportsFault (refusals_of self.old)
+            (refusals_of self.new) false false result }
         ensures removed { IsRemoval change → IsOk result }
         ensures over { IsOver change (content_of self.old) → IsOk result }
     {
@@ -164,7 +165,8 @@ impl Space for MemorySpace {
     ghost content_valid = { λ s a sound h. subst IsAirspace (sym h) (content_is_proper s) };
 
     fn entity(&mut self, kind: Kind, id: EntityId) -> Result<Option<Entity>, SpaceFault>
-        ensures tells { ReportsFault (refusals_of self.old) (refusals_of self.new) false false result }
+        ensures tells { ReportsFault (refusals_of self.old)
+            (refusals_of self.new) false false result }
         ensures kept { content_of self.new ≡ content_of self.old }
         ensures found { IfOk result (λ found.
             found ≡ get (content_of self.old).entities (kind, id)) }
@@ -203,7 +205,8 @@ impl Space for MemorySpace {
     }
 
     fn availability(&mut self, uss: &UssId) -> Result<Option<(Availability, Ovn)>, SpaceFault>
-        ensures tells { ReportsFault (refusals_of self.old) (refusals_of self.new) false false result }
+        ensures tells { ReportsFault (refusals_of self.old)
+            (refusals_of self.new) false false result }
         ensures kept { content_of self.new ≡ content_of self.old }
         ensures found { IfOk result (λ found.
             found ≡ get (content_of self.old).availabilities uss.now) }
@@ -216,7 +219,8 @@ impl Space for MemorySpace {
     }
 
     fn subscription(&mut self, id: EntityId) -> Result<Option<Sub>, SpaceFault>
-        ensures tells { ReportsFault (refusals_of self.old) (refusals_of self.new) false false result }
+        ensures tells { ReportsFault (refusals_of self.old)
+            (refusals_of self.new) false false result }
         ensures kept { content_of self.new ≡ content_of self.old }
         ensures found { IfOk result (λ found.
             found ≡ get (content_of self.old).subscriptions id) }
@@ -261,7 +265,8 @@ impl Space for MemorySpace {
         ensures done { OnOk result
             (content_of self.new ≡ changed change notify.now (content_of self.old)) }
         ensures refused { OnErr result (content_of self.new ≡ content_of self.old) }
-        ensures tells { ReportsFault (refusals_of self.old) (refusals_of self.new) false false result }
+        ensures tells { ReportsFault (refusals_of self.old)
+            (refusals_of self.new) false false result }
         ensures removed { IsRemoval change → IsOk result }
         ensures over { IsOver change (content_of self.old) → IsOk result }
     {

@@ -12,22 +12,24 @@ use Rattle.space_core.specs.GroupCommit.{CommitEffect}
 use Rattle.space_core.specs.Space.{Changes, IsContent, Reads, ReportsFault, refusals_after}
 use Rattle.space_memory.specs.declared.memory.MemorySpace.{MemorySpace}
 use Rattle.space_memory.specs.Memory.{content_of}
-use Rattle.space_mirror.specs.Mirrored.{MirrorAgrees, MirroredModel, HoldsOne, IsMirrorAhead, IsSoundIn, BatchCommit, pending_if_mirrored, mirrored_model, holds_in, is_dropped, is_whole_in, persists_in, pending, some_pending}
+use Rattle.space_mirror.specs.Mirrored.{MirrorAgrees, MirroredModel, HoldsOne, IsMirrorAhead, IsSoundIn, BatchCommit, pending_if_mirrored, mirrored_model, holds_in, is_whole_in, persists_in, pending, some_pending}
 use Rattle.space_mirror.specs.Laws.{content_of_its_store, visible_is_durable}
 use Rattle.space_mirror.specs.Lists.{Making, MirrorStays}
 use Rattle.space_mirror.specs.declared.mirror_state.MirrorState.{MirrorState}
+use Rattle.space_mirror.specs.declared.mirror_state.MirrorState.TheVariants.{Steady, Full, Dropped, RebuildDue}
 use Rattle.space_mirror.proofs.Mirrors.{one_read}
+use Rattle.space_mirror.proofs.States.{ahead, none_pending, agrees_without, agrees_as}
 
 module _ {S : Type 0} (g : Ghosts S) where
   -- The batch that the store has to apply fits.
   pub batch_fits : (s : S) (l : Option MemorySpace) (p : MirrorState) (batch : List BatchChange) → MirrorAgrees g s l p batch → g.is_sound s → (a : Airspace) → g.holds s a → FitAll batch a
-  batch_fits s None p batch none sound a held = subst (λ cs. FitAll cs a) (sym none.0) tt
-  batch_fits s (Some l) p batch h sound a held = let it = h.base sound in subst (λ c. FitAll batch c) (sym (it.1.only a held)) it.2
+  batch_fits s None p batch none sound a held = subst (λ cs. FitAll cs a) (sym (none_pending g s p batch none)) tt
+  batch_fits s (Some l) p batch h sound a held = let it = (ahead g s l p batch h).base sound in subst (λ c. FitAll batch c) (sym (it.1.only a held)) it.2
 
   -- The mirrored space is sound if its store is.
   pub whole_sound : (s : S) (l : Option MemorySpace) (p : MirrorState) (batch : List BatchChange) (n : ℕ) → MirrorAgrees g s l p batch → g.is_sound s → IsSoundIn g (mirrored_model s (pending_if_mirrored l batch) n)
   whole_sound s None p batch n none sound = record { store = sound; fits = λ a held. tt; live = λ waits. absurd (let e = waits in cc) }
-  whole_sound s (Some l) p batch n h sound = record { store = sound; fits = batch_fits s (Some l) p batch h sound; live = λ waits. h.live }
+  whole_sound s (Some l) p batch n h sound = record { store = sound; fits = batch_fits s (Some l) p batch h sound; live = λ waits. (ahead g s l p batch h).live }
 
   -- ---- applying a batch
 
@@ -62,7 +64,7 @@ module _ {S : Type 0} (g : Ghosts S) where
       → ReportsFault (g.refusals s) (g.refusals t) (g.is_broken s) (g.is_broken t) r → Changes g.holds g.is_sound g.is_whole (g.is_broken s) s t r (changed_all batch)
       → Making g s t batch r
   making_of_listed s t None p batch r h there tells c = absurd (let e = there in cc)
-  making_of_listed s t (Some l) p batch r h there tells c = making_by_store s t l batch r h tells c
+  making_of_listed s t (Some l) p batch r h there tells c = making_by_store s t l batch r (ahead g s l p batch h) tells c
 
   -- ---- the mirror after a batch
 
@@ -78,23 +80,20 @@ module _ {S : Type 0} (g : Ghosts S) where
       let it = h.base (made.sound sound) in
       (it.0, record { held = (made.refused sound refl it.0).0 it.1.held; only = λ b now. it.1.only b ((made.refused sound refl b).1 now) })
 
-  pub agrees_none : (t : S) (n : Option MemorySpace) (q : MirrorState) → n ≡ None → (is_dropped q ≡ true → HoldsOne g t) → MirrorAgrees g t n q []
-  agrees_none t n q none lost = subst (λ x. MirrorAgrees g t x q []) (sym none) (refl, lost)
+  -- A steady mirror stays or is dropped.
+  steady_kept : (s t : S) (l : MemorySpace) (n : Option MemorySpace) (q : MirrorState) (batch : List BatchChange) (r : Result (Unit {0}) SpaceFault) → IsMirrorAhead g s l batch
+      → Making g s t batch r → MirrorStays r (Some l) n Steady q → MirrorAgrees g t n q []
+  steady_kept s t l n q batch (Ok x) h made mirror = agrees_as g t n (Some l) q Steady [] mirror.0 mirror.1 (ahead_after s t l batch h made)
+  steady_kept s t l n q batch (Err Unchanged) h made mirror = agrees_as g t n None q Dropped [] mirror.0 mirror.1 (record { no_mirror = refl; none_pending = refl; one = one_left s t l batch h made })
+  steady_kept s t l n q batch (Err Broken) h made mirror = agrees_as g t n None q Steady [] mirror.0 mirror.1 refl
 
-  agrees_for_good : (t : S) (n : Option MemorySpace) (q : MirrorState) → n ≡ None → is_dropped q ≡ false → MirrorAgrees g t n q []
-  agrees_for_good t n q none stays = agrees_none t n q none (λ lost. absurd (let e : true ≡ false = sym lost ∙ stays in cc))
-
-  ahead_kept : (full : Bool) (s t : S) (l : MemorySpace) (n : Option MemorySpace) (q : MirrorState) (batch : List BatchChange) (r : Result (Unit {0}) SpaceFault) → IsMirrorAhead g s l batch
-      → Making g s t batch r → MirrorStays full r (Some l) n (is_dropped q) → MirrorAgrees g t n q []
-  ahead_kept true s t l n q batch r h made mirror = agrees_for_good t n q mirror.0 mirror.1
-  ahead_kept false s t l n q batch (Ok x) h made mirror = subst (λ y. MirrorAgrees g t y q []) (sym mirror) (ahead_after s t l batch h made)
-  ahead_kept false s t l n q batch (Err Unchanged) h made mirror = agrees_none t n q mirror.0 (λ lost. one_left s t l batch h made)
-  ahead_kept false s t l n q batch (Err Broken) h made mirror = agrees_for_good t n q mirror.0 mirror.1
-
-  pub agrees_kept : (full : Bool) (s t : S) (l n : Option MemorySpace) (p q : MirrorState) (batch : List BatchChange) (r : Result (Unit {0}) SpaceFault) → MirrorAgrees g s l p batch → IsSome l
-      → Making g s t batch r → MirrorStays full r l n (is_dropped q) → MirrorAgrees g t n q []
-  agrees_kept full s t None n p q batch r h there made mirror = absurd (let e = there in cc)
-  agrees_kept full s t (Some l) n p q batch r h there made mirror = ahead_kept full s t l n q batch r h made mirror
+  pub agrees_kept : (s t : S) (l n : Option MemorySpace) (p q : MirrorState) (batch : List BatchChange) (r : Result (Unit {0}) SpaceFault) → MirrorAgrees g s l p batch → IsSome l
+      → Making g s t batch r → MirrorStays r l n p q → MirrorAgrees g t n q []
+  agrees_kept s t None n p q batch r h there made mirror = absurd (let e = there in cc)
+  agrees_kept s t (Some l) n Steady q batch r h there made mirror = steady_kept s t l n q batch r h made mirror
+  agrees_kept s t (Some l) n Full q batch r h there made mirror = agrees_as g t n None q Steady [] mirror.0 mirror.1 refl
+  agrees_kept s t (Some l) n Dropped q batch r h there made mirror = absurd (let e = h.no_mirror in cc)
+  agrees_kept s t (Some l) n RebuildDue q batch r h there made mirror = absurd (let e = h.no_mirror in cc)
 
   -- ---- without a mirror
 
@@ -154,11 +153,11 @@ module _ {S : Type 0} (g : Ghosts S) where
       → ReportsFault n n' (g.is_broken s) (g.is_broken t) r → Reads g.holds g.is_sound g.is_whole s t r P → MirrorAgrees g t l p []
   agrees_checked s t n n' P l p r h none tells reads =
       let before = subst (λ x. MirrorAgrees g s x p []) none h in
-      agrees_none t l p none (λ lost. one_read g s t n n' r P tells reads (before.1 lost))
+      agrees_as g t l None p p [] none refl (agrees_without g s t p [] (one_read g s t n n' r P tells reads) before)
 
-  -- A mirror that was dropped can be rebuilt.
-  pub one_where_lost : (s : S) (l : Option MemorySpace) (p : MirrorState) → MirrorAgrees g s l p [] → l ≡ None → is_dropped p ≡ true → HoldsOne g s
-  one_where_lost s l p h none lost = (subst (λ x. MirrorAgrees g s x p []) none h).1 lost
+  -- A mirror that is due to be rebuilt can be.
+  pub one_if_due : (s : S) (l : Option MemorySpace) (p : MirrorState) → MirrorAgrees g s l p [] → p ≡ RebuildDue → HoldsOne g s
+  one_if_due s l p h due = (subst (λ q. MirrorAgrees g s l q []) due h).one
 
   -- A mirror that is loaded from a store has its content.
   pub ahead_anew : (s t : S) (c : MemorySpace) (n n' : ℕ) → HoldsOne g s → ReportsFault {T = MemorySpace} n n' (g.is_broken s) (g.is_broken t) (Ok c)
@@ -174,7 +173,7 @@ module _ {S : Type 0} (g : Ghosts S) where
 
   -- Without a mirror, no change is pending.
   pub none_waits : (s : S) (l : Option MemorySpace) (p : MirrorState) (batch : List BatchChange) → l ≡ None → MirrorAgrees g s l p batch → batch ≡ []
-  none_waits s l p batch none h = (subst (λ x. MirrorAgrees g s x p batch) none h).0
+  none_waits s l p batch none h = none_pending g s p batch (subst (λ x. MirrorAgrees g s x p batch) none h)
 
   -- ---- the visible airspace afterwards
 
@@ -183,7 +182,7 @@ module _ {S : Type 0} (g : Ghosts S) where
   calm_after (Some l) = refl
 
   pending_is : (s : S) (l : Option MemorySpace) (p : MirrorState) (batch : List BatchChange) → MirrorAgrees g s l p batch → pending (pending_if_mirrored l batch) ≡ batch
-  pending_is s None p batch none = sym none.0
+  pending_is s None p batch none = sym (none_pending g s p batch none)
   pending_is s (Some l) p batch h = refl
 
   module _ (s u : S) (l n : Option MemorySpace) (p : MirrorState) (batch : List BatchChange) (k k' : ℕ) (h : MirrorAgrees g s l p batch) where

@@ -2,3 +2,4 @@ pub mod Purging
 pub mod Mirrors
 pub mod Committed
 pub mod Pending
+pub mod States

@@ -10,7 +10,9 @@ use Rattle.space_core.specs.Batch.{changed_all}
 use Rattle.space_core.specs.Space.{Reads, ReportsFault, UnlessBroken, is_broken_after, refusals_after}
 use Rattle.space_memory.specs.declared.memory.MemorySpace.{MemorySpace}
 use Rattle.space_memory.specs.Memory.{content_of}
-use Rattle.space_mirror.specs.Mirrored.{MirroredModel, HoldsOne, IsMirrorAhead, Reading, ReadsParts, mirrored_model, holds_in}
+use Rattle.space_mirror.specs.Mirrored.{MirrorAgrees, MirroredModel, HoldsOne, IsMirrorAhead, Reading, ReadsParts, mirrored_model, holds_in}
+use Rattle.space_mirror.specs.declared.mirror_state.MirrorState.{MirrorState}
+use Rattle.space_mirror.proofs.States.{ahead, agrees_ahead, agrees_without}
 
 -- Reading a mirror does not change its airspace.
 list_same : {T : Type 0} (l m : MemorySpace) (n n' : ℕ) (r : Result T SpaceFault) (P : Airspace → T → Type 0)
@@ -57,8 +59,8 @@ module _ {S : Type 0} (g : Ghosts S) where
       seen.2 ∙ ap (changed_all batch) (it.1.only seen.0 seen.1) ∙ sym it.3
 
   -- A snapshot of the mirror is the visible airspace.
-  pub list_shows : (s : S) (l : MemorySpace) (batch : List BatchChange) (a : Airspace) → IsMirrorAhead g s l batch → a ≡ content_of l → g.is_sound s → (b : Airspace) → holds_in g (mirrored_model s (Some batch) 0) b → b ≡ a
-  list_shows s l batch a h same sound b seen = seen_listed s l batch 0 h sound b seen ∙ sym same
+  pub list_shows : (s : S) (l : MemorySpace) (p : MirrorState) (batch : List BatchChange) (a : Airspace) → MirrorAgrees g s (Some l) p batch → a ≡ content_of l → g.is_sound s → (b : Airspace) → holds_in g (mirrored_model s (Some batch) 0) b → b ≡ a
+  list_shows s l p batch a h same sound b seen = seen_listed s l batch 0 (ahead g s l p batch h) sound b seen ∙ sym same
 
   -- ---- reading
 
@@ -111,8 +113,8 @@ module _ {S : Type 0} (g : Ghosts S) where
   pub list_reads : {T : Type 0} (s : S) (l m : MemorySpace) (n n' k k' : ℕ) (r r' : Result T SpaceFault) (P : Airspace → T → Type 0)
       → ReportsFault n n' false false r → Reads (λ (s : MemorySpace) a. a ≡ content_of s) (λ _. Unit {0}) (λ _. Unit {0}) l m r P
       → r' ≡ r → k' ≡ refusals_after k r → ReadsParts g s s (Some l) (Some m) k k' r' P
-  list_reads s l m n n' k k' r r' P tells reads same counted state batch h = (
-    ahead_same s l m batch (list_same l m n n' r P tells reads) h,
+  list_reads s l m n n' k k' r r' P tells reads same counted state batch agrees = let h = ahead g s l state batch agrees in (
+    agrees_ahead g s s l m state batch batch agrees (ahead_same s l m batch (list_same l m n n' r P tells reads) h),
     subst (λ q. Reading g (mirrored_model s (Some batch) k) (mirrored_model s (Some batch) k') q P) (sym same) (record {
       fixed = refl;
       tells = record { counted = counted; breaks = list_unbroken s k k' P l m n n' r tells; stays_broken = λ e. absurd (let f = h.live in cc) };
@@ -132,7 +134,7 @@ module _ {S : Type 0} (g : Ghosts S) where
       → ReportsFault n n' (g.is_broken s) (g.is_broken t) r → Reads g.holds g.is_sound g.is_whole s t r P
       → r' ≡ r → k' ≡ refusals_after k r → ReadsParts g s t None None k k' r' P
   store_answers_parts s t n n' k k' r r' P tells reads same counted state batch none = (
-    (none.0, λ lost. one_read s t n n' r P tells reads (none.1 lost)),
+    agrees_without g s t state batch (one_read s t n n' r P tells reads) none,
     subst (λ q. Reading g (mirrored_model s None k) (mirrored_model t None k') q P) (sym same) (record {
       fixed = refl;
       tells = record { counted = counted; breaks = tells.breaks; stays_broken = tells.stays_broken };

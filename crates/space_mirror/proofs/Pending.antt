@@ -12,9 +12,12 @@ use Rattle.space_core.specs.Batch.{FitAll, changed_all, changed_once}
 use Rattle.space_core.specs.Space.{Changes, Fits, IsContent, ReportsFault, changed, refusals_after}
 use Rattle.space_memory.specs.declared.memory.MemorySpace.{MemorySpace}
 use Rattle.space_memory.specs.Memory.{content_of}
-use Rattle.space_mirror.specs.Mirrored.{MirrorAgrees, Changing, MirroredModel, HoldsOne, IsMirrorAhead, IsSoundIn, mirrored_model, holds_in, is_dropped}
+use Rattle.space_mirror.specs.Lists.{state_after_change}
+use Rattle.space_mirror.specs.Mirrored.{MirrorAgrees, Changing, MirroredModel, HoldsOne, IsMirrorAhead, IsSoundIn, mirrored_model, holds_in}
 use Rattle.space_mirror.specs.declared.mirror_state.MirrorState.{MirrorState}
+use Rattle.space_mirror.specs.declared.mirror_state.MirrorState.TheVariants.{Steady, Full, Dropped, RebuildDue}
 use Rattle.space_mirror.proofs.Mirrors.{ahead_same}
+use Rattle.space_mirror.proofs.States.{ahead, agrees_ahead, agrees_as}
 
 -- ---- one more change of a batch
 
@@ -109,20 +112,27 @@ module _ {S : Type 0} (g : Ghosts S) where
           subst (λ cs. Changing {T = Unit {0}} g old (after cs) (Err Unchanged) (changed change told)) (sym stays) (left counted)
       answered (Err Broken) fault more stays counted = absurd (let e = fault in cc)
 
-  pub list_ahead : (s : S) (l m : MemorySpace) (batch batch' : List BatchChange) (k : ℕ) (change : Change) (told : List ℕ) (r : Result (Unit {0}) SpaceFault) → IsMirrorAhead g s l batch
+  -- A mirror that runs out of memory for a change is full.
+  full_or_same : (s : S) (l m : MemorySpace) (p q : MirrorState) (batch batch' : List BatchChange) (r : Result (Unit {0}) SpaceFault) → MirrorAgrees g s (Some l) p batch → OnOk r (q ≡ p) → OnErr r (q ≡ Full)
+      → IsMirrorAhead g s m batch' → MirrorAgrees g s (Some m) q batch'
+  full_or_same s l m p q batch batch' (Ok x) h same full now = agrees_as g s (Some m) (Some m) q p batch' refl same (agrees_ahead g s s l m p batch batch' h now)
+  full_or_same s l m p q batch batch' (Err e) h same full now = agrees_as g s (Some m) (Some m) q Full batch' refl full now
+
+  pub list_ahead : (s : S) (l m : MemorySpace) (p q : MirrorState) (batch batch' : List BatchChange) (k : ℕ) (change : Change) (told : List ℕ) (r : Result (Unit {0}) SpaceFault) → MirrorAgrees g s (Some l) p batch
       → (IsSoundIn g (mirrored_model s (Some batch) k) → (a : Airspace) → holds_in g (mirrored_model s (Some batch) k) a → Fits change told a)
       → OnOk r (content_of m ≡ changed change told (content_of l)) → OnOk r ((w : BatchChange) × (w.change ≡ change) × (w.notify.items ≡ told) × (batch' ≡ batch ++ w ∷ []))
-      → OnErr r (content_of m ≡ content_of l) → OnErr r (batch' ≡ batch) → IsMirrorAhead g s m batch'
-  list_ahead s l m batch batch' k change told r h fits done more same stays = answered_ahead s l m batch k k change told h batch' r fits r done more same stays
+      → OnErr r (content_of m ≡ content_of l) → OnErr r (batch' ≡ batch) → OnOk r (q ≡ p) → OnErr r (q ≡ Full) → MirrorAgrees g s (Some m) q batch'
+  list_ahead s l m p q batch batch' k change told r h fits done more same stays kept full =
+      full_or_same s l m p q batch batch' r h kept full (answered_ahead s l m batch k k change told (ahead g s l p batch h) batch' r fits r done more same stays)
 
-  pub list_changes : (s : S) (l m : MemorySpace) (batch batch' : List BatchChange) (k k' : ℕ) (change : Change) (told : List ℕ) (r r' : Result (Unit {0}) SpaceFault) → IsMirrorAhead g s l batch
+  pub list_changes : (s : S) (l m : MemorySpace) (p : MirrorState) (batch batch' : List BatchChange) (k k' : ℕ) (change : Change) (told : List ℕ) (r r' : Result (Unit {0}) SpaceFault) → MirrorAgrees g s (Some l) p batch
       → (IsSoundIn g (mirrored_model s (Some batch) k) → (a : Airspace) → holds_in g (mirrored_model s (Some batch) k) a → Fits change told a)
       → IfErr r (λ fault. fault ≡ Unchanged) → OnOk r ((w : BatchChange) × (w.change ≡ change) × (w.notify.items ≡ told) × (batch' ≡ batch ++ w ∷ []))
       → OnErr r (batch' ≡ batch) → r' ≡ r → k' ≡ refusals_after k r
       → Changing g (mirrored_model s (Some batch) k) (mirrored_model s (Some batch') k') r' (changed change told)
-  list_changes s l m batch batch' k k' change told r r' h fits fault more stays is counted =
+  list_changes s l m p batch batch' k k' change told r r' h fits fault more stays is counted =
       subst (λ q. Changing {T = Unit {0}} g (mirrored_model s (Some batch) k) (mirrored_model s (Some batch') k') q (changed change told)) (sym is)
-      (answered s l m batch k k' change told h batch' r fits r fault more stays counted)
+      (answered s l m batch k k' change told (ahead g s l p batch h) batch' r fits r fault more stays counted)
 
   -- ---- a change that the store applies at once
 
@@ -171,10 +181,18 @@ module _ {S : Type 0} (g : Ghosts S) where
       (it.0, record { held = (c.refused sound refl it.0).0 it.1.held; only = λ b now. it.1.only b ((c.refused sound refl b).1 now) })
   one_changed s t change (Err Broken) tells c one = λ works. absurd (let e : true ≡ false = sym tells.breaks ∙ works in cc)
 
+  -- A dropped mirror is due to be rebuilt after a change.
+  noted : (s t : S) (p : MirrorState) (batch : List BatchChange) (r : Result (Unit {0}) SpaceFault) → (HoldsOne g s → HoldsOne g t) → MirrorAgrees g s None p batch → MirrorAgrees g t None (state_after_change r p) batch
+  noted s t Steady batch r one h = h
+  noted s t Full batch r one h = h
+  noted s t Dropped batch (Ok x) one h = record { no_mirror = refl; none_pending = h.none_pending; one = one h.one }
+  noted s t Dropped batch (Err e) one h = record { no_mirror = refl; none_pending = h.none_pending; one = one h.one }
+  noted s t RebuildDue batch r one h = record { no_mirror = refl; none_pending = h.none_pending; one = one h.one }
+
   pub alone_agrees : (s t : S) (p q : MirrorState) (batch : List BatchChange) (change : Airspace → Airspace) (r : Result (Unit {0}) SpaceFault) → MirrorAgrees g s None p batch
-      → ReportsFault (g.refusals s) (g.refusals t) (g.is_broken s) (g.is_broken t) r → Changes g.holds g.is_sound g.is_whole (g.is_broken s) s t r change → is_dropped q ≡ is_dropped p
+      → ReportsFault (g.refusals s) (g.refusals t) (g.is_broken s) (g.is_broken t) r → Changes g.holds g.is_sound g.is_whole (g.is_broken s) s t r change → q ≡ state_after_change r p
       → MirrorAgrees g t None q batch
-  alone_agrees s t p q batch change r h tells c same = (h.0, λ lost. one_changed s t change r tells c (h.1 (sym same ∙ lost)))
+  alone_agrees s t p q batch change r h tells c is = agrees_as g t None None q (state_after_change r p) batch refl is (noted s t p batch r (one_changed s t change r tells c) h)
 
   -- A change that the store applies at once fits what it holds.
   pub alone_fits : (s : S) (k : ℕ) (change : Change) (told : List ℕ)

@@ -12,13 +12,16 @@ use Rattle.space_core.specs.declared.space.SpaceFault.TheVariants.{Unchanged, Br
 use Rattle.space_core.specs.Space.{Changes, IsContent, Reads, ReportsFault, refusals_after}
 use Rattle.space_memory.specs.declared.memory.MemorySpace.{MemorySpace}
 use Rattle.space_memory.specs.Memory.{content_of}
-use Rattle.space_mirror.specs.Mirrored.{MirrorAgrees, MirroredModel, IsMirrorAhead, IsSoundIn, ReadsParts, pending_if_mirrored, mirrored_model, holds_in, is_dropped, is_whole_in, pending, some_pending, is_pending_in}
+use Rattle.space_mirror.specs.Mirrored.{MirrorAgrees, MirroredModel, HoldsOne, IsMirrorAhead, IsSoundIn, ReadsParts, pending_if_mirrored, mirrored_model, holds_in, is_whole_in, pending, some_pending, is_pending_in}
 use Rattle.space_mirror.specs.Laws.{content_of_its_store, visible_is_durable, sound_as_its_store}
+use Rattle.space_mirror.specs.Lists.{state_after_purge}
 use Rattle.space_mirror.specs.Purges.{MirrorFollows, MirrorPurgeEffect, CannotSay}
 use Rattle.space_mirror.specs.declared.mirror_state.MirrorState.{MirrorState}
+use Rattle.space_mirror.specs.declared.mirror_state.MirrorState.TheVariants.{Steady}
 use Rattle.space_mirror.proofs.Mirrors.{list_reads, reads_kept, store_answers_parts}
-use Rattle.space_mirror.proofs.Committed.{agrees_none, whole_sound}
+use Rattle.space_mirror.proofs.Committed.{whole_sound}
 use Rattle.space_mirror.proofs.Pending.{one_changed}
+use Rattle.space_mirror.proofs.States.{ahead, none_pending, agrees_ahead, agrees_without, agrees_as}
 
 -- A mirror that returns no fault except `Unchanged` reports its faults.
 tells_unbroken : {T : Type 0} (r : Result T SpaceFault) → IfErr r (λ fault. fault ≡ Unchanged) → ReportsFault 0 (refusals_after 0 r) false false r
@@ -140,23 +143,26 @@ module _ {S : Type 0} (g : Ghosts S) where
           (it.0, record { held = (c.refused sound refl it.0).0 it.1.held; only = λ b now. it.1.only b ((c.refused sound refl b).1 now) }, tt, it.3);
     }
 
-    none_follows : (n : Option MemorySpace) (r : Result (Unit {0}) SpaceFault) → MirrorFollows gone r None n → n ≡ None
-    none_follows n (Ok x) mirror = mirror
-    none_follows n (Err Unchanged) mirror = mirror
-    none_follows n (Err Broken) mirror = mirror
-
-    module _ (n : Option MemorySpace) (p q : MirrorState) (stays : is_dropped q ≡ true → is_dropped p ≡ true) where
-      listed_agrees : (l : MemorySpace) (r : Result (Unit {0}) SpaceFault) → IsMirrorAhead g s l [] → ReportsFault (g.refusals s) (g.refusals t) (g.is_broken s) (g.is_broken t) r
+    module _ (n : Option MemorySpace) (p q : MirrorState) where
+      listed_agrees : (l : MemorySpace) (r : Result (Unit {0}) SpaceFault) → q ≡ state_after_purge r p → MirrorAgrees g s (Some l) p [] → ReportsFault (g.refusals s) (g.refusals t) (g.is_broken s) (g.is_broken t) r
           → Changes g.holds g.is_sound g.is_whole (g.is_broken s) s t r (without_items gone) → MirrorFollows gone r (Some l) n → MirrorAgrees g t n q []
-      listed_agrees l (Ok x) h tells c mirror = subst (λ y. MirrorAgrees g t y q []) (sym mirror.1) (ahead_less l mirror.0 x h tells.breaks c mirror.2)
-      listed_agrees l (Err Unchanged) h tells c mirror = subst (λ y. MirrorAgrees g t y q []) (sym mirror) (ahead_refused l h tells.breaks c)
-      listed_agrees l (Err Broken) h tells c mirror = agrees_none g t n q mirror (λ lost works. absurd (let e : true ≡ false = sym tells.breaks ∙ works in cc))
+      listed_agrees l (Ok x) is h tells c mirror =
+          agrees_as g t n (Some mirror.0) q p [] mirror.1 is (agrees_ahead g s t l mirror.0 p [] [] h (ahead_less l mirror.0 x (ahead g s l p [] h) tells.breaks c mirror.2))
+      listed_agrees l (Err Unchanged) is h tells c mirror =
+          agrees_as g t n (Some l) q p [] mirror is (agrees_ahead g s t l l p [] [] h (ahead_refused l (ahead g s l p [] h) tells.breaks c))
+      listed_agrees l (Err Broken) is h tells c mirror = agrees_as g t n None q Steady [] mirror is refl
 
-      pub agrees_gone : (l : Option MemorySpace) (batch : List BatchChange) (r : Result (Unit {0}) SpaceFault) → batch ≡ [] → MirrorAgrees g s l p batch → ReportsFault (g.refusals s) (g.refusals t) (g.is_broken s) (g.is_broken t) r
+      -- Without a mirror, the store purges alone.
+      alone_gone : (r : Result (Unit {0}) SpaceFault) → q ≡ state_after_purge r p → MirrorAgrees g s None p [] → (HoldsOne g s → HoldsOne g t) → MirrorFollows gone r None n → MirrorAgrees g t n q []
+      alone_gone (Ok x) is h one mirror = agrees_as g t n None q p [] mirror is (agrees_without g s t p [] one h)
+      alone_gone (Err Unchanged) is h one mirror = agrees_as g t n None q p [] mirror is (agrees_without g s t p [] one h)
+      alone_gone (Err Broken) is h one mirror = agrees_as g t n None q Steady [] mirror is refl
+
+      pub agrees_gone : (l : Option MemorySpace) (batch : List BatchChange) (r : Result (Unit {0}) SpaceFault) → q ≡ state_after_purge r p → batch ≡ [] → MirrorAgrees g s l p batch → ReportsFault (g.refusals s) (g.refusals t) (g.is_broken s) (g.is_broken t) r
           → Changes g.holds g.is_sound g.is_whole (g.is_broken s) s t r (without_items gone) → MirrorFollows gone r l n → MirrorAgrees g t n q batch
-      agrees_gone l (c ∷ cs) r none h tells changes mirror = absurd (let e = none in cc)
-      agrees_gone None [] r none h tells changes mirror = agrees_none g t n q (none_follows n r mirror) (λ lost. one_changed g s t (without_items gone) r tells changes (h.1 (stays lost)))
-      agrees_gone (Some l) [] r none h tells changes mirror = listed_agrees l r h tells changes mirror
+      agrees_gone l (c ∷ cs) r is none h tells changes mirror = absurd (let e = none in cc)
+      agrees_gone None [] r is none h tells changes mirror = alone_gone r is h (one_changed g s t (without_items gone) r tells changes) mirror
+      agrees_gone (Some l) [] r is none h tells changes mirror = listed_agrees l r is h tells changes mirror
 
     pub goes : (l n : Option MemorySpace) (batch : List BatchChange) (k k' : ℕ) (r r' : Result (Unit {0}) SpaceFault) → batch ≡ [] → ReportsFault (g.refusals s) (g.refusals t) (g.is_broken s) (g.is_broken t) r
         → Changes g.holds g.is_sound g.is_whole (g.is_broken s) s t r (without_items gone) → r' ≡ r → k' ≡ refusals_after k r
@@ -173,8 +179,8 @@ module _ {S : Type 0} (g : Ghosts S) where
   -- ---- while changes are pending
 
   works_waiting : (s : S) (l : Option MemorySpace) (p : MirrorState) (batch : List BatchChange) → (batch ≡ [] → ⊥) → MirrorAgrees g s l p batch → g.is_broken s ≡ false
-  works_waiting s None p batch waits h = absurd (waits h.0)
-  works_waiting s (Some l) p batch waits h = h.live
+  works_waiting s None p batch waits h = absurd (waits (none_pending g s p batch h))
+  works_waiting s (Some l) p batch waits h = (ahead g s l p batch h).live
 
   pub nothing_goes : (s : S) (l : Option MemorySpace) (p : MirrorState) (batch : List BatchChange) (k k' : ℕ) (gone : List PurgeItem) (r : Result (Unit {0}) SpaceFault) → (batch ≡ [] → ⊥) → MirrorAgrees g s l p batch
       → r ≡ Err Unchanged → k' ≡ refusals_after {T = Unit {0}} k (Err Unchanged) → MirrorPurgeEffect g (mirrored_model s (pending_if_mirrored l batch) k) (mirrored_model s (pending_if_mirrored l batch) k') r gone

@@ -87,31 +87,46 @@ pub record IsMirrorAhead {S : Type 0} (g : Ghosts S) (s : S) (l : MemorySpace) (
       → (a : Airspace) × IsContent g.holds s a × FitAll batch a
       × (content_of l ≡ changed_all batch a)
 
--- True if the mirror ran out of memory for a change.
-abbrev pub is_full : MirrorState → Bool
-is_full Steady = false
-is_full Full = true
-is_full Dropped = false
-is_full RebuildDue = false
-
--- True if the mirror was dropped because its batch failed.
-abbrev pub is_dropped : MirrorState → Bool
-is_dropped Steady = false
-is_dropped Full = false
-is_dropped Dropped = true
-is_dropped RebuildDue = true
+-- ---- what holds in each state of the mirror
 
 -- Holds if the store holds one airspace, unless it is broken.
 abbrev pub HoldsOne : {S : Type 0} → Ghosts S → S → Type 0
 HoldsOne g s =
     g.is_broken s ≡ false → g.is_sound s → (a : Airspace) × IsContent g.holds s a
 
--- Holds if a mirror is ahead of the store by the batch. Without a mirror, no change is pending. If
--- the mirror was dropped, it can be rebuilt from the one airspace that the store holds.
+-- Holds in state `Steady`: a mirror is ahead of the store by the batch. Without a mirror, no change
+-- is pending.
+abbrev pub IsSteady : {S : Type 0} → Ghosts S → S → Option MemorySpace → List BatchChange → Type 0
+IsSteady g s None batch = batch ≡ []
+IsSteady g s (Some l) batch = IsMirrorAhead g s l batch
+
+-- Holds in state `Full`: there is a mirror, and it is ahead of the store by the batch. The change
+-- for which memory ran out is in neither.
+abbrev pub IsFull : {S : Type 0} → Ghosts S → S → Option MemorySpace → List BatchChange → Type 0
+IsFull g s None batch = ⊥
+IsFull g s (Some l) batch = IsMirrorAhead g s l batch
+
+-- Holds in state `Dropped`: there is no mirror, and no change is pending. The store holds the one
+-- airspace from which the mirror can be rebuilt, unless it is broken.
+pub record IsDropped {S : Type 0} (g : Ghosts S) (s : S) (mirror : Option MemorySpace)
+    (batch : List BatchChange) : Type 0 where
+  pub no_mirror : mirror ≡ None
+  pub none_pending : batch ≡ []
+  pub one : HoldsOne g s
+
+-- Holds in state `RebuildDue`: the same as in state `Dropped`. The states differ only in that the
+-- next `commit` rebuilds the mirror.
+abbrev pub IsRebuildDue : {S : Type 0} → Ghosts S → S → Option MemorySpace → List BatchChange
+    → Type 0
+IsRebuildDue g s mirror batch = IsDropped g s mirror batch
+
+-- Holds if the store, the mirror and the batch are as the state says.
 abbrev pub MirrorAgrees : {S : Type 0} → Ghosts S → S → Option MemorySpace → MirrorState → List BatchChange
     → Type 0
-MirrorAgrees g s None state batch = (batch ≡ []) × (is_dropped state ≡ true → HoldsOne g s)
-MirrorAgrees g s (Some l) state batch = IsMirrorAhead g s l batch
+MirrorAgrees g s mirror Steady batch = IsSteady g s mirror batch
+MirrorAgrees g s mirror Full batch = IsFull g s mirror batch
+MirrorAgrees g s mirror Dropped batch = IsDropped g s mirror batch
+MirrorAgrees g s mirror RebuildDue batch = IsRebuildDue g s mirror batch
 
 -- Holds if a call that reads has its results and effects.
 pub record Reading {S T : Type 0} (g : Ghosts S) (old new : MirroredModel S) (result : Result T SpaceFault)

@@ -1,15 +1,15 @@
 //! Applying changes to the mirror and committing them to the store.
-ghost use Rattle.std.specs.Prelude.{◌≡◌, ◌<◌, ◌||◌, [], ◌∷◌, ◌++◌, None, IsSome, IfErr, OnErr};
-ghost use Rattle.std.specs.Prelude.{IfOk, OnOk, is_err, vec_capacity, vec_len};
+ghost use Rattle.std.specs.Prelude.{◌≡◌, ◌<◌, [], ◌∷◌, ◌++◌, None, IsSome, IfErr, OnErr};
+ghost use Rattle.std.specs.Prelude.{IfOk, OnOk, vec_capacity, vec_len};
 ghost use Rattle.entity_core.specs.Airspace.{Airspace};
 ghost use Rattle.space_core.specs.declared.batch.BatchChange.{BatchChange};
 ghost use Rattle.space_core.specs.declared.space.SpaceFault.TheVariants.{Unchanged};
 ghost use Rattle.space_core.specs.Space.{Fits, changed};
 ghost use Rattle.space_memory.specs.Memory.{content_of};
 ghost use Rattle.space_mirror.specs.Mirrored.{MirrorAgrees, Changing, HoldsOne, IsSoundIn, BatchCommit};
-ghost use Rattle.space_mirror.specs.Mirrored.{pending_if_mirrored, mirrored_model, holds_in, is_full, is_dropped};
-ghost use Rattle.space_mirror.specs.Lists.{Making, MirrorStays};
-ghost use Rattle.space_mirror.specs.declared.mirror_state.MirrorState.TheVariants.{Steady};
+ghost use Rattle.space_mirror.specs.Mirrored.{pending_if_mirrored, mirrored_model, holds_in};
+ghost use Rattle.space_mirror.specs.Lists.{Making, MirrorStays, state_after_change};
+ghost use Rattle.space_mirror.specs.declared.mirror_state.MirrorState.TheVariants.{Full, Steady};
 
 use crate::mirror_state::MirrorState;
 use crate::reads::count_refusal;
@@ -69,7 +69,8 @@ fn enqueue(
 
 // Records that the mirror is full if it ran out of memory for a change.
 fn note_full(state: &mut MirrorState, answer: &Result<(), SpaceFault>)
-    ensures { is_full state.new ≡ is_full state.old || is_err answer.now }
+    ensures ok { OnOk answer.now (state.new ≡ state.old) }
+    ensures err { OnErr answer.now (state.new ≡ Full) }
 {
     if answer.is_err() {
         *state = MirrorState::Full;
@@ -78,7 +79,7 @@ fn note_full(state: &mut MirrorState, answer: &Result<(), SpaceFault>)
 
 // Records that a dropped mirror is due to be rebuilt once the store has applied a change.
 fn note_outcome(state: &mut MirrorState, answer: &Result<(), SpaceFault>)
-    ensures { is_dropped state.new ≡ is_dropped state.old }
+    ensures { state.new ≡ state_after_change answer.now state.old }
 {
     if matches!(*state, MirrorState::Dropped) && answer.is_ok() {
         *state = MirrorState::RebuildDue;
@@ -101,13 +102,15 @@ pub(crate) fn apply<S: Space>(
     notify: &[EntityId],
 ) -> Result<(), SpaceFault>
     requires agrees { MirrorAgrees S.Space store.old mirror.old state.old batch.old.items }
-    requires fits { let old = mirrored_model store.old (pending_if_mirrored mirror.old batch.old.items) refusals.old in
+    requires fits { let old = mirrored_model store.old
+        (pending_if_mirrored mirror.old batch.old.items) refusals.old in
         IsSoundIn S.Space old → (a : Airspace) → holds_in S.Space old a
         → Fits change notify.now a }
     ensures agrees { MirrorAgrees S.Space store.new mirror.new state.new batch.new.items }
     ensures changes { Changing S.Space
         (mirrored_model store.old (pending_if_mirrored mirror.old batch.old.items) refusals.old)
-        (mirrored_model store.new (pending_if_mirrored mirror.new batch.new.items) refusals.new) result
+        (mirrored_model store.new (pending_if_mirrored mirror.new batch.new.items) refusals.new)
+            result
         (changed change notify.now) }
 {
     match mirror {
@@ -131,7 +134,7 @@ fn keep_or_drop_mirror(
     state: &mut MirrorState,
     answer: &Result<(), SpaceFault>,
 )
-    ensures { MirrorStays (is_full state.old) answer.now mirror.old mirror.new (is_dropped state.new) }
+    ensures { MirrorStays answer.now mirror.old mirror.new state.old state.new }
 {
     *state = match (*state, answer) {
         (MirrorState::Full, _) => MirrorState::Steady,
@@ -256,7 +259,8 @@ pub(crate) fn commit<S: ApplyBatch + ToMemory>(
     ensures agrees { MirrorAgrees S.Space store.new mirror.new state.new batch.new.items }
     ensures keeps { BatchCommit S.Space
         (mirrored_model store.old (pending_if_mirrored mirror.old batch.old.items) refusals.old)
-        (mirrored_model store.new (pending_if_mirrored mirror.new batch.new.items) refusals.new) result }
+        (mirrored_model store.new (pending_if_mirrored mirror.new batch.new.items) refusals.new)
+            result }
 {
     let answer = commit_or_rebuild(alloc, store, mirror, state, batch.as_slice());
     batch.clear();

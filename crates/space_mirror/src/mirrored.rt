@@ -173,10 +173,12 @@ impl<S: ApplyBatch + ToMemory + Drop> Space for Mirrored<S> {
         visible_unique (λ c. S.holds s.store c) (pending s.ahead)
         (λ c d. S.content_unique s.store c d sound.store unbroken) a b h k };
 
-    ghost content_whole = { λ s a sound unbroken h. S.content_whole s.store h.0 sound.store unbroken h.1 };
+    ghost content_whole = { λ s a sound unbroken h. S.content_whole s.store h.0 sound.store
+        unbroken h.1 };
 
     ghost content_exists = { λ s sound whole.
-        visible_exists (λ c. S.holds s.store c) (pending s.ahead) (S.content_exists s.store sound.store whole) };
+        visible_exists (λ c. S.holds s.store c) (pending s.ahead)
+            (S.content_exists s.store sound.store whole) };
 
     ghost content_valid = { λ s a sound h.
         visible_valid (λ c. S.holds s.store c) (pending s.ahead) a sound.fits

@@ -1,11 +1,12 @@
 //! Finding what has ended in the mirror, and purging it in the store and in the mirror.
-ghost use Rattle.std.specs.Prelude.{◌≡◌, true, IfErr, IfOk};
+ghost use Rattle.std.specs.Prelude.{◌≡◌, IfErr, IfOk};
 ghost use Rattle.entity_core.specs.Airspace.{Airspace};
 ghost use Rattle.entity_purge.specs.PurgeItem.{CanPurgeAll, IsPurgeChunk};
 ghost use Rattle.space_core.specs.declared.space.SpaceFault.TheVariants.{Unchanged};
 ghost use Rattle.space_memory.specs.Memory.{content_of};
 ghost use Rattle.space_mirror.specs.Mirrored.{MirrorAgrees, IsSoundIn, ReadsParts};
-ghost use Rattle.space_mirror.specs.Mirrored.{pending_if_mirrored, mirrored_model, holds_in, is_dropped};
+ghost use Rattle.space_mirror.specs.Mirrored.{pending_if_mirrored, mirrored_model, holds_in};
+ghost use Rattle.space_mirror.specs.Lists.{state_after_purge};
 ghost use Rattle.space_mirror.specs.Purges.{MirrorFollows, MirrorPurgeEffect, CannotSay};
 
 use crate::mirror_state::MirrorState;
@@ -19,7 +20,8 @@ use space_memory::memory::MemorySpace;
 // Returns what the mirror finds. Fails if memory runs out.
 fn ended_in(mirror: &MemorySpace, until: u64, most: usize) -> Result<Vec<PurgeItem>, SpaceFault>
     ensures fault { IfErr result (λ fault. fault ≡ Unchanged) }
-    ensures found { IfOk result (λ gone. IsPurgeChunk until most gone.items (content_of mirror.now)) }
+    ensures found { IfOk result (λ gone. IsPurgeChunk until most gone.items
+        (content_of mirror.now)) }
 {
     match mirror.find_ended(until, most) {
         Ok(gone) => Ok(gone),
@@ -64,7 +66,7 @@ fn follow(
     answer: &Result<(), SpaceFault>,
 )
     ensures mirror { MirrorFollows gone.now answer.now mirror.old mirror.new }
-    ensures state { is_dropped state.new ≡ true → is_dropped state.old ≡ true }
+    ensures state { state.new ≡ state_after_purge answer.now state.old }
 {
     match answer {
         Ok(()) => {
@@ -91,12 +93,14 @@ pub(crate) fn purge_both<S: Purge>(
     gone: &[PurgeItem],
 ) -> Result<(), SpaceFault>
     requires agrees { MirrorAgrees S.Space store.old mirror.old state.old batch.now }
-    requires can { let old = mirrored_model store.old (pending_if_mirrored mirror.old batch.now) refusals.old in
+    requires can { let old = mirrored_model store.old
+        (pending_if_mirrored mirror.old batch.now) refusals.old in
         IsSoundIn S.Space old → (a : Airspace) → holds_in S.Space old a → CanPurgeAll gone.now a }
     ensures agrees { MirrorAgrees S.Space store.new mirror.new state.new batch.now }
     ensures going { MirrorPurgeEffect S.Space
         (mirrored_model store.old (pending_if_mirrored mirror.old batch.now) refusals.old)
-        (mirrored_model store.new (pending_if_mirrored mirror.new batch.now) refusals.new) result gone.now }
+        (mirrored_model store.new (pending_if_mirrored mirror.new batch.now) refusals.new) result
+            gone.now }
 {
     if !batch.is_empty() {
         return count_refusal(refusals, Err(SpaceFault::Unchanged));

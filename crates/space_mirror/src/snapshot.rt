@@ -29,7 +29,8 @@ pub(crate) fn snapshot_of<'a, S: Space>(
     requires { MirrorAgrees S.Space store.now mirror.now state batch.now }
     ensures { S.is_sound store.now → IfOk result (λ snapshot_of. (a : Airspace)
         → holds_in S.Space (mirrored_model store.now (pending_if_mirrored mirror.now batch.now) 0) a
-        → a ≡ airspace_of snapshot_of.entities.now snapshot_of.subscriptions.now snapshot_of.availabilities.now
+        → a ≡ airspace_of snapshot_of.entities.now snapshot_of.subscriptions.now
+        snapshot_of.availabilities.now
         snapshot_of.serial) }
 {
     match mirror {

@@ -19,7 +19,8 @@ fn apply_counted<S: GroupCommit>(
 ) -> Result<(), SpaceFault>
     requires fits { S.is_sound space.old → (a : Airspace) → S.holds space.old a
         → Fits change notify.now a }
-    ensures { Applying S.Space (quota_model space.old over.old true) (quota_model space.new over.new true)
+    ensures { Applying S.Space (quota_model space.old over.old true)
+        (quota_model space.new over.new true)
         change notify.now result }
 {
     let Some(place) = item_of(&change) else {

@@ -15,7 +15,8 @@ use space_snapshot::snapshot::{Snapshot, SnapshotSource};
 // Returns the fault of a purge if the space has no snapshot: it is broken, or the USSs of the items
 // are unknown.
 fn without_snapshot<S: PurgeEnded>(space: &mut S, over: &mut u64) -> Result<(), SpaceFault>
-    ensures going { (items : List PurgeItem) → QuotaPurgeEffect S.Space (quota_model space.old over.old true)
+    ensures going { (items : List PurgeItem) → QuotaPurgeEffect S.Space
+        (quota_model space.old over.old true)
         (quota_model space.new over.new true) items result }
     ensures waits { S.GroupCommit.is_pending space.new ≡ S.GroupCommit.is_pending space.old }
 {

@@ -85,9 +85,11 @@ impl<S: GroupCommit + Drop> GroupCommit for QuotaSpace<S> {
 
     ghost persists_held = { λ s a calm. S.persists_held s.space a calm };
 
-    ghost persists_while_pending = { λ s t a same waits. S.persists_while_pending s.space t.space a same waits };
+    ghost persists_while_pending = { λ s t a same waits. S.persists_while_pending s.space t.space
+        a same waits };
 
-    ghost unbroken_while_pending = { λ s t same waits. S.unbroken_while_pending s.space t.space same waits };
+    ghost unbroken_while_pending = { λ s t same waits. S.unbroken_while_pending s.space t.space
+        same waits };
 
     ghost pending_is_unbroken = { λ s sound waits. S.pending_is_unbroken s.space sound waits };
 
@@ -120,7 +122,8 @@ impl<S: GroupCommit + Drop> Space for QuotaSpace<S> {
 
     ghost fixed = { λ s. S.fixed s.space };
 
-    ghost content_unique = { λ s a b sound unbroken h k. S.content_unique s.space a b sound unbroken h k };
+    ghost content_unique = { λ s a b sound unbroken h k. S.content_unique s.space a b sound
+        unbroken h k };
 
     ghost content_whole = { λ s a sound unbroken h. S.content_whole s.space a sound unbroken h };
 

@@ -12,7 +12,7 @@ use Rattle.sqlite.proofs.ListingLemmas.{empty_is_sound}
 use Rattle.entity_core.specs.Airspace.{Airspace, empty_at}
 use Rattle.space_core.specs.Space.{IsContent}
 use Rattle.space_core.specs.declared.space.Space.{Ghosts}
-use Rattle.space_sql_schema.specs.Making.{MayBeMade}
+use Rattle.space_sql_schema.specs.Making.{EmptyIfNoTable}
 use Rattle.space_sql_schema.specs.Presence.{presence_in}
 use Rattle.space_sql_schema.specs.Spelling.{SpellsAs, Spells}
 use Rattle.space_sql_schema.specs.Tables.{no_schema, schema_of}
@@ -26,7 +26,7 @@ use Rattle.space_sql_open.specs.declared.open_fault.OpenFault.{OpenFault}
 use Rattle.space_sql_open.specs.declared.open_fault.OpenFault.TheVariants.{Store}
 use Rattle.space_sql.specs.Found.{AreUnmade, FilesSpell, FindsSpelt, HasTables, IsOpenedOver, KeepsAs, RefusesFound, tables_of}
 use Rattle.space_sql.specs.Holding.{SqlSpaceModel, Rests}
-use Rattle.space_sql.specs.OpenResult.{HoldsSpelt, IsDueFault, IsFresh, MayBeOpened, MayBeTaken}
+use Rattle.space_sql.specs.OpenResult.{HoldsSpelt, IsDueFault, IsFresh, MayBeOpened, CommittedIfFound}
 use Rattle.space_sql.proofs.Openings.{stands_as}
 use Rattle.space_sql.proofs.Outcomes.{one_schema}
 
@@ -94,7 +94,7 @@ module _ (image : Image) (s : State) (it : IsOpenedOver image s) where
       subst (λ d. Refuses format d fault) path (due format schema)
 
   -- The trees that may be committed over files that represent an airspace store it in format 2.
-  taken_found : (format : Format) (a : Airspace) → FilesSpell format image a → (db : Trees) → MayBeTaken (Whole format) s db → KeepsAs Two db a
+  taken_found : (format : Format) (a : Airspace) → FilesSpell format image a → (db : Trees) → CommittedIfFound (Whole format) s db → KeepsAs Two db a
   taken_found One a h db may =
       let moved = may (found_schema One h.0 (h.1, h.2.0)) in
       let same = one_airspace_of One s.now s.now moved.0 a refl moved.1 (found_spelt One a h) in
@@ -106,7 +106,7 @@ module _ (image : Image) (s : State) (it : IsOpenedOver image s) where
     | inl earlier ↦
         let same : db ≡ h.0 = rests.no_other db it.is_open earlier ∙ it.found.holds h.0 h.1 in
         inl (subst (λ t. KeepsAs format t a) (sym same) h.2)
-    | inr taken ↦ inr (taken_found format a h db (subst (λ p. MayBeTaken p s db) (stands_as format s.now.schema (found_schema format h.0 (h.1, h.2.0))) taken.1))
+    | inr taken ↦ inr (taken_found format a h db (subst (λ p. CommittedIfFound p s db) (stands_as format s.now.schema (found_schema format h.0 (h.1, h.2.0))) taken.1))
   ]
 
   left_unmade : (back : State) (fault : OpenFault) → Rests s → Survives s back (MayBeOpened s fault) → HasCleanDisk back → AreUnmade image → presence_in no_schema.tables ≡ Missing → (db : Trees) → back.may_leave db → IsEmpty db ⊎ KeepsAs Two db (empty_at 0)
@@ -115,7 +115,7 @@ module _ (image : Image) (s : State) (it : IsOpenedOver image s) where
     | inr taken ↦
         let schema = found_none none in
         let stands = ap (λ s. presence_in s.tables) schema ∙ missing in
-        let may : MayBeMade s db = subst (λ p. MayBeTaken p s db) stands taken.1 in
+        let may : EmptyIfNoTable s db = subst (λ p. CommittedIfFound p s db) stands taken.1 in
         let made = may schema in
         inr (keeps_of Two db made.0 (empty_at 0) made.1 made.2 made.3)
   ]

@@ -7,7 +7,7 @@ use Rattle.sqlite.specs.Effect.{Database}
 use Rattle.sqlite.specs.State.{State, Survives}
 use Rattle.sqlite.proofs.StateLemmas.{survives_weaker}
 use Rattle.entity_core.specs.Airspace.{Airspace}
-use Rattle.space_sql_schema.specs.Making.{MayBeMade}
+use Rattle.space_sql_schema.specs.Making.{EmptyIfNoTable}
 use Rattle.space_sql_schema.specs.Presence.{presence_in}
 use Rattle.space_sql_schema.specs.Spelling.{SpellsAs}
 use Rattle.space_sql_schema.specs.Tables.{schema_of}
@@ -19,7 +19,7 @@ use Rattle.space_sql_schema.proofs.OneAirspace.{one_airspace_of}
 use Rattle.space_sql_schema.proofs.Presences.{first_stands, second_stands}
 use Rattle.space_sql_open.specs.declared.open_fault.OpenFault.{OpenFault}
 use Rattle.space_sql_open.specs.declared.open_fault.OpenFault.TheVariants.{Store}
-use Rattle.space_sql.specs.OpenResult.{MayBeOpened, MayBeTaken}
+use Rattle.space_sql.specs.OpenResult.{MayBeOpened, CommittedIfFound}
 
 pub ok_is_no_fault : {X : Type 0} (x : X) (fault : OpenFault) → ◌≢◌ {A = Result X OpenFault} (Ok x) (Err fault)
 ok_is_no_fault x fault = λ e. cc
@@ -46,14 +46,14 @@ of_format schema P own stands f format e =
 
 module _ {X C : Type 0} (old : State) (shown : C → State) where
   -- After a fault, the trees are those that the fault allows.
-  pub left_as : (presence : Presence) (P : OpenFault → Trees → Type 0) (r : Result X (OpenFault × C)) → presence_in old.now.schema.tables ≡ presence → ((fault : OpenFault) (trees : Trees) → P fault trees → (fault ≡ Store) × MayBeTaken presence old trees)
+  pub left_as : (presence : Presence) (P : OpenFault → Trees → Type 0) (r : Result X (OpenFault × C)) → presence_in old.now.schema.tables ≡ presence → ((fault : OpenFault) (trees : Trees) → P fault trees → (fault ≡ Store) × CommittedIfFound presence old trees)
       → IfErr r (λ e. Survives old (shown e.1) (P e.0)) → IfErr r (λ e. Survives old (shown e.1) (MayBeOpened old e.0))
   left_as presence P (Ok x) is f left = tt
-  left_as presence P (Err e) is f left = survives_weaker old (shown e.1) _ _ (λ clean db p. let it = f e.0 db p in (it.0, subst (λ (s : Presence). MayBeTaken s old db) (sym is) it.1)) left
+  left_as presence P (Err e) is f left = survives_weaker old (shown e.1) _ _ (λ clean db p. let it = f e.0 db p in (it.0, subst (λ (s : Presence). CommittedIfFound s old db) (sym is) it.1)) left
 
-  pub left_made : (r : Result X (OpenFault × C)) → presence_in old.now.schema.tables ≡ Missing → IfErr r (λ e. e.0 ≡ Store) → IfErr r (λ e. Survives old (shown e.1) (MayBeMade old)) → IfErr r (λ e. Survives old (shown e.1) (MayBeOpened old e.0))
+  pub left_made : (r : Result X (OpenFault × C)) → presence_in old.now.schema.tables ≡ Missing → IfErr r (λ e. e.0 ≡ Store) → IfErr r (λ e. Survives old (shown e.1) (EmptyIfNoTable old)) → IfErr r (λ e. Survives old (shown e.1) (MayBeOpened old e.0))
   left_made (Ok x) is store left = tt
-  left_made (Err e) is store left = survives_weaker old (shown e.1) _ _ (λ clean db made. (store, subst (λ (s : Presence). MayBeTaken s old db) (sym is) made)) left
+  left_made (Err e) is store left = survives_weaker old (shown e.1) _ _ (λ clean db made. (store, subst (λ (s : Presence). CommittedIfFound s old db) (sym is) made)) left
 
 -- ---- the airspace that is stored
 

@@ -14,7 +14,7 @@ use Rattle.space_sql_schema.specs.declared.format.Format.{Format}
 use Rattle.space_sql_schema.specs.declared.format.Format.TheVariants.{One, Two}
 use Rattle.space_sql_schema.specs.declared.presence.Presence.{Presence}
 use Rattle.space_sql_schema.specs.declared.presence.Presence.TheVariants.{Missing, Partial, Whole}
-use Rattle.space_sql_schema.specs.Making.{MayBeMade}
+use Rattle.space_sql_schema.specs.Making.{EmptyIfNoTable}
 use Rattle.space_sql_schema.specs.Presence.{presence_in}
 use Rattle.space_sql_select.specs.Reading.{IsAsFound}
 use Rattle.space_sql_open.specs.Opening.{MayHaveUpgraded, Refuses}
@@ -67,20 +67,20 @@ IsUnwritten opened back fault = (format : Format) → IsUnwrittenAs format opene
 
 -- ---- effects of a crash
 
--- Holds if opening may have committed the trees, given the presence of the tables. Without tables,
--- they are those of an empty airspace. For format 1, they are those of format 2 with the same
--- airspace. Otherwise there are none.
-abbrev pub MayBeTaken : Presence → State → Trees → Type 0
-MayBeTaken Missing old trees = MayBeMade old trees
-MayBeTaken Partial old trees = ⊥
-MayBeTaken (Whole One) old trees = MayHaveUpgraded old trees
-MayBeTaken (Whole Two) old trees = ⊥
+-- Holds if opening can have committed these trees, given which tables it found. If it found none,
+-- they are those of an empty airspace. If it found format 1, they are those of format 2 with the
+-- same airspace. Otherwise it committed nothing.
+abbrev pub CommittedIfFound : (found : Presence) → State → Trees → Type 0
+CommittedIfFound Missing old trees = EmptyIfNoTable old trees
+CommittedIfFound Partial old trees = ⊥
+CommittedIfFound (Whole One) old trees = MayHaveUpgraded old trees
+CommittedIfFound (Whole Two) old trees = ⊥
 
 -- Holds if opening may have committed the trees before it failed. After `NotADss` and `Version`,
 -- there are none.
 abbrev pub MayBeOpened : State → OpenFault → Trees → Type 0
 MayBeOpened old fault trees =
-    (fault ≡ Store) × MayBeTaken (presence_in old.now.schema.tables) old trees
+    (fault ≡ Store) × CommittedIfFound (presence_in old.now.schema.tables) old trees
 
 -- ---- the represented airspace
 

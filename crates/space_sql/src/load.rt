@@ -58,7 +58,8 @@ impl<S: Alter> SqlSpace<S> {
     /// Returns `Unchanged` if the database has tables other than those of format 2, beside them or
     /// in their place.
     pub fn load_airspace(&mut self) -> Result<LoadedAirspace, SpaceFault>
-        ensures tells { ReportsFault self.old.refusals self.new.refusals self.old.broken self.new.broken
+        ensures tells { ReportsFault self.old.refusals self.new.refusals self.old.broken
+            self.new.broken
             result }
         ensures reads { Reads (holds_of S.Store) (is_sound_of S.Store) (is_whole_of S.Store)
             self.old self.new result (λ a found. loaded_airspace found ≡ a) }

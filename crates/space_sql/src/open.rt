@@ -10,7 +10,7 @@ ghost use Rattle.sqlite.specs.declared.error.Error.TheVariants.{SqliteFailure};
 ghost use Rattle.sqlite.specs.declared.error.ErrorCode.TheVariants.{NotADatabase};
 ghost use Rattle.entity_core.specs.Airspace.{Airspace, empty_at};
 ghost use Rattle.space_core.specs.Space.{IsContent};
-ghost use Rattle.space_sql_schema.specs.Making.{IsSettled, MayBeMade};
+ghost use Rattle.space_sql_schema.specs.Making.{IsSettled, EmptyIfNoTable};
 ghost use Rattle.space_sql_schema.specs.Spelling.{Spells};
 ghost use Rattle.space_sql_schema.specs.Presence.{presence_in};
 ghost use Rattle.space_sql_schema.specs.Tables.{dss_schema, no_schema};
@@ -81,7 +81,7 @@ fn make_new<S: Alter>(alloc: Global, mut conn: Connection<S>) -> AdoptResult<S>
     ensures store { IfErr result (λ e. e.0 ≡ OpenFault.Store) }
     ensures back { IfErr result (λ e. e.1.in_transaction ≡ false) }
     ensures left { IfErr result (λ e. Survives (state S.Store conn) (state S.Store e.1)
-        (MayBeMade (state S.Store conn))) }
+        (EmptyIfNoTable (state S.Store conn))) }
 {
     match make_tables(&mut conn) {
         Ok(()) => Ok((space_over(alloc, conn, false), None)),

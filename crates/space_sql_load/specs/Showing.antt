@@ -5,6 +5,7 @@ use Rattle.sqlite_value.specs.Order.{Row}
 use Rattle.sqlite_trees.specs.Tree.{rowid}
 use Rattle.sqlite.specs.Effect.{Database}
 use Rattle.space_sql_schema.specs.Spelling.{entity_values, volume_values, cell_values, sub_values, sub_cell_values, entity_columns, six_columns, three_columns, sub_columns, five_columns, two_columns}
+use Rattle.space_sql_schema.specs.Trees.{entity_tree, volume_tree, cell_tree, availability_tree, subscription_tree, subscription_cell_tree, naming_tree}
 use Rattle.space_sql_select.specs.Meta.{ShowsMeta}
 use Rattle.space_sql_select.specs.Reading.{ShowsAll, ShowsRising}
 use Rattle.space_sql_select.specs.Rows.{entity_order, volume_order, cell_order, sub_order, sub_cell_order, naming_order, number_values, values_of_naming}
@@ -19,40 +20,41 @@ rowid_column r = rowid r ∷ []
 -- ---- the tables
 
 abbrev pub ShowsEntities : Database → List Row → Type 0
-ShowsEntities db rows = ShowsRising entity_order entity_values entity_columns 1 db rows
+ShowsEntities db rows = ShowsRising entity_order entity_values entity_columns entity_tree db rows
 
 abbrev pub ShowsVolumes : Database → List Row → Type 0
-ShowsVolumes db rows = ShowsRising volume_order volume_values six_columns 3 db rows
+ShowsVolumes db rows = ShowsRising volume_order volume_values six_columns volume_tree db rows
 
 abbrev pub ShowsCells : Database → List Row → Type 0
-ShowsCells db rows = ShowsRising cell_order cell_values six_columns 5 db rows
+ShowsCells db rows = ShowsRising cell_order cell_values six_columns cell_tree db rows
 
 abbrev pub ShowsSubs : Database → List Row → Type 0
-ShowsSubs db rows = ShowsRising sub_order sub_values sub_columns 10 db rows
+ShowsSubs db rows = ShowsRising sub_order sub_values sub_columns subscription_tree db rows
 
 abbrev pub ShowsSubCells : Database → List Row → Type 0
-ShowsSubCells db rows = ShowsRising sub_cell_order sub_cell_values five_columns 12 db rows
+ShowsSubCells db rows =
+    ShowsRising sub_cell_order sub_cell_values five_columns subscription_cell_tree db rows
 
 abbrev pub ShowsNamings : Database → List Row → Type 0
-ShowsNamings db rows = ShowsRising naming_order values_of_naming two_columns 15 db rows
+ShowsNamings db rows = ShowsRising naming_order values_of_naming two_columns naming_tree db rows
 
 abbrev pub ShowsSettings : Database → List Row → Type 0
-ShowsSettings db rows = ShowsAll three_columns 8 db rows
+ShowsSettings db rows = ShowsAll three_columns availability_tree db rows
 
 abbrev pub ShowsIds : ℕ → Database → List Row → Type 0
 ShowsIds tree db rows = ShowsRising int_cmp number_values rowid_column tree db rows
 
 abbrev pub ShowsVolumeIds : Database → List Row → Type 0
-ShowsVolumeIds db rows = ShowsIds 3 db rows
+ShowsVolumeIds db rows = ShowsIds volume_tree db rows
 
 abbrev pub ShowsCellIds : Database → List Row → Type 0
-ShowsCellIds db rows = ShowsIds 5 db rows
+ShowsCellIds db rows = ShowsIds cell_tree db rows
 
 abbrev pub ShowsSettingIds : Database → List Row → Type 0
-ShowsSettingIds db rows = ShowsIds 8 db rows
+ShowsSettingIds db rows = ShowsIds availability_tree db rows
 
 abbrev pub ShowsSubCellIds : Database → List Row → Type 0
-ShowsSubCellIds db rows = ShowsIds 12 db rows
+ShowsSubCellIds db rows = ShowsIds subscription_cell_tree db rows
 
 pub record ShowsSubTables (db : Database) (t : SubTables) : Type 0 where
   pub subscriptions : ShowsSubs db t.subscriptions.items

@@ -93,7 +93,8 @@ fn gather_subs(
 ) -> Result<Option<KnownSubs>, AllocError>
     ensures { let r = rows.now in
         let c = cells.now in
-        IfOk result (λ o. MatchOption o ((a : Subs) → ¬ GathersSubs serial (pos 0) r c (empty, []) a)
+        IfOk result (λ o. MatchOption o ((a : Subs)
+            → ¬ GathersSubs serial (pos 0) r c (empty, []) a)
         (λ k. GathersSubs serial (pos 0) r c (empty, []) (subs_of k))) }
 {
     let mut subscriptions = Subscriptions::new(alloc);

@@ -11,6 +11,7 @@ use Rattle.space_sql_schema.specs.Making.{HasMeta}
 use Rattle.space_sql_open.specs.Opening.{Refuses}
 use Rattle.space_sql_open.specs.declared.open_fault.OpenFault.{OpenFault}
 use Rattle.space_sql_open.specs.declared.open_fault.OpenFault.TheVariants.{NotADss, Version, Store}
+use Rattle.space_sql_schema.specs.Trees.{meta_tree}
 
 -- Holds if the row of `meta` says format 1, with a number as the serial.
 abbrev pub IsFirstRow : Row → Type 0
@@ -35,5 +36,5 @@ ReadsMeta old new (Err e) = Unit {0}
 -- Holds if `meta` says format 1 and the database is unchanged, or the fault says why the tables are
 -- rejected.
 abbrev pub SaysMeta : Database → Database → Result (Unit {0}) OpenFault → Type 0
-SaysMeta old new (Ok x) = ((serial : ℤ) × HasMeta 1 serial (old.trees 0)) × (new ≡ old)
+SaysMeta old new (Ok x) = ((serial : ℤ) × HasMeta 1 serial (old.trees meta_tree)) × (new ≡ old)
 SaysMeta old new (Err fault) = Refuses One old fault

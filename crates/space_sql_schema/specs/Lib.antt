@@ -1,3 +1,4 @@
+pub mod Trees
 pub mod Tables
 pub mod Spelling
 pub mod Within

@@ -13,6 +13,7 @@ use Rattle.space_sql_schema.specs.declared.format.Format.{Format}
 use Rattle.space_sql_schema.specs.declared.format.Format.TheVariants.{One, Two}
 use Rattle.space_sql_schema.specs.Tables.{no_schema, first_schema, second_schema}
 use Rattle.space_sql_schema.specs.Spelling.{SpellsAs, meta_columns}
+use Rattle.space_sql_schema.specs.Trees.{meta_tree, entity_tree, volume_tree, cell_tree, availability_tree, subscription_tree, subscription_cell_tree, naming_tree}
 
 -- Holds if the database has exactly the tables of the schema, with these rows.
 abbrev pub HasRows : Schema → Trees → Database → Type 0
@@ -25,6 +26,11 @@ IsBare schema db = HasRows schema (λ _. []) db
 
 -- Holds if R relates the databases before and after the statements of an open transaction. Whatever
 -- the result, the last commit stays. A crash leaves what it would have left before.
+--
+-- Example: a transaction over an empty file has created `meta`, and executes `CREATE TABLE entity`.
+-- `old` shows the database with `meta` alone, `new` shows the one with both tables, and R relates
+-- these two. Committed is still the database without a table, before and after. A crash before the
+-- commit leaves that one.
 pub record Steps {X : Type 0} (R : Database → Database → Type 0) (old new : State)
     (result : Result X Error) : Type 0 where
   pub done : HasCleanDisk new
@@ -33,6 +39,10 @@ pub record Steps {X : Type 0} (R : Database → Database → Type 0) (old new : 
   pub survives : Survives old new (λ _. ⊥)
 
 -- Holds if the statements lead from a database with A to one with B.
+--
+-- Example: `CREATE TABLE entity` leads from `IsBare schema_1` (only `meta`, without rows) to
+-- `IsBare schema_2` (`meta` and `entity`, without rows). If A did not hold before, B is not
+-- claimed.
 abbrev pub Leads : {X : Type 0} → (A B : Database → Type 0) → State → State → Result X Error
     → Type 0
 Leads A B old new result = Steps (λ before after. A before → B after) old new result
@@ -58,10 +68,14 @@ AreOf P trees = (db : Database) × (trees ≡ db.trees) × IsDatabase db × P db
 abbrev pub IsSettled : State → Type 0
 IsSettled s = IsTrue s.is_open × (s.committed ≡ s.now)
 
+-- Holds if the visible database has no table.
+abbrev pub HasNoTable : State → Type 0
+HasNoTable s = s.now.schema ≡ no_schema
+
 -- Holds if the visible database is committed, and represents an empty airspace if there was no
 -- table before.
 abbrev pub AreMade : State → State → Type 0
-AreMade old new = (old.now.schema ≡ no_schema → SpellsEmpty new.now) × IsSettled new
+AreMade old new = (HasNoTable old → SpellsEmpty new.now) × IsSettled new
 
 -- Holds if both the visible and the committed database are what was committed before.
 abbrev pub IsUndone : State → State → Type 0
@@ -69,18 +83,18 @@ IsUndone old new = (new.now ≡ old.committed) × (new.committed ≡ old.committ
 
 -- The same as `AreMade`, for tables of format 1.
 abbrev pub AreMadeFirst : State → State → Type 0
-AreMadeFirst old new = (old.now.schema ≡ no_schema → SpellsEmptyAs One new.now) × IsSettled new
+AreMadeFirst old new = (HasNoTable old → SpellsEmptyAs One new.now) × IsSettled new
 
--- Holds if, when there was no table before, the trees are those of an empty airspace. A commit may
--- have left them.
-abbrev pub MayBeMade : State → Trees → Type 0
-MayBeMade old trees = old.now.schema ≡ no_schema → AreOf SpellsEmpty trees
+-- Holds if the trees are those of an empty airspace, provided that there was no table before. A
+-- commit can have left them. If there was a table before, nothing is claimed of the trees.
+abbrev pub EmptyIfNoTable : State → Trees → Type 0
+EmptyIfNoTable old trees = HasNoTable old → AreOf SpellsEmpty trees
 
 -- ---- from format 1 to format 2
 
 -- The rows of the tables of format 1, with the later tables empty.
 abbrev pub first_rows : Trees → Trees
-first_rows trees t = if nat_lt t 10 then trees t else []
+first_rows trees t = if nat_lt t subscription_tree then trees t else []
 
 -- Holds if the statements add tables beside those of format 1. The rows stay, whatever they are,
 -- and the new tables are empty.
@@ -97,17 +111,19 @@ HasMeta format serial rows =
 -- 2. The other tables of format 2 are empty.
 pub record HasUpgraded (trees : Trees) (serial : ℤ) (db : Database) : Type 0 where
   pub schema : db.schema ≡ second_schema
-  pub meta : HasMeta 2 serial (db.trees 0)
-  pub entities : db.trees 1 ≡ trees 1
-  pub volumes : db.trees 3 ≡ trees 3
-  pub cells : db.trees 5 ≡ trees 5
-  pub availabilities : db.trees 8 ≡ trees 8
-  pub bare : (db.trees 10 ≡ []) × (db.trees 12 ≡ []) × (db.trees 15 ≡ [])
+  pub meta : HasMeta 2 serial (db.trees meta_tree)
+  pub entities : db.trees entity_tree ≡ trees entity_tree
+  pub volumes : db.trees volume_tree ≡ trees volume_tree
+  pub cells : db.trees cell_tree ≡ trees cell_tree
+  pub availabilities : db.trees availability_tree ≡ trees availability_tree
+  pub bare : (db.trees subscription_tree ≡ []) × (db.trees subscription_cell_tree ≡ [])
+      × (db.trees naming_tree ≡ [])
   pub sound : IsDatabase db
 
 -- Holds if the database is upgraded from these trees, when `meta` had format 1.
 abbrev pub IsUpgraded : Trees → Database → Type 0
-IsUpgraded trees db = (serial : ℤ) → HasMeta 1 serial (trees 0) → HasUpgraded trees serial db
+IsUpgraded trees db =
+    (serial : ℤ) → HasMeta 1 serial (trees meta_tree) → HasUpgraded trees serial db
 
 -- Holds if a statement sets the format to 2.
 abbrev pub SetsFormat : Database → Database → Type 0

@@ -27,6 +27,7 @@ use Rattle.space_rows.specs.Subs.{SpellsSub}
 use Rattle.space_sql_schema.specs.declared.format.Format.{Format}
 use Rattle.space_sql_schema.specs.declared.format.Format.TheVariants.{One, Two}
 use Rattle.space_sql_schema.specs.Tables.{schema_of, format_number}
+use Rattle.space_sql_schema.specs.Trees.{meta_tree, entity_tree, volume_tree, cell_tree, availability_tree, subscription_tree, subscription_cell_tree, naming_tree}
 
 -- ---- the columns of rows, in the order in which the tables declare them
 
@@ -184,35 +185,37 @@ later_rows Two db tree = db.trees tree
 -- subscription, and no entity references one.
 pub record SpellsAs (format : Format) (db : Database) (a : Airspace) : Type 0 where
   pub schema : db.schema ≡ schema_of format
-  pub meta : map meta_columns (db.trees 0) ≡ meta_values (format_number format) a.serial ∷ []
+  pub meta : map meta_columns (db.trees meta_tree)
+      ≡ meta_values (format_number format) a.serial ∷ []
   pub most : a.serial ≤ max_serial
   -- In ascending order of numbers.
   pub subs : List SubGroup
   pub subs_rising : IsAscending IsSubBefore subs
   pub each_sub : AllByRecursion (IsSubGroup a.serial) subs
   pub sub_rows : IsPermutation (map (λ g. sub_values g.row) subs)
-      (map sub_columns (later_rows format db 10))
+      (map sub_columns (later_rows format db subscription_tree))
   pub sub_cells : IsPermutation (flat_map (λ g. map sub_cell_values g.cells) subs)
-      (map five_columns (later_rows format db 12))
+      (map five_columns (later_rows format db subscription_cell_tree))
   pub subs_kept : IsPermutation (map sub_pair_of subs) (entries a.subscriptions)
   -- In ascending order of numbers.
   pub groups : List Group
   pub rising : IsAscending IsBefore groups
   pub each : AllByRecursion (IsGroup a.serial subs) groups
   pub entities : IsPermutation (map (λ g. entity_values g.row) groups)
-      (map entity_columns (db.trees 1))
+      (map entity_columns (db.trees entity_tree))
   pub volumes : IsPermutation (flat_map (λ g. map volume_values g.volumes) groups)
-      (map six_columns (db.trees 3))
+      (map six_columns (db.trees volume_tree))
   pub cells : IsPermutation (flat_map (λ g. map cell_values g.cells) groups)
-      (map six_columns (db.trees 5))
+      (map six_columns (db.trees cell_tree))
   pub namings : IsPermutation (flat_map naming_rows_of groups)
-      (map two_columns (later_rows format db 15))
+      (map two_columns (later_rows format db naming_tree))
   pub kept : IsPermutation (map pair_of groups) (entries a.entities)
   pub availabilities : IsPermutation (map availability_values (entries a.availabilities))
-      (map three_columns (db.trees 8))
+      (map three_columns (db.trees availability_tree))
   pub stated : AllByRecursion IsStated (entries a.availabilities)
-  pub apart : AreApart (db.trees 3) × AreApart (db.trees 5) × AreApart (db.trees 8)
-      × AreApart (later_rows format db 12)
+  pub apart : AreApart (db.trees volume_tree) × AreApart (db.trees cell_tree)
+      × AreApart (db.trees availability_tree)
+      × AreApart (later_rows format db subscription_cell_tree)
 
 -- Holds if the tables represent the airspace in format 2, the current format.
 abbrev pub Spells : Database → Airspace → Type 0

@@ -18,6 +18,7 @@ use Rattle.sqlite_value.specs.Keys.{plain}
 use Rattle.sqlite_catalog.specs.Listing.{automatic}
 use Rattle.space_sql_schema.specs.declared.format.Format.{Format}
 use Rattle.space_sql_schema.specs.declared.format.Format.TheVariants.{One, Two}
+use Rattle.space_sql_schema.specs.Trees.{meta_tree, entity_tree, volume_tree, cell_tree, availability_tree, subscription_tree, subscription_cell_tree, naming_tree}
 
 -- ---- columns and checks; the columns of a row count from 1
 
@@ -208,33 +209,39 @@ abbrev pub no_schema : Schema
 no_schema = record { tables = []; indexes = []; views = [] }
 
 -- The schema with exactly the tables of format 1. Each table and each index has its tree, in the
--- order of their creation.
+-- order of their creation: those of the tables have names, those of the indexes are 2, 4, 6, 7, 9,
+-- 11, 13 and 14.
 abbrev pub first_schema : Schema
 first_schema = record {
-  tables = meta 0 ∷ entity 1 ∷ volume 3 ∷ cell 5 ∷ availability 8 ∷ [];
+  tables = meta meta_tree ∷ entity entity_tree ∷ volume volume_tree ∷ cell cell_tree
+      ∷ availability availability_tree ∷ [];
   indexes =
-      key_index (entity 1) (2 ∷ 3 ∷ []) 2 ∷ key_index (volume 3) (1 ∷ 2 ∷ []) 4
-      ∷ key_index (cell 5) (1 ∷ 2 ∷ 3 ∷ []) 6
-      ∷ cell_range 7 5 ∷ key_index (availability 8) (1 ∷ []) 9 ∷ [];
+      key_index (entity entity_tree) (2 ∷ 3 ∷ []) 2
+      ∷ key_index (volume volume_tree) (1 ∷ 2 ∷ []) 4
+      ∷ key_index (cell cell_tree) (1 ∷ 2 ∷ 3 ∷ []) 6
+      ∷ cell_range 7 cell_tree ∷ key_index (availability availability_tree) (1 ∷ []) 9 ∷ [];
   views = [];
 }
 
 -- The tables that format 2 added.
 abbrev pub later_tables : List Table
-later_tables = subscription 10 ∷ subscription_cell 12 ∷ naming 15 ∷ []
+later_tables = subscription subscription_tree ∷ subscription_cell subscription_cell_tree
+    ∷ naming naming_tree ∷ []
 
 -- The schema with exactly the tables of format 2: those of format 1, followed by three more.
 abbrev pub second_schema : Schema
 second_schema = record {
-  tables = meta 0 ∷ entity 1 ∷ volume 3 ∷ cell 5 ∷ availability 8 ∷ subscription 10
-      ∷ subscription_cell 12 ∷ naming 15 ∷ [];
+  tables = meta meta_tree ∷ entity entity_tree ∷ volume volume_tree ∷ cell cell_tree
+      ∷ availability availability_tree ∷ subscription subscription_tree
+      ∷ subscription_cell subscription_cell_tree ∷ naming naming_tree ∷ [];
   indexes =
-      key_index (entity 1) (2 ∷ 3 ∷ []) 2 ∷ key_index (volume 3) (1 ∷ 2 ∷ []) 4
-      ∷ key_index (cell 5) (1 ∷ 2 ∷ 3 ∷ []) 6
-      ∷ cell_range 7 5 ∷ key_index (availability 8) (1 ∷ []) 9
-      ∷ key_index (subscription 10) (2 ∷ []) 11
-      ∷ key_index (subscription_cell 12) (1 ∷ 2 ∷ []) 13
-      ∷ subscription_cell_range 14 12 ∷ [];
+      key_index (entity entity_tree) (2 ∷ 3 ∷ []) 2
+      ∷ key_index (volume volume_tree) (1 ∷ 2 ∷ []) 4
+      ∷ key_index (cell cell_tree) (1 ∷ 2 ∷ 3 ∷ []) 6
+      ∷ cell_range 7 cell_tree ∷ key_index (availability availability_tree) (1 ∷ []) 9
+      ∷ key_index (subscription subscription_tree) (2 ∷ []) 11
+      ∷ key_index (subscription_cell subscription_cell_tree) (1 ∷ 2 ∷ []) 13
+      ∷ subscription_cell_range 14 subscription_cell_tree ∷ [];
   views = [];
 }
 
@@ -254,37 +261,40 @@ dss_schema = schema_of Two
 -- ---- the intermediate schemas, one table or index a step
 
 abbrev pub schema_1 : Schema
-schema_1 = record { tables = meta 0 ∷ []; indexes = []; views = [] }
+schema_1 = record { tables = meta meta_tree ∷ []; indexes = []; views = [] }
 
 abbrev pub schema_2 : Schema
 schema_2 = record {
-  tables = meta 0 ∷ entity 1 ∷ [];
-  indexes = key_index (entity 1) (2 ∷ 3 ∷ []) 2 ∷ [];
+  tables = meta meta_tree ∷ entity entity_tree ∷ [];
+  indexes = key_index (entity entity_tree) (2 ∷ 3 ∷ []) 2 ∷ [];
   views = [];
 }
 
 abbrev pub schema_3 : Schema
 schema_3 = record {
-  tables = meta 0 ∷ entity 1 ∷ volume 3 ∷ [];
-  indexes = key_index (entity 1) (2 ∷ 3 ∷ []) 2 ∷ key_index (volume 3) (1 ∷ 2 ∷ []) 4 ∷ [];
+  tables = meta meta_tree ∷ entity entity_tree ∷ volume volume_tree ∷ [];
+  indexes = key_index (entity entity_tree) (2 ∷ 3 ∷ []) 2
+      ∷ key_index (volume volume_tree) (1 ∷ 2 ∷ []) 4 ∷ [];
   views = [];
 }
 
 abbrev pub schema_4 : Schema
 schema_4 = record {
-  tables = meta 0 ∷ entity 1 ∷ volume 3 ∷ cell 5 ∷ [];
-  indexes = key_index (entity 1) (2 ∷ 3 ∷ []) 2 ∷ key_index (volume 3) (1 ∷ 2 ∷ []) 4
-      ∷ key_index (cell 5) (1 ∷ 2 ∷ 3 ∷ []) 6 ∷ [];
+  tables = meta meta_tree ∷ entity entity_tree ∷ volume volume_tree ∷ cell cell_tree ∷ [];
+  indexes = key_index (entity entity_tree) (2 ∷ 3 ∷ []) 2
+      ∷ key_index (volume volume_tree) (1 ∷ 2 ∷ []) 4
+      ∷ key_index (cell cell_tree) (1 ∷ 2 ∷ 3 ∷ []) 6 ∷ [];
   views = [];
 }
 
 abbrev pub schema_5 : Schema
 schema_5 = record {
-  tables = meta 0 ∷ entity 1 ∷ volume 3 ∷ cell 5 ∷ [];
+  tables = meta meta_tree ∷ entity entity_tree ∷ volume volume_tree ∷ cell cell_tree ∷ [];
   indexes =
-      key_index (entity 1) (2 ∷ 3 ∷ []) 2 ∷ key_index (volume 3) (1 ∷ 2 ∷ []) 4
-      ∷ key_index (cell 5) (1 ∷ 2 ∷ 3 ∷ []) 6
-      ∷ cell_range 7 5 ∷ [];
+      key_index (entity entity_tree) (2 ∷ 3 ∷ []) 2
+      ∷ key_index (volume volume_tree) (1 ∷ 2 ∷ []) 4
+      ∷ key_index (cell cell_tree) (1 ∷ 2 ∷ 3 ∷ []) 6
+      ∷ cell_range 7 cell_tree ∷ [];
   views = [];
 }
 
@@ -292,38 +302,44 @@ schema_5 = record {
 
 abbrev pub schema_7 : Schema
 schema_7 = record {
-  tables = meta 0 ∷ entity 1 ∷ volume 3 ∷ cell 5 ∷ availability 8 ∷ subscription 10 ∷ [];
+  tables = meta meta_tree ∷ entity entity_tree ∷ volume volume_tree ∷ cell cell_tree
+      ∷ availability availability_tree ∷ subscription subscription_tree ∷ [];
   indexes =
-      key_index (entity 1) (2 ∷ 3 ∷ []) 2 ∷ key_index (volume 3) (1 ∷ 2 ∷ []) 4
-      ∷ key_index (cell 5) (1 ∷ 2 ∷ 3 ∷ []) 6
-      ∷ cell_range 7 5 ∷ key_index (availability 8) (1 ∷ []) 9
-      ∷ key_index (subscription 10) (2 ∷ []) 11 ∷ [];
+      key_index (entity entity_tree) (2 ∷ 3 ∷ []) 2
+      ∷ key_index (volume volume_tree) (1 ∷ 2 ∷ []) 4
+      ∷ key_index (cell cell_tree) (1 ∷ 2 ∷ 3 ∷ []) 6
+      ∷ cell_range 7 cell_tree ∷ key_index (availability availability_tree) (1 ∷ []) 9
+      ∷ key_index (subscription subscription_tree) (2 ∷ []) 11 ∷ [];
   views = [];
 }
 
 abbrev pub schema_8 : Schema
 schema_8 = record {
-  tables = meta 0 ∷ entity 1 ∷ volume 3 ∷ cell 5 ∷ availability 8 ∷ subscription 10
-      ∷ subscription_cell 12 ∷ [];
+  tables = meta meta_tree ∷ entity entity_tree ∷ volume volume_tree ∷ cell cell_tree
+      ∷ availability availability_tree ∷ subscription subscription_tree
+      ∷ subscription_cell subscription_cell_tree ∷ [];
   indexes =
-      key_index (entity 1) (2 ∷ 3 ∷ []) 2 ∷ key_index (volume 3) (1 ∷ 2 ∷ []) 4
-      ∷ key_index (cell 5) (1 ∷ 2 ∷ 3 ∷ []) 6
-      ∷ cell_range 7 5 ∷ key_index (availability 8) (1 ∷ []) 9
-      ∷ key_index (subscription 10) (2 ∷ []) 11
-      ∷ key_index (subscription_cell 12) (1 ∷ 2 ∷ []) 13 ∷ [];
+      key_index (entity entity_tree) (2 ∷ 3 ∷ []) 2
+      ∷ key_index (volume volume_tree) (1 ∷ 2 ∷ []) 4
+      ∷ key_index (cell cell_tree) (1 ∷ 2 ∷ 3 ∷ []) 6
+      ∷ cell_range 7 cell_tree ∷ key_index (availability availability_tree) (1 ∷ []) 9
+      ∷ key_index (subscription subscription_tree) (2 ∷ []) 11
+      ∷ key_index (subscription_cell subscription_cell_tree) (1 ∷ 2 ∷ []) 13 ∷ [];
   views = [];
 }
 
 abbrev pub schema_9 : Schema
 schema_9 = record {
-  tables = meta 0 ∷ entity 1 ∷ volume 3 ∷ cell 5 ∷ availability 8 ∷ subscription 10
-      ∷ subscription_cell 12 ∷ [];
+  tables = meta meta_tree ∷ entity entity_tree ∷ volume volume_tree ∷ cell cell_tree
+      ∷ availability availability_tree ∷ subscription subscription_tree
+      ∷ subscription_cell subscription_cell_tree ∷ [];
   indexes =
-      key_index (entity 1) (2 ∷ 3 ∷ []) 2 ∷ key_index (volume 3) (1 ∷ 2 ∷ []) 4
-      ∷ key_index (cell 5) (1 ∷ 2 ∷ 3 ∷ []) 6
-      ∷ cell_range 7 5 ∷ key_index (availability 8) (1 ∷ []) 9
-      ∷ key_index (subscription 10) (2 ∷ []) 11
-      ∷ key_index (subscription_cell 12) (1 ∷ 2 ∷ []) 13
-      ∷ subscription_cell_range 14 12 ∷ [];
+      key_index (entity entity_tree) (2 ∷ 3 ∷ []) 2
+      ∷ key_index (volume volume_tree) (1 ∷ 2 ∷ []) 4
+      ∷ key_index (cell cell_tree) (1 ∷ 2 ∷ 3 ∷ []) 6
+      ∷ cell_range 7 cell_tree ∷ key_index (availability availability_tree) (1 ∷ []) 9
+      ∷ key_index (subscription subscription_tree) (2 ∷ []) 11
+      ∷ key_index (subscription_cell subscription_cell_tree) (1 ∷ 2 ∷ []) 13
+      ∷ subscription_cell_range 14 subscription_cell_tree ∷ [];
   views = [];
 }

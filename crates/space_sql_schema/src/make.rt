@@ -3,7 +3,7 @@ ghost use Rattle.std.specs.Prelude.{◌≡◌, false, OnOk, OnErr, IsTrue};
 ghost use Rattle.sqlite.specs.Held.{state};
 ghost use Rattle.sqlite.specs.State.{HasCleanDisk, Survives};
 ghost use Rattle.space_sql_schema.specs.declared.format.Format.TheVariants.{One};
-ghost use Rattle.space_sql_schema.specs.Making.{AreMade, AreMadeFirst, IsBare, IsMade, IsUndone, Leads, MayBeMade, SpellsEmptyAs};
+ghost use Rattle.space_sql_schema.specs.Making.{AreMade, AreMadeFirst, IsBare, IsMade, IsUndone, Leads, EmptyIfNoTable, SpellsEmptyAs};
 ghost use Rattle.space_sql_schema.specs.Tables.{no_schema, first_schema, dss_schema, schema_1, schema_2, schema_3, schema_4, schema_5};
 ghost use Rattle.space_sql_schema.specs.Within.{SameConnection, Within};
 
@@ -210,7 +210,7 @@ pub fn make_tables<S: Alter>(conn: &mut Connection<S>) -> Result<(), Error>
         let new = state S.Store conn.new in
         HasCleanDisk new → IsTrue new.is_open → OnErr result (IsUndone old new) }
     ensures crash { let old = state S.Store conn.old in
-        Survives old (state S.Store conn.new) (MayBeMade old) }
+        Survives old (state S.Store conn.new) (EmptyIfNoTable old) }
 {
     let mut tx = conn.transaction();
     make_all(&mut tx)?;

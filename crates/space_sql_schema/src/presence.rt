@@ -3,6 +3,7 @@ ghost use Rattle.std.specs.Prelude.{◌≡◌};
 ghost use Rattle.std.specs.List.{list_any};
 ghost use Rattle.sqlite_schema.specs.Names.{same_name};
 ghost use Rattle.space_sql_schema.specs.Tables.{no_schema, first_schema, second_schema, later_tables, meta, entity, volume, cell, availability, subscription, subscription_cell, naming};
+ghost use Rattle.space_sql_schema.specs.Trees.{meta_tree, entity_tree, volume_tree, cell_tree, availability_tree, subscription_tree, subscription_cell_tree, naming_tree};
 ghost use Rattle.space_sql_schema.specs.declared.format.Format.TheVariants.{One, Two};
 ghost use Rattle.space_sql_schema.specs.Presence.{is_named, has_column, stands_for, has_all, has_some, presence_in};
 
@@ -41,7 +42,7 @@ fn has_column(table: &Table, name: &[u8]) -> bool
 }
 
 fn is_meta(table: &Table) -> bool
-    ensures { result ≡ stands_for (meta 0) table.now }
+    ensures { result ≡ stands_for (meta meta_tree) table.now }
 {
     is_named(table, b"meta")
         && (has_column(table, b"one")
@@ -49,7 +50,7 @@ fn is_meta(table: &Table) -> bool
 }
 
 fn is_entity(table: &Table) -> bool
-    ensures { result ≡ stands_for (entity 1) table.now }
+    ensures { result ≡ stands_for (entity entity_tree) table.now }
 {
     is_named(table, b"entity")
         && (has_column(table, b"num")
@@ -64,7 +65,7 @@ fn is_entity(table: &Table) -> bool
 }
 
 fn is_volume(table: &Table) -> bool
-    ensures { result ≡ stands_for (volume 3) table.now }
+    ensures { result ≡ stands_for (volume volume_tree) table.now }
 {
     is_named(table, b"volume")
         && (has_column(table, b"entity")
@@ -75,7 +76,7 @@ fn is_volume(table: &Table) -> bool
 }
 
 fn is_cell(table: &Table) -> bool
-    ensures { result ≡ stands_for (cell 5) table.now }
+    ensures { result ≡ stands_for (cell cell_tree) table.now }
 {
     is_named(table, b"cell")
         && (has_column(table, b"entity")
@@ -86,7 +87,7 @@ fn is_cell(table: &Table) -> bool
 }
 
 fn is_availability(table: &Table) -> bool
-    ensures { result ≡ stands_for (availability 8) table.now }
+    ensures { result ≡ stands_for (availability availability_tree) table.now }
 {
     is_named(table, b"availability")
         && (has_column(table, b"uss")
@@ -94,7 +95,7 @@ fn is_availability(table: &Table) -> bool
 }
 
 fn is_subscription(table: &Table) -> bool
-    ensures { result ≡ stands_for (subscription 10) table.now }
+    ensures { result ≡ stands_for (subscription subscription_tree) table.now }
 {
     is_named(table, b"subscription")
         && (has_column(table, b"num")
@@ -116,7 +117,7 @@ fn is_subscription(table: &Table) -> bool
 }
 
 fn is_subscription_cell(table: &Table) -> bool
-    ensures { result ≡ stands_for (subscription_cell 12) table.now }
+    ensures { result ≡ stands_for (subscription_cell subscription_cell_tree) table.now }
 {
     is_named(table, b"subscription_cell")
         && (has_column(table, b"subscription")
@@ -126,7 +127,7 @@ fn is_subscription_cell(table: &Table) -> bool
 }
 
 fn is_naming(table: &Table) -> bool
-    ensures { result ≡ stands_for (naming 15) table.now }
+    ensures { result ≡ stands_for (naming naming_tree) table.now }
 {
     is_named(table, b"naming")
         && (has_column(table, b"entity") && has_column(table, b"subscription"))
@@ -150,49 +151,49 @@ fn is_ours(table: &Table) -> bool
 }
 
 fn any_meta(tables: &[Table]) -> bool
-    ensures { result ≡ list_any (stands_for (meta 0)) tables.now }
+    ensures { result ≡ list_any (stands_for (meta meta_tree)) tables.now }
 {
     tables.iter().any(|t| is_meta(t))
 }
 
 fn any_entity(tables: &[Table]) -> bool
-    ensures { result ≡ list_any (stands_for (entity 1)) tables.now }
+    ensures { result ≡ list_any (stands_for (entity entity_tree)) tables.now }
 {
     tables.iter().any(|t| is_entity(t))
 }
 
 fn any_volume(tables: &[Table]) -> bool
-    ensures { result ≡ list_any (stands_for (volume 3)) tables.now }
+    ensures { result ≡ list_any (stands_for (volume volume_tree)) tables.now }
 {
     tables.iter().any(|t| is_volume(t))
 }
 
 fn any_cell(tables: &[Table]) -> bool
-    ensures { result ≡ list_any (stands_for (cell 5)) tables.now }
+    ensures { result ≡ list_any (stands_for (cell cell_tree)) tables.now }
 {
     tables.iter().any(|t| is_cell(t))
 }
 
 fn any_availability(tables: &[Table]) -> bool
-    ensures { result ≡ list_any (stands_for (availability 8)) tables.now }
+    ensures { result ≡ list_any (stands_for (availability availability_tree)) tables.now }
 {
     tables.iter().any(|t| is_availability(t))
 }
 
 fn any_subscription(tables: &[Table]) -> bool
-    ensures { result ≡ list_any (stands_for (subscription 10)) tables.now }
+    ensures { result ≡ list_any (stands_for (subscription subscription_tree)) tables.now }
 {
     tables.iter().any(|t| is_subscription(t))
 }
 
 fn any_subscription_cell(tables: &[Table]) -> bool
-    ensures { result ≡ list_any (stands_for (subscription_cell 12)) tables.now }
+    ensures { result ≡ list_any (stands_for (subscription_cell subscription_cell_tree)) tables.now }
 {
     tables.iter().any(|t| is_subscription_cell(t))
 }
 
 fn any_naming(tables: &[Table]) -> bool
-    ensures { result ≡ list_any (stands_for (naming 15)) tables.now }
+    ensures { result ≡ list_any (stands_for (naming naming_tree)) tables.now }
 {
     tables.iter().any(|t| is_naming(t))
 }
@@ -255,7 +256,7 @@ pub fn presence_of(schema: &Schema) -> Presence
 
 /// Returns true if a schema has the table `meta` with its columns. It allocates nothing.
 pub fn has_meta(schema: &Schema) -> bool
-    ensures { result ≡ list_any (stands_for (meta 0)) schema.now.tables }
+    ensures { result ≡ list_any (stands_for (meta meta_tree)) schema.now.tables }
 {
     any_meta(schema.tables.as_slice())
 }

@@ -6,6 +6,7 @@ use Rattle.space_sql_search.specs.declared.cell_table.CellTable.{CellTable}
 use Rattle.space_sql_search.specs.declared.cell_table.CellTable.TheVariants.{OfEntities, OfSubscriptions}
 use Rattle.space_sql_search.specs.declared.cell_table.RangeMatch.{RangeMatch}
 use Rattle.space_sql_search.specs.declared.cell_table.RangeMatch.TheVariants.{Within, Exactly}
+use Rattle.space_sql_schema.specs.Trees.{cell_tree, subscription_cell_tree}
 
 -- The text of the query for the numbers of items with a cell whose interval starts in a range, or
 -- equals it.
@@ -21,8 +22,8 @@ text_of OfSubscriptions Exactly =
 
 -- The tree of the table.
 abbrev pub tree_of : CellTable → ℕ
-tree_of OfEntities = 5
-tree_of OfSubscriptions = 12
+tree_of OfEntities = cell_tree
+tree_of OfSubscriptions = subscription_cell_tree
 
 -- The position of the column `lo`. The column `hi` follows it.
 abbrev pub lo_place : CellTable → ℕ

@@ -6,6 +6,7 @@ use Rattle.sqlite_value.specs.Order.{Row}
 use Rattle.sqlite.specs.Effect.{Database}
 use Rattle.entity_core.specs.Serial.{max_serial}
 use Rattle.space_sql_schema.specs.Spelling.{meta_columns, meta_values}
+use Rattle.space_sql_schema.specs.Trees.{meta_tree}
 use Rattle.space_sql_select.specs.declared.meta.Meta.{Meta}
 use Rattle.space_sql_select.specs.declared.meta.Meta.TheVariants.{Ours, Other, Neither}
 use Rattle.space_sql_select.specs.Reading.{ShowsAll}
@@ -15,12 +16,12 @@ pub record IsOtherFormat (db : Database) : Type 0 where
   pub one : Value
   pub format : Value
   pub serial : Value
-  pub only : map meta_columns (db.trees 0) ≡ (one ∷ format ∷ serial ∷ []) ∷ []
+  pub only : map meta_columns (db.trees meta_tree) ≡ (one ∷ format ∷ serial ∷ []) ∷ []
   pub not_one : format ≢ Int (pos 1)
   pub not_two : format ≢ Int (pos 2)
 
 abbrev pub ShowsMeta : Database → List Row → Type 0
-ShowsMeta db rows = ShowsAll meta_columns 0 db rows
+ShowsMeta db rows = ShowsAll meta_columns meta_tree db rows
 
 -- Holds if there is one row, and its format is neither 1 nor 2.
 pub record AreOtherFormat (rows : List Row) : Type 0 where

@@ -15,6 +15,7 @@ use Rattle.space_rows.specs.declared.rows.SubRow.{SubRow}
 use Rattle.space_rows.specs.declared.rows.SubCellRow.{SubCellRow}
 use Rattle.space_sql_schema.specs.Tables.{dss_schema}
 use Rattle.space_sql_schema.specs.Spelling.{Spells, Group, SubGroup, IsStated, AreApart, meta_values, entity_values, volume_values, cell_values, availability_values, sub_values, sub_cell_values, naming_values, meta_columns, entity_columns, six_columns, three_columns, sub_columns, five_columns, two_columns}
+use Rattle.space_sql_schema.specs.Trees.{meta_tree, entity_tree, volume_tree, cell_tree, availability_tree, subscription_tree, subscription_cell_tree, naming_tree}
 
 -- The number of an entity, and that of the subscription that it references.
 abbrev pub Naming : Type 0
@@ -49,14 +50,15 @@ pub record AreRows {R : Type 0} (values : R → Row) (columns : Row → Row) (rs
 -- they need not represent an airspace.
 pub record LaysOut (db : Database) (l : Layout) : Type 0 where
   pub schema : db.schema ≡ dss_schema
-  pub meta : map meta_columns (db.trees 0) ≡ meta_values 2 l.serial ∷ []
-  pub entities : AreRows entity_values entity_columns l.entities (db.trees 1)
-  pub volumes : AreRows volume_values six_columns l.volumes (db.trees 3)
-  pub cells : AreRows cell_values six_columns l.cells (db.trees 5)
-  pub availabilities : AreRows availability_values three_columns l.availabilities (db.trees 8)
-  pub subs : AreRows sub_values sub_columns l.subs (db.trees 10)
-  pub sub_cells : AreRows sub_cell_values five_columns l.sub_cells (db.trees 12)
-  pub namings : AreRows values_of_naming two_columns l.namings (db.trees 15)
+  pub meta : map meta_columns (db.trees meta_tree) ≡ meta_values 2 l.serial ∷ []
+  pub entities : AreRows entity_values entity_columns l.entities (db.trees entity_tree)
+  pub volumes : AreRows volume_values six_columns l.volumes (db.trees volume_tree)
+  pub cells : AreRows cell_values six_columns l.cells (db.trees cell_tree)
+  pub availabilities : AreRows availability_values three_columns l.availabilities
+      (db.trees availability_tree)
+  pub subs : AreRows sub_values sub_columns l.subs (db.trees subscription_tree)
+  pub sub_cells : AreRows sub_cell_values five_columns l.sub_cells (db.trees subscription_cell_tree)
+  pub namings : AreRows values_of_naming two_columns l.namings (db.trees naming_tree)
 
 -- The rows of an airspace that the tables represent.
 abbrev pub layout_of : (db : Database) (a : Airspace) → Spells db a → Layout

@@ -11,6 +11,7 @@ use Rattle.space_core.specs.declared.batch.BatchChange.{BatchChange}
 use Rattle.space_core.specs.Batch.{changed_all, changed_once}
 use Rattle.space_rows.specs.Rows.{kind_number}
 use Rattle.space_sql_schema.specs.Spelling.{Spells}
+use Rattle.space_sql_schema.specs.Trees.{entity_tree, subscription_tree}
 
 -- The number, kind and id of a row of `entity`.
 abbrev pub entity_head : Row → Row
@@ -19,7 +20,7 @@ entity_head r = column r 0 ∷ column r 2 ∷ column r 3 ∷ []
 -- Holds if a row of `entity` has this number, kind and id.
 abbrev pub IsEntityAt : Database → EntityKey → ℤ → Type 0
 IsEntityAt db k num =
-    Has (map entity_head (db.trees 1))
+    Has (map entity_head (db.trees entity_tree))
     (Int num ∷ Int (kind_number k.0) ∷ Text (printed k.1) ∷ [])
 
 -- The number and id of a row of `subscription`.
@@ -28,7 +29,8 @@ sub_head r = column r 0 ∷ column r 2 ∷ []
 
 -- Holds if a row of `subscription` has this number and id.
 abbrev pub IsSubAt : Database → ℕ → ℤ → Type 0
-IsSubAt db id num = Has (map sub_head (db.trees 10)) (Int num ∷ Text (printed id) ∷ [])
+IsSubAt db id num =
+    Has (map sub_head (db.trees subscription_tree)) (Int num ∷ Text (printed id) ∷ [])
 
 -- Holds if each entity and each subscription that exists before and after keeps its number, even if
 -- it is stored anew.

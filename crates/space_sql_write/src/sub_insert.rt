@@ -48,7 +48,8 @@ pub(crate) fn update_sub_row<S: Alter>(
     ensures same_reference { SameConnection tx.old tx.new }
     ensures updates { let num = row.now.num in
         Within S.Store tx.old tx.new
-        (Runs (λ _. Relays (HasSub num) (λ l. with_sub_row row.now (without_sub_row num l)))) result }
+        (Runs (λ _. Relays (HasSub num) (λ l.
+            with_sub_row row.now (without_sub_row num l)))) result }
 {
     tx.execute(
         "UPDATE subscription SET id = ?2, manager = ?3, serial = ?4, version = ?5, notes = ?6, \

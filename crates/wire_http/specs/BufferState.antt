@@ -15,7 +15,8 @@ max_buffered = 1056768
 abbrev pub IsLight : ℕ → ℕ → Type 0
 IsLight len capacity = len ≡ 0 → capacity ≤ 65536
 
--- Holds if these bytes can still arrive: none if the input has ended.
+-- Holds if these bytes can still arrive. If the input has ended, only the empty list can. Otherwise
+-- any bytes can, and nothing is claimed of them.
 abbrev pub MayCome : Bool → List ℕ → Type 0
 MayCome ended later = ended ≡ true → later ≡ []
 

@@ -77,7 +77,11 @@ module _ {S M : Type 0} (g : Ghosts S) (Gives : M → ℕ → M → Type 0) (cal
     (old new : Service S) (clock clock' : M) (c c' : Connection) where
   -- Holds if the step did one of three things. It did nothing: more input may arrive, no request is
   -- complete, and there is room. Or it answered one more request, as a turn of a stream without
-  -- more input does, and its response is deferred. Or the stream ended, whatever may still arrive.
+  -- more input does, and its response is deferred. Or the stream ended, whatever can still arrive.
+  --
+  -- A step reads from no reader: all received bytes are in the buffer. So the turn in the case
+  -- `Answered` has a reader without bytes before it and after it, which are the two `Some []`. What
+  -- it writes is the output: `Some (output_of c)` before it and `Some (output_of c')` after it.
   abbrev pub IsStep : Step → Type 0
   IsStep steps.NeedsInput =
       (new ≡ old) × (clock' ≡ clock) × IsSame c c' × (0 < left_of c) × (has_ended c ≡ false)

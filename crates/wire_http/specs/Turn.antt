@@ -31,8 +31,16 @@ module _ {S M : Type 0} (g : Ghosts S) (Gives : M → ℕ → M → Type 0) (cal
     pub is_reply : IsReplyTo g old new asked.moment asked.call reply
 
   -- Holds if a request was answered, whatever follows it, or the stream ended. The arguments are
-  -- the bytes left in the reader before and after, and those in the buffer that belong to no
-  -- earlier request.
+  -- the bytes left in the reader before and after the turn, if they are known, and those in the
+  -- buffer before and after it that belong to no earlier request.
+  --
+  -- For `Answered`: there are a request, its reply, and the bytes `came` that the turn read. The
+  -- service gave this reply. The buffer, what came, and whatever follows begin with this request.
+  -- The response was written. For `Ended`: the buffer and all bytes `ahead` in the reader stop as
+  -- `end` says. The service and the clock are unchanged, and the texts of `end` were written.
+  --
+  -- Example: the buffer holds half of a request, and the reader has its other half and one more
+  -- request. The turn reads both, answers the first request, and leaves the second in the buffer.
   abbrev pub IsTurn : Option (List ℕ) → Option (List ℕ) → List ℕ → List ℕ → Turn → Type 0
   IsTurn remaining remaining' buffer buffer' (Answered n) =
       (asked : RequestCall) × (reply : Reply) × (came : List ℕ)
@@ -75,7 +83,10 @@ module _ {S M : Type 0} (g : Ghosts S) (Gives : M → ℕ → M → Type 0) (cal
     pub short : size < length (rule_text rule)
     pub written : Appends before text (take size (rule_text rule))
 
-  -- Holds if the turn was aborted.
+  -- Holds if the turn was aborted, given the bytes in the buffer and all bytes `ahead` in the
+  -- reader. There are three cases: before the call of a request, within the response to one, or within the
+  -- text of a protocol rule. `before` and `text` of the module are what was written before the turn
+  -- and after it.
   abbrev pub IsTurnPart : Option (List ℕ) → List ℕ → StreamFault → Type 0
   IsTurnPart remaining buffer fault =
       (ahead : List ℕ) × IsInput remaining ahead

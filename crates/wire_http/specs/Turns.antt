@@ -54,8 +54,9 @@ pub record AreServed {S : Type 0} (g : Ghosts S) (callers : Callers) (first now 
       → IsServed callers (came who) (asked_for who log) (told_for who log) (sent who)
       (connections who)
 
--- Holds after at most one further call of a connection. Its reply is delivered as it was made, and
--- its response is deferred.
+-- Holds after the further calls `more` of one connection. A step makes at most one, but the record
+-- does not limit their number. Each reply is delivered as it was made. If the connection is not
+-- done, each response is deferred.
 pub record AreServedAfter {S : Type 0} (g : Ghosts S) (callers : Callers) (first now : Service S)
     (log : List MadeCall) (came sent : ℕ → List ℕ) (connections : ℕ → Connection) (who : ℕ)
     (next : Connection) : Type 0 where

@@ -69,7 +69,8 @@ fn may_be_id(text: &str) -> bool
 
 // Returns the only parameter of a path, if `is_right` is true.
 fn one_parameter(word: &str, is_right: bool) -> Option<PathWords<'_>>
-    ensures { option_map words_of result ≡ (if is_right then Some (one_parameter word.now) else None) }
+    ensures { option_map words_of result
+        ≡ (if is_right then Some (one_parameter word.now) else None) }
 {
     if is_right {
         Some(PathWords {

@@ -9,7 +9,7 @@ purge-answer-requires g c =
 pub returns-clause-agrees : goal.returns-clause-agrees
 returns-clause-agrees g c =
     let none = none_of c.args.batch.now c.is_empty.result c.is_empty.ensures c.if-not-is_empty.false in
-    agrees_gone g.S.Space c.args.store.now c.purge-answer.new.self c.args.gone.now c.follow.new.mirror c.args.state.now c.follow.new.state c.follow.ensures.state c.args.mirror.now c.args.batch.now c.purge-answer.result none c.requires.agrees c.purge-answer.ensures.tells c.purge-answer.ensures.changes c.follow.ensures.mirror
+    agrees_gone g.S.Space c.args.store.now c.purge-answer.new.self c.args.gone.now c.follow.new.mirror c.args.state.now c.follow.new.state c.args.mirror.now c.args.batch.now c.purge-answer.result c.follow.ensures.state none c.requires.agrees c.purge-answer.ensures.tells c.purge-answer.ensures.changes c.follow.ensures.mirror
 
 pub returns-clause-going : goal.returns-clause-going
 returns-clause-going g c =

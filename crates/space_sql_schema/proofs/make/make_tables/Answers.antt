@@ -7,7 +7,7 @@ use Rattle.sqlite.proofs.Callers.{survives_begin}
 use Rattle.entity_core.specs.Airspace.{empty_at}
 use Rattle.space_sql_schema.specs.Tables.{no_schema}
 use Rattle.space_sql_schema.specs.Spelling.{Spells}
-use Rattle.space_sql_schema.specs.Making.{IsSettled, MayBeMade}
+use Rattle.space_sql_schema.specs.Making.{IsSettled, EmptyIfNoTable}
 use Rattle.space_sql_schema.proofs.Steps.{on_err, ok_map}
 use Rattle.space_sql_schema.proofs.make.make_tables.Goals as goal
 
@@ -29,7 +29,7 @@ returns-clause-crash g c =
     let old = c.args.conn.now in
     let last = c.make_all.new.tx.conn.now in
     let begun = c.transaction-tx.ensures.begun in
-    let P = MayBeMade (state g.S.Store old) in
+    let P = EmptyIfNoTable (state g.S.Store old) in
     let ran = λ (clean : HasCleanDisk (state g.S.Store last)). rw begun at (c.in_ok-make_all.ensures.leads.done clean) in
     let whole = survives_then (state g.S.Store old) (state g.S.Store last) (state g.S.Store c.commit.new.self.0) _ _ P (λ _ db none. absurd none)
     (λ clean db is has. let it = (ran (omega (arith, c.commit.ensures.survives.clean))).0 (has, tt) in ((state g.S.Store last).now, is, it.0, it.1)) (survives_begin g.S.Store old (state g.S.Store last) _ (rw begun at c.make_all.ensures.leads.survives)) c.commit.ensures.survives in
