@@ -300,7 +300,7 @@ impl<T: Socket> ClientIo<T> {
             × IsStep S.Space M.gives (callers_of context.entry.tokens.now)
             service.old service.new moments.old moments.new (connection_of self.old) c step
             × ReleasesUnless
-                (S.is_pending (space_of service.old) || S.is_pending (space_of service.new))
+            (S.is_pending (space_of service.old) || S.is_pending (space_of service.new))
             c (connection_of self.new)) }
         ensures part { IfErr result (IsStepPart S.Space M.gives
             (callers_of context.entry.tokens.now)
