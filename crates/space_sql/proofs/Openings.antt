@@ -1,5 +1,5 @@
 -- Proofs about the result and the effects of opening, by the presence of the tables.
-use Rattle.std.specs.Prelude.{◌≡◌, ◌≢◌, Result, Ok, Err, IfErr, refl}
+use Rattle.std.specs.Prelude.{◌≡◌, ◌≢◌, ◌↔◌, Bool, false, true, IsTrue, Result, Ok, Err, IfErr, refl}
 use Rattle.std.proofs.Common.{ap, subst, sym, ◌∙◌}
 use Rattle.sqlite_trees.specs.Tree.{Trees}
 use Rattle.sqlite_schema.specs.declared.schema.Schema.{Schema}
@@ -42,6 +42,14 @@ of_format schema P own stands f format e =
     let same : Whole own ≡ Whole format = sym stands ∙ stands_as format schema e in
     let is : own ≡ format = cc in
     subst (λ (x : Format). schema ≡ schema_of x → P x) is f e
+
+-- ---- what is told of an upgrade
+
+pub tells_first : (upgraded : Bool) (presence : Presence) → upgraded ≡ true → presence ≡ Whole One → (IsTrue upgraded ↔ (presence ≡ Whole One))
+tells_first upgraded presence is stands = ((λ yes. stands), (λ one. is))
+
+pub tells_unindexed : (upgraded : Bool) (presence : Presence) → upgraded ≡ false → presence ≡ Whole TwoUnindexed → (IsTrue upgraded ↔ (presence ≡ Whole One))
+tells_unindexed upgraded presence is stands = ((λ yes. let wrong : false ≡ true = sym is ∙ yes in cc), (λ one. let wrong : Whole TwoUnindexed ≡ Whole One = sym stands ∙ one in cc))
 
 -- ---- effects of a crash
 
