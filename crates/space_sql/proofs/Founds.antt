@@ -45,7 +45,7 @@ new_found image none db (inl it) = absurd (let some : 0 < length image.db = it.3
 new_found image none db (inr it) = it.1
 
 pub new_is_unmade : (image : Image) → image.db ≡ [] → AreUnmade image
-new_is_unmade image none = inl (new_found image none)
+new_is_unmade image none = inl (inl (inl (ap length none)), new_found image none)
 
 -- The presence of a format determines it.
 same_format : (format : Format) → Whole format ≡ Whole One → format ≡ One
@@ -67,7 +67,7 @@ module _ (image : Image) (s : State) (it : IsOpenedOver image s) where
 
   found_empty : AreUnmade image → IsEmpty s.committed.trees
   found_empty none = elim none [
-    | inl found ↦ found s.committed.trees it.found.reads
+    | inl blank ↦ blank.1 s.committed.trees it.found.reads
     | inr held ↦ subst IsEmpty (sym (it.found.holds held.0 held.1)) held.2
   ]
 

@@ -3,7 +3,7 @@ use Rattle.std.specs.Prelude.{◌≡◌, ◌≢◌, ◌⊎◌, ◌↔◌, [], Is
 use Rattle.sqlite_trees.specs.Tree.{Trees}
 use Rattle.sqlite.specs.Recovery.{Image}
 use Rattle.sqlite.specs.Effect.{Database, IsDatabase}
-use Rattle.sqlite.specs.Files.{AreFoundIn, HoldsDatabase, IsEmpty}
+use Rattle.sqlite.specs.Files.{AreFoundIn, HoldsDatabase, IsEmpty, IsNothing}
 use Rattle.sqlite.specs.Start.{FindsIn}
 use Rattle.sqlite.specs.State.{State, HasCleanDisk, IsLive}
 use Rattle.entity_core.specs.Airspace.{Airspace, empty_at}
@@ -34,11 +34,15 @@ HasTables format image db = HoldsDatabase image db × IsDatabase (tables_of form
 abbrev pub FilesSpell : Format → Image → Airspace → Type 0
 FilesSpell format image a = (db : Trees) × HoldsDatabase image db × KeepsAs format db a
 
--- Holds if an opening of the files finds no table: the database file has no byte, or the files hold
--- a database without a table.
+-- Holds if the files are those of a database that was not made yet, and an opening finds no table in
+-- them: the database file has no byte, or is what an opening left of its first page.
+abbrev pub AreBlank : Image → Type 0
+AreBlank image = IsNothing image × ((db : Trees) → AreFoundIn image db → IsEmpty db)
+
+-- Holds if an opening of the files finds no table: no database was made in them yet, or they hold a
+-- database without a table. A ruined file is not unmade.
 abbrev pub AreUnmade : Image → Type 0
-AreUnmade image = ((db : Trees) → AreFoundIn image db → IsEmpty db)
-    ⊎ ((db : Trees) × HoldsDatabase image db × IsEmpty db)
+AreUnmade image = AreBlank image ⊎ ((db : Trees) × HoldsDatabase image db × IsEmpty db)
 
 -- States that a database file without a byte is unmade, whatever its log holds.
 abbrev pub NewIsUnmade : Type 0
