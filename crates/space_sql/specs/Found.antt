@@ -1,5 +1,5 @@
 -- Definitions of what an opening finds, by the content of the log and of the database file.
-use Rattle.std.specs.Prelude.{◌≡◌, ◌≢◌, ◌⊎◌, ◌↔◌, [], IsTrue}
+use Rattle.std.specs.Prelude.{◌≡◌, ◌≢◌, ◌⊎◌, ◌↔◌, [], IsTrue, false}
 use Rattle.sqlite_trees.specs.Tree.{Trees}
 use Rattle.sqlite.specs.Recovery.{Image}
 use Rattle.sqlite.specs.Effect.{Database, IsDatabase}
@@ -61,7 +61,7 @@ IsOver image s = HasCleanDisk s → IsOpenedOver image s
 
 -- Holds if a space adopted over files with this content holds exactly the airspace represented
 -- there, or an empty one if there was no table. If it holds an airspace, it is whole. The space
--- reports whether the tables were of format 1.
+-- reports whether the tables were of format 1. New tables were not.
 pub record FindsSpelt {S : Type 0} (image : Image) (space : Ghosts (SqlSpaceModel S)) (k : SqlSpaceModel S)
     : Type 0 where
   pub spelt : space.is_sound k → (format : Format) (a : Airspace) → FilesSpell format image a
@@ -70,6 +70,7 @@ pub record FindsSpelt {S : Type 0} (image : Image) (space : Ghosts (SqlSpaceMode
   pub whole : space.is_sound k → (a : Airspace) → space.holds k a → space.is_whole k
   pub upgraded : space.is_sound k → (format : Format) (a : Airspace)
       → FilesSpell format image a → (IsTrue k.upgraded ↔ (format ≡ One))
+  pub made : space.is_sound k → AreUnmade image → k.upgraded ≡ false
 
 -- Holds if the fault is right for a connection over files with this content. Whatever a crash
 -- leaves represents the same airspace, in its format or in format 2. If there was no table, there
