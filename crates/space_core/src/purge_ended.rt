@@ -1,7 +1,8 @@
 //! The trait of storage backends that find and purge what has ended.
-ghost use Rattle.std.specs.Prelude.{◌≡◌};
+ghost use Rattle.std.specs.Prelude.{◌≡◌, true, Err};
 ghost use Rattle.entity_purge.specs.PurgeItem.{CanPurgeAll, IsPurgeChunk, without_items};
 ghost use Rattle.space_core.specs.Calls.{CallChanges, CallReads, CallReportsFault, ForEachHeld};
+ghost use Rattle.space_core.specs.declared.space.SpaceFault.TheVariants.{Unchanged};
 
 use crate::group_commit::GroupCommit;
 use crate::space::SpaceFault;
@@ -25,12 +26,14 @@ pub trait PurgeEnded: GroupCommit {
     /// Purges all items in order, or none.
     ///
     /// Each item must exist in what the previous ones leave, and no intent may reference it. The
-    /// serial stays, and no subscription is notified. Returns `Unchanged` if changes are pending.
-    /// Otherwise the result is durable at once.
+    /// serial stays, and no subscription is notified. Returns `Unchanged` if changes are pending,
+    /// and leaves the durable part as it is. Otherwise the result is durable at once.
     fn purge(&mut self, gone: &[PurgeItem]) -> Result<(), SpaceFault>
         requires can { ForEachHeld Self.Space self.old (CanPurgeAll gone.now) }
         ensures tells { CallReportsFault Self.Space self.old self.new result }
         ensures changes { CallChanges Self.Space self.old self.new result (without_items gone.now) }
         ensures waits { Self.GroupCommit.is_pending self.new
-            ≡ Self.GroupCommit.is_pending self.old };
+            ≡ Self.GroupCommit.is_pending self.old }
+        ensures pending { Self.GroupCommit.is_pending self.old ≡ true → (result ≡ Err Unchanged)
+            × (Self.Space.fixed self.new ≡ Self.Space.fixed self.old) };
 }

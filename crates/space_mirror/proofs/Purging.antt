@@ -174,6 +174,7 @@ module _ {S : Type 0} (g : Ghosts S) where
           tells = record { counted = counted; breaks = tells.breaks; stays_broken = tells.stays_broken };
           changes = calm_changes (mirrored_model s (pending_if_mirrored l batch) k) (mirrored_model t (pending_if_mirrored n batch) k') (without_items gone) calm calm' r c;
           waits = calm' ∙ sym calm;
+          pending = λ e. absurd (let f = calm in cc);
         })
 
   -- ---- while changes are pending
@@ -196,4 +197,5 @@ module _ {S : Type 0} (g : Ghosts S) where
           frozen = λ sound set b seen. seen;
         };
         waits = refl;
+        pending = λ e. (refl, refl);
       })

@@ -8,7 +8,7 @@ use Rattle.space_core.specs.declared.space.SpaceFault.TheVariants.{Unchanged, Br
 use Rattle.space_core.specs.Space.{Changes, Reads, ReportsFault, is_broken_after}
 use Rattle.space_memory.specs.declared.memory.MemorySpace.{MemorySpace}
 use Rattle.space_memory.specs.Memory.{content_of}
-use Rattle.space_mirror.specs.Mirrored.{MirroredModel, IsSoundIn, holds_in, is_whole_in, is_pending_in}
+use Rattle.space_mirror.specs.Mirrored.{MirroredModel, IsSoundIn, fixed_part, holds_in, is_whole_in, is_pending_in}
 
 -- Holds if a purge has its results and effects.
 pub record MirrorPurgeEffect {S T : Type 0} (g : Ghosts S) (old new : MirroredModel S) (result : Result T SpaceFault)
@@ -18,6 +18,8 @@ pub record MirrorPurgeEffect {S T : Type 0} (g : Ghosts S) (old new : MirroredMo
   pub changes : Changes (holds_in g) (IsSoundIn g) (is_whole_in g) (g.is_broken old.store)
       old new result (without_items gone)
   pub waits : is_pending_in new ≡ is_pending_in old
+  pub pending : is_pending_in old ≡ true
+      → (result ≡ Err Unchanged) × (fixed_part new ≡ fixed_part old)
 
 -- Holds if the mirror, if any, has purged the items.
 abbrev pub HasPurged : List PurgeItem → (mirror mirror' : Option MemorySpace) → Type 0

@@ -110,7 +110,7 @@ pub(crate) fn apply<S: Space>(
     ensures changes { Changing S.Space
         (mirrored_model store.old (pending_if_mirrored mirror.old batch.old.items) refusals.old)
         (mirrored_model store.new (pending_if_mirrored mirror.new batch.new.items) refusals.new)
-            result
+        result
         (changed change notify.now) }
 {
     match mirror {
@@ -260,7 +260,7 @@ pub(crate) fn commit<S: ApplyBatch + ToMemory>(
     ensures keeps { BatchCommit S.Space
         (mirrored_model store.old (pending_if_mirrored mirror.old batch.old.items) refusals.old)
         (mirrored_model store.new (pending_if_mirrored mirror.new batch.new.items) refusals.new)
-            result }
+        result }
 {
     let answer = commit_or_rebuild(alloc, store, mirror, state, batch.as_slice());
     batch.clear();

@@ -178,7 +178,7 @@ impl<S: ApplyBatch + ToMemory + Drop> Space for Mirrored<S> {
 
     ghost content_exists = { λ s sound whole.
         visible_exists (λ c. S.holds s.store c) (pending s.ahead)
-            (S.content_exists s.store sound.store whole) };
+        (S.content_exists s.store sound.store whole) };
 
     ghost content_valid = { λ s a sound h.
         visible_valid (λ c. S.holds s.store c) (pending s.ahead) a sound.fits

@@ -100,7 +100,7 @@ pub(crate) fn purge_both<S: Purge>(
     ensures going { MirrorPurgeEffect S.Space
         (mirrored_model store.old (pending_if_mirrored mirror.old batch.now) refusals.old)
         (mirrored_model store.new (pending_if_mirrored mirror.new batch.now) refusals.new) result
-            gone.now }
+        gone.now }
 {
     if !batch.is_empty() {
         return count_refusal(refusals, Err(SpaceFault::Unchanged));

@@ -1,8 +1,9 @@
 //! Purging items and reducing the usage of their USSs.
-ghost use Rattle.std.specs.Prelude.{◌≡◌, List, true};
+ghost use Rattle.std.specs.Prelude.{◌≡◌, List, true, Err};
 ghost use Rattle.entity_core.specs.Airspace.{Airspace};
 ghost use Rattle.entity_purge.specs.PurgeItem.{CanPurgeAll};
 ghost use Rattle.entity_purge.specs.declared.purge_item.PurgeItem.{PurgeItem};
+ghost use Rattle.space_core.specs.declared.space.SpaceFault.TheVariants.{Unchanged};
 ghost use Rattle.space_quota.specs.QuotaSpace.{QuotaModel, QuotaPurgeEffect, quota_model, is_some};
 
 use crate::usage_table::UsageTable;
@@ -48,6 +49,8 @@ fn purge_counted<S: PurgeEnded + SnapshotSource>(
     ensures going { QuotaPurgeEffect S.Space (quota_model space.old over.old true)
         (quota_model space.new over.new true) items.now result }
     ensures waits { S.GroupCommit.is_pending space.new ≡ S.GroupCommit.is_pending space.old }
+    ensures pending { S.GroupCommit.is_pending space.old ≡ true → (result ≡ Err Unchanged)
+        × (S.Space.fixed space.new ≡ S.Space.fixed space.old) }
 {
     if space.has_pending() {
         return space.purge(items);
@@ -79,6 +82,8 @@ pub(crate) fn purge_with_quota<S: PurgeEnded + SnapshotSource>(
     ensures going { QuotaPurgeEffect S.Space (quota_model space.old over.old (is_some tally.old))
         (quota_model space.new over.new (is_some tally.new)) items.now result }
     ensures waits { S.GroupCommit.is_pending space.new ≡ S.GroupCommit.is_pending space.old }
+    ensures pending { S.GroupCommit.is_pending space.old ≡ true → (result ≡ Err Unchanged)
+        × (S.Space.fixed space.new ≡ S.Space.fixed space.old) }
 {
     match tally {
         Some(tally) => purge_counted(space, tally, over, items),
