@@ -17,9 +17,11 @@ use dss_args::version::{KIT, VERSION};
 use dss_server::serve::serve_clients;
 use entity_core::salt::Salt;
 use server_base::limits::Limits;
-use server_base::server_log::{AbortedConnection, LoggedRequest, ServerLog, StoreEvent};
+use server_base::server_log::{
+    AbortedConnection, LoggedRequest, ServerLog, StoreEvent, TokenReloadFault,
+};
 use server_base::sockets::Sockets;
-use server_watch::token_watch::{TokenReloadFault, TokenSource, TokenWatch};
+use server_watch::token_watch::{TokenSource, TokenWatch};
 use service_calls::service::Service;
 use space_core::purge_ended::PurgeEnded;
 use space_snapshot::snapshot::SnapshotSource;
