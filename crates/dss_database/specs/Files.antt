@@ -25,7 +25,7 @@ use Rattle.space_sql.specs.Found.{AreUnmade, FilesSpell, FindsSpelt}
 use Rattle.space_sql.specs.Holding.{SqlSpaceModel}
 use Rattle.space_sql.specs.Restart.{ClosesFiles, FilesHave, FilesLeft, LeavesFiles, without_log}
 use Rattle.space_sql_schema.specs.declared.format.Format.{Format}
-use Rattle.space_sql_schema.specs.declared.format.Format.TheVariants.{One, Two}
+use Rattle.space_sql_schema.specs.declared.format.Format.TheVariants.{One, TwoUnindexed, Two}
 use Rattle.token_conf.specs.TokenFile.{TokenFile}
 use Rattle.wire_http.specs.declared.moments.Moments as moments
 use Rattle.dss_command.specs.Print.{WritesReport, purged_line}
@@ -40,6 +40,7 @@ use Rattle.dss_command.specs.declared.fault.Fault.TheVariants.{Database, Databas
 -- The line that is printed for a database that had this format.
 abbrev pub format_line : Format → List ℕ
 format_line One = codes "format 2, was 1\n"
+format_line TwoUnindexed = codes "format 2\n"
 format_line Two = codes "format 2\n"
 
 -- Holds if the database could not be opened.
