@@ -14,12 +14,14 @@ use crate::store_lines::print_store_event;
 use crate::tokens::print_reload_fault;
 use admin_http::build::BuildInfo;
 use dss_args::version::{KIT, VERSION};
-use dss_server::limits::Limits;
 use dss_server::serve::serve_clients;
-use dss_server::server_log::{AbortedConnection, LoggedRequest, ServerLog, StoreEvent};
-use dss_server::sockets::Sockets;
-use dss_server::token_watch::{TokenReloadFault, TokenSource, TokenWatch};
 use entity_core::salt::Salt;
+use server_base::limits::Limits;
+use server_base::server_log::{
+    AbortedConnection, LoggedRequest, ServerLog, StoreEvent, TokenReloadFault,
+};
+use server_base::sockets::Sockets;
+use server_watch::token_watch::{TokenSource, TokenWatch};
 use service_calls::service::Service;
 use space_core::purge_ended::PurgeEnded;
 use space_snapshot::snapshot::SnapshotSource;

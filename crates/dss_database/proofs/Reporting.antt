@@ -1,5 +1,5 @@
 -- Properties of a space are properties of the files from which it was opened.
-use Rattle.std.proofs.Common.{◌≡◌, ℕ, Bool, true, false, List, Option, refl, sym, subst, inl, inr}
+use Rattle.std.proofs.Common.{◌≡◌, ℕ, Bool, true, false, List, Option, refl, sym, subst, inl, inr, ◌∙◌}
 use Rattle.std.specs.Prelude.{◌↔◌, ◌⊎◌, IsTrue, IfErr, IfOk, OnOk, Result, Ok, Err, codes, if◌then◌else◌}
 use Rattle.std.proofs.Math.Logic.{∥∥₁_map}
 use Rattle.std.specs.Io.KnownBytes.{Appends}
@@ -104,5 +104,8 @@ module _ {D : Type 0} {g : disk.Ghosts D} (space : spaces.Ghosts (SqlSpaceModel 
     told = λ clean format a spelt.
         let tells : IsTrue upgraded ↔ (format ≡ One) = subst (λ (b : Bool). IsTrue b ↔ (format ≡ One)) (sym same) (finds.upgraded (over.sound k (closes.sound clean)) format a spelt) in
         subst (λ (line : List ℕ). Appends before after line) (line_told upgraded format tells) told;
+    made = λ clean none.
+        let no : upgraded ≡ false = same ∙ finds.made (over.sound k (closes.sound clean)) none in
+        subst (λ (b : Bool). Appends before after (if b then codes "format 2, was 1\n" else codes "format 2\n")) no told;
     kept = settled_kept k files finds closes over;
   }

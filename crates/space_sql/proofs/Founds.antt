@@ -1,5 +1,5 @@
 -- Proofs that relate the content of files to the opened space.
-use Rattle.std.specs.Prelude.{◌≡◌, ◌≢◌, ◌⊎◌, ◌↔◌, ◌<◌, [], length, false, IsTrue, IfErr, IfOk, Result, Ok, Err, refl}
+use Rattle.std.specs.Prelude.{◌≡◌, ◌≢◌, ◌⊎◌, ◌↔◌, ◌<◌, [], length, Bool, true, false, IsTrue, IfErr, IfOk, Result, Ok, Err, refl}
 use Rattle.std.proofs.Common.{inl, inr, sym, ap, subst, ◌∙◌, arith}
 use Rattle.sqlite_trees.specs.Tree.{Trees}
 use Rattle.sqlite_trees.specs.declared.store.Store as stores
@@ -18,6 +18,7 @@ use Rattle.space_sql_schema.specs.Spelling.{SpellsAs, Spells}
 use Rattle.space_sql_schema.specs.Tables.{no_schema, schema_of}
 use Rattle.space_sql_schema.specs.declared.format.Format.{Format}
 use Rattle.space_sql_schema.specs.declared.format.Format.TheVariants.{One, TwoUnindexed, Two}
+use Rattle.space_sql_schema.specs.declared.presence.Presence.{Presence}
 use Rattle.space_sql_schema.specs.declared.presence.Presence.TheVariants.{Missing, Whole}
 use Rattle.space_sql_schema.proofs.OneAirspace.{one_airspace_of}
 use Rattle.space_sql_schema.proofs.Presences.{none_stands}
@@ -47,7 +48,7 @@ new_found image none db (inl it) = absurd (let some : 0 < length image.db = it.3
 new_found image none db (inr it) = it.1
 
 pub new_is_unmade : (image : Image) → image.db ≡ [] → AreUnmade image
-new_is_unmade image none = inl (new_found image none)
+new_is_unmade image none = inl (inl (inl (ap length none)), new_found image none)
 
 -- The presence of a format determines it.
 same_format : (format : Format) → Whole format ≡ Whole One → format ≡ One
@@ -70,7 +71,7 @@ module _ (image : Image) (s : State) (it : IsOpenedOver image s) where
 
   found_empty : AreUnmade image → IsEmpty s.committed.trees
   found_empty none = elim none [
-    | inl found ↦ found s.committed.trees it.found.reads
+    | inl blank ↦ blank.1 s.committed.trees it.found.reads
     | inr held ↦ subst IsEmpty (sym (it.found.holds held.0 held.1)) held.2
   ]
 
@@ -134,6 +135,11 @@ module _ (image : Image) (s : State) (it : IsOpenedOver image s) where
     | inr taken ↦ absurd (other taken.0)
   ]
 
+-- A space whose tables are not of format 1 was not upgraded.
+not_upgraded : (upgraded : Bool) (presence : Presence) → (IsTrue upgraded ↔ (presence ≡ Whole One)) → presence ≡ Missing → upgraded ≡ false
+not_upgraded false presence told missing = refl
+not_upgraded true presence told missing = absurd (let whole = told.0 refl in cc)
+
 -- Proves `FindsSpelt` for an adopted space.
 pub finds : {S : Type 0} (image : Image) (s : State) (space : Ghosts (SqlSpaceModel S)) (k : SqlSpaceModel S) → (space.is_sound k → IsOpenedOver image s) → HoldsSpelt space s k → (space.is_sound k → s.now.schema ≡ no_schema → IsContent space.holds k (empty_at 0))
     → (space.is_sound k → (a : Airspace) → space.holds k a → space.is_whole k) → (IsTrue k.upgraded ↔ (presence_in s.now.schema ≡ Whole One)) → FindsSpelt image space k
@@ -142,6 +148,9 @@ finds image s space k opened holds made whole told = record {
   new = λ sound none. made sound (found_none image s (opened sound) none);
   whole = whole;
   upgraded = λ sound. told_found image s (opened sound) _ told;
+  made = λ sound none.
+      let schema = found_none image s (opened sound) none in
+      not_upgraded k.upgraded _ told (ap presence_in schema ∙ none_stands);
 }
 
 -- Proves `RefusesFound` after a fault.
