@@ -62,8 +62,9 @@ pub(crate) fn info_for(pending: RoutedCall, outcome: Outcome) -> RequestInfo
         kind,
         entity,
         moment: _,
-        call: Call { caller, op: _ },
+        call,
     } = pending;
+    let Call { caller, op: _ } = call;
     let supplier = match caller {
         Some(Caller { uss, scopes: _ }) => Some(uss),
         None => None,
