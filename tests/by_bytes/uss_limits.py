@@ -2,6 +2,7 @@
 import contextlib
 import json
 import os
+import pathlib
 import resource
 import socket
 import time
@@ -117,6 +118,23 @@ def buffers():
     return found
 
 
+def unread():
+    """A request without a token is denied before its body is parsed: it costs less than half of one with a token."""
+    body = b"[" * 100 + b"[]," * 300_000 + b"[]" + b"]" * 100
+    costs, found = {}, []
+    with AdminService() as started:
+        ticks = pathlib.Path(f"/proc/{started.program.pid}/stat")
+        for token, status in (None, b"HTTP/1.1 401"), ("tok-a", b"HTTP/1.1 400"):
+            sent = wire.request("POST", f"{wire.INTENTS}/query", token and f"Bearer {token}", body)
+            before = sum(map(int, ticks.read_text().rpartition(")")[2].split()[11:13]))
+            for _ in range(40):
+                with started.connect() as connection:
+                    connection.sendall(sent)
+                    found += difference(f"{token}", answers_from(connection, 1)[:12], status)
+            costs[token] = sum(map(int, ticks.read_text().rpartition(")")[2].split()[11:13])) - before
+    return found + ([] if 2 * costs[None] < costs["tok-a"] else [f"processor time in ticks: {costs}"])
+
+
 class Narrow(AdminService):
     """A service with few descriptors."""
 
@@ -167,6 +185,7 @@ def failed_accepts():
 CASES = {
     "serve-response-memory": budget,
     "serve-large-requests-of-one-uss": buffers,
+    "serve-denies-before-the-body": unread,
     "serve-reserved-descriptors": descriptors,
     "serve-failed-accepts": failed_accepts,
 }
