@@ -1,6 +1,6 @@
 -- Lemmas: a call that is denied before its body is read gets the reply of the call of the body.
-use Rattle.std.proofs.Common.{◌≡◌, ◌≢◌, ◌⊎◌, ◌∙◌, ℕ, List, Bool, true, false, not, cond, Option, Some, None, find, refl, sym, ap, subst, inl, inr}
-use Rattle.std.specs.Prelude.{IfSome, IsNone, IsUtf8, is_none}
+use Rattle.std.proofs.Common.{◌≡◌, ◌≢◌, ◌⊎◌, ℕ, List, Bool, true, false, not, cond, Option, Some, None, find, refl, sym, subst, inl, inr}
+use Rattle.std.specs.Prelude.{IfSome, IsNone, IsUtf8}
 use Rattle.std.specs.Str.{is_utf8}
 use Rattle.std.proofs.lemmas.Str.{IsUtf8-from_is_utf8, is_utf8-from_IsUtf8}
 use Rattle.serde_json.specs.Data.{Data}
@@ -27,10 +27,12 @@ use Rattle.service_calls.proofs.Outcome.{early_answers}
 use Rattle.service_step.specs.declared.reply.Reply.{Reply}
 use Rattle.service_step.specs.declared.reply.Reply.TheVariants.{Denied}
 use Rattle.space_core.specs.declared.space.Space.{Ghosts}
-use Rattle.wire_body.specs.Body.{IsBody, IsJson, Says, Words, query_of, read_of, create_of, update_of, delete_of, availability_read_of, setting_of, sub_query_of, sub_read_of, sub_create_of, sub_update_of, sub_delete_of}
+use Rattle.wire_body.specs.Body.{IsBody, Says, Words, query_of, read_of, create_of, update_of, delete_of, availability_read_of, setting_of, sub_query_of, sub_read_of, sub_create_of, sub_update_of, sub_delete_of}
 use Rattle.wire_body.specs.Laws.{KeepsKind}
 use Rattle.wire_route.specs.declared.endpoint.Endpoint.{Endpoint}
-use Rattle.wire_http.specs.Asked.{IsReadAs}
+use Rattle.wire_route.specs.Endpoint.{kind_at}
+use Rattle.wire_route.specs.Route.{IsRoute}
+use Rattle.wire_http.specs.Asked.{IsAsked, IsAskedAs, IsReadAs}
 use Rattle.wire_http.specs.Reply.{Replies, RepliesPart}
 use Rattle.wire_http.specs.Unread.{AreDeniedAlike, IsMadeAs, IsMadeFor}
 
@@ -138,42 +140,46 @@ by_scope a now caller kind (DeleteSub id version) d e = unless_permitted caller 
 form_first : (caller : Caller) (kind : OpKind) → is_permitted kind caller.scopes ≡ true → first_rule (empty_at 0) 0 (call (Some caller) (Malformed kind)) ≡ Some Form
 form_first caller kind h = rw h refl
 
-denied_by_scope : (caller : Caller) (kind : OpKind) (rule : Rule) (b : Bool) → is_permitted kind caller.scopes ≡ b → rule ≢ Form
-    → first_rule (empty_at 0) 0 (call (Some caller) (Malformed kind)) ≡ Some rule → is_permitted kind caller.scopes ≡ false
-denied_by_scope caller kind rule true e other first =
+denied_by_scope : (caller : Caller) (kind : OpKind) (broken : Rule) (b : Bool) → is_permitted kind caller.scopes ≡ b → broken ≢ Form
+    → first_rule (empty_at 0) 0 (call (Some caller) (Malformed kind)) ≡ Some broken → is_permitted kind caller.scopes ≡ false
+denied_by_scope caller kind broken true e other first =
     absurd (other (let one : first_rule (empty_at 0) 0 (call (Some caller) (Malformed kind)) ≡ Some Form = form_first caller kind e in let two = first in cc))
-denied_by_scope caller kind rule false e other first = e
+denied_by_scope caller kind broken false e other first = e
 
 -- If a malformed operation breaks another rule than P5 first, each operation of its kind is denied
 -- alike.
-pub denied_alike : (caller : Option Caller) (kind : OpKind) (op : Operation) (rule : Rule) → rule ≢ Form
-    → ((a : Airspace) (now : ℕ) → Some rule ≡ first_rule a now (call caller (Malformed kind))) → kind_of op ≡ Some kind
+pub denied_alike : (caller : Option Caller) (kind : OpKind) (op : Operation) (broken : Rule) → broken ≢ Form
+    → ((a : Airspace) (now : ℕ) → Some broken ≡ first_rule a now (call caller (Malformed kind))) → kind_of op ≡ Some kind
     → AreDeniedAlike (call caller (Malformed kind)) (call caller op)
-denied_alike None kind op rule other first is = record {
+denied_alike None kind op broken other first is = record {
   rule = Token;
   made_breaks = λ a now. refl;
   call_breaks = λ a now. by_token a now kind op is;
 }
-denied_alike (Some caller) kind op rule other first is =
-    let denied : is_permitted kind caller.scopes ≡ false = denied_by_scope caller kind rule (is_permitted kind caller.scopes) refl other (sym (first (empty_at 0) 0)) in
+denied_alike (Some caller) kind op broken other first is =
+    let denied : is_permitted kind caller.scopes ≡ false = denied_by_scope caller kind broken (is_permitted kind caller.scopes) refl other (sym (first (empty_at 0) 0)) in
     record {
       rule = Scope;
       made_breaks = λ a now. by_scope a now caller kind (Malformed kind) denied refl;
       call_breaks = λ a now. by_scope a now caller kind op denied is;
     }
 
-pub made_unread : KeepsKind → (caller : Option Caller) (kind : OpKind) (words : Words) (bytes : List ℕ) (rule : Rule) → rule ≢ Form
-    → ((a : Airspace) (now : ℕ) → Some rule ≡ first_rule a now (call caller (Malformed kind))) → IsMadeAs caller kind words bytes (call caller (Malformed kind))
-made_unread keeps caller kind words bytes rule other first =
+pub made_unread : KeepsKind → (caller : Option Caller) (kind : OpKind) (words : Words) (bytes : List ℕ) (broken : Rule) → broken ≢ Form
+    → ((a : Airspace) (now : ℕ) → Some broken ≡ first_rule a now (call caller (Malformed kind))) → IsMadeAs caller kind words bytes (call caller (Malformed kind))
+made_unread keeps caller kind words bytes broken other first =
     let any = op_any keeps kind words bytes in
-    (any.0, any.1, record { caller = refl; same = inr (denied_alike caller kind any.0 rule other first any.2) })
-
-pub made_read : (caller : Option Caller) (kind : OpKind) (words : Words) (bytes : List ℕ) (op : Operation) → IsReadAs kind words bytes op
-    → IsMadeAs caller kind words bytes (call caller op)
-made_read caller kind words bytes op is = (op, is, record { caller = refl; same = inl refl })
+    (any.0, any.1, record { caller = refl; same = inr (denied_alike caller kind any.0 broken other first any.2) })
 
 pub made_same : (made : Call) → IsMadeFor made made
 made_same made = record { caller = refl; same = inl refl }
+
+-- An endpoint that does not allow the method.
+pub asked_without_method : (path method body : List ℕ) (endpoint : Endpoint) (words : Words) (caller : Option Caller) → IsRoute path endpoint words
+    → kind_at endpoint method ≡ None
+    → (op : Operation) × IsAsked path method body (Some endpoint) op × IsMadeFor (call caller NoMethod) (call caller op)
+asked_without_method path method body endpoint words caller route none =
+    let asked : IsAskedAs (kind_at endpoint method) words body NoMethod = subst (λ (kind : Option OpKind). IsAskedAs kind words body NoMethod) (sym none) refl in
+    (NoMethod, (words, route, asked), made_same (call caller NoMethod))
 
 -- ---- the reply to one call is that to the other
 
@@ -181,13 +187,13 @@ module _ {S : Type 0} (g : Ghosts S) (old new : Service S) (moment : ℕ) where
   reply_alike : (made other : Call) (reply : Reply) → AreDeniedAlike made other → IsReplyTo g old new moment made reply → IsReplyTo g old new moment other reply
   reply_alike made other reply alike x =
       let told : is_shut old ≡ false → (a : Airspace) (now : ℕ) → (reply ≡ Denied alike.rule nothing_missing) × (new ≡ old) =
-          λ n a now. subst (λ (e : Option Rule). IfSome e (λ rule. (reply ≡ Denied rule nothing_missing) × (new ≡ old))) (alike.made_breaks a now) (x.early n a now) in
+      λ n a now. subst (λ (e : Option Rule). IfSome e (λ rule. (reply ≡ Denied rule nothing_missing) × (new ≡ old))) (alike.made_breaks a now) (x.early n a now) in
       record {
         stays = x.stays;
         shut = x.shut;
         shuts = x.shuts;
         early = λ n a now. subst (λ (e : Option Rule). IfSome e (λ rule. (reply ≡ Denied rule nothing_missing) × (new ≡ old))) (sym (alike.call_breaks a now)) (told n a now);
-        broken = λ n b a now none. absurd (subst (λ (e : Option Rule). IsNone e) (alike.call_breaks a now) none);
+        broken = λ n b a now none. let bad : true ≡ false = subst (λ (e : Option Rule). IsNone e) (alike.call_breaks a now) none in cc;
         answers = λ n.
             let is = told n (empty_at 0) 0 in
             subst (λ (s : Service S). Answers g (salt_of old) moment other (space_of old) (space_of s) reply) (sym is.1)

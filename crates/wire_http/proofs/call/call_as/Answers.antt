@@ -1,7 +1,7 @@
 use Rattle.std.proofs.Common.{◌∙◌, Some, ap, sym}
 use Rattle.policy_core.specs.declared.rule.Rule.TheVariants.{Token, Scope}
 use Rattle.wire_body.specs.Body.{words_of}
-use Rattle.wire_http.proofs.Unread.{made_read, made_unread}
+use Rattle.wire_http.proofs.Unread.{made_unread}
 use Rattle.wire_http.proofs.call.call_as.Goals as goal
 
 pub returns-in-Some-Token : goal.returns-in-Some-Token

@@ -1,4 +1,5 @@
 use Rattle.std.proofs.Common.{◌∙◌, ap, subst}
+use Rattle.httparse.specs.Spans.{span_bytes}
 use Rattle.token_conf.specs.TokenFile.{callers_of}
 use Rattle.wire_head.specs.Target.{path_of}
 use Rattle.wire_http.specs.RequestInfo.{IsEntityNamed, requested_kind}
@@ -21,5 +22,8 @@ returns-clause-kind c = c.in_ok-endpoint.ensures.kind ∙ ap (λ v. requested_ki
 
 pub returns-clause-entity : goal.returns-clause-entity
 returns-clause-entity c =
-    subst (λ v. IsEntityNamed v _ c.in_ok-endpoint.field-0.endpoint c.in_ok-endpoint.field-0.entity) (c.path_of-path.ensures ∙ ap path_of (c.in-Ok.ensures.cases.0 ∙ c.of.ensures))
-    (subst (λ v. IsEntityNamed c.path_of-path.result.now v c.in_ok-endpoint.field-0.endpoint c.in_ok-endpoint.field-0.entity) c.of-2.ensures c.in_ok-endpoint.ensures.entity)
+    let endpoint = c.in_ok-endpoint.field-0.endpoint in
+    let entity = c.in_ok-endpoint.field-0.entity in
+    let method = span_bytes c.args.received.buffer.now c.args.received.spans.method in
+    subst (λ v. IsEntityNamed v method endpoint entity) (c.path_of-path.ensures ∙ ap path_of (c.in-Ok.ensures.cases.0 ∙ c.of.ensures))
+    (subst (λ v. IsEntityNamed c.path_of-path.result.now v endpoint entity) c.of-2.ensures c.in_ok-endpoint.ensures.entity)

@@ -53,7 +53,7 @@ returns-in-Err-reply_behind-clause-part g c =
     )
 
 pub returns-clause-noted : goal.returns-clause-noted
-unfolding replies_unsent, replies_for
+unfolding replies_unsent replies_for
 returns-clause-noted g c =
     let self = c.args.self.now in
     let next = Request c.args.spans c.args.size in
