@@ -1,7 +1,7 @@
 //! The backups that the service requests.
 use admin_backup::folder::BackupDir;
 use admin_http::backup::BackupResult;
-use dss_server::backups::{MakeBackups, Progress};
+use server_base::backups::{MakeBackups, Progress};
 
 /// The maker of backups in a directory.
 #[derive(Drop)]

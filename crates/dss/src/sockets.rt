@@ -1,10 +1,10 @@
 //! The sockets of the system, watched together.
 use crate::backups::PortBackups;
 use crate::causes::Causes;
-use dss_server::sockets::{AcceptFault, EventSource, Socket, SocketEvent, Sockets};
 use mio::event::Event;
 use mio::net::{TcpListener, TcpStream};
 use mio::{Events, Interest, Poll, Token};
+use server_base::sockets::{AcceptFault, EventSource, Socket, SocketEvent, Sockets};
 use std::io;
 use std::io::{ErrorKind, Read, Write};
 use std::net::{Ipv4Addr, Shutdown, SocketAddr, SocketAddrV4};

@@ -1,7 +1,7 @@
 //! The token file of a command.
 use dss_command::fault::{Fault, io_fault};
 use dss_command::tokens::table_of;
-use dss_server::token_watch::TokenSource;
+use server_watch::token_watch::TokenSource;
 use std::{fs, io};
 use token_conf::token_table::TokenTable;
 

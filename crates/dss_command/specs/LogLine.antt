@@ -12,7 +12,7 @@ use Rattle.wire_http.specs.declared.request_info.RequestInfo.{RequestInfo}
 use Rattle.wire_http.specs.declared.request_info.Outcome.{Outcome}
 use Rattle.wire_http.specs.declared.request_info.Outcome.TheVariants as outcomes
 use Rattle.admin_http.specs.Operation.{operation_word}
-use Rattle.dss_server.specs.declared.server_log.LoggedRequest.{LoggedRequest}
+use Rattle.server_base.specs.declared.server_log.LoggedRequest.{LoggedRequest}
 
 -- The time in UTC (RFC 3339) with milliseconds; `-` if it is unknown.
 abbrev pub IsMoment : Option Timestamp → List ℕ → Type 0

@@ -1,7 +1,7 @@
 -- The lines that report the state of the store.
 use Rattle.std.specs.Prelude.{ℕ, List, ◌++◌, codes, decimal}
-use Rattle.dss_server.specs.declared.server_log.StoreEvent.{StoreEvent}
-use Rattle.dss_server.specs.declared.server_log.StoreEvent.TheVariants as news
+use Rattle.server_base.specs.declared.server_log.StoreEvent.{StoreEvent}
+use Rattle.server_base.specs.declared.server_log.StoreEvent.TheVariants as news
 
 abbrev pub store_line : StoreEvent → List ℕ
 store_line news.CommitFailed =

@@ -6,8 +6,8 @@ use Rattle.token_conf.specs.declared.conf_fault.ConfFault.TheVariants as conf
 use Rattle.token_conf.specs.declared.token_table.TokenTable.{TokenTable}
 use Rattle.token_check.specs.TokenFileError.{fault_of}
 use Rattle.token_check.specs.declared.token_file_error.TokenFileError.{TokenFileError}
-use Rattle.dss_server.specs.declared.token_watch.TokenReloadFault.{TokenReloadFault}
-use Rattle.dss_server.specs.declared.token_watch.TokenReloadFault.TheVariants as refusal
+use Rattle.server_base.specs.declared.server_log.TokenReloadFault.{TokenReloadFault}
+use Rattle.server_base.specs.declared.server_log.TokenReloadFault.TheVariants as refusal
 use Rattle.dss_command.specs.Fault.{line_of}
 use Rattle.dss_command.specs.declared.fault.Fault.{Fault}
 use Rattle.dss_command.specs.declared.fault.Fault.TheVariants as fault

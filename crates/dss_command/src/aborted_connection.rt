@@ -1,6 +1,6 @@
 //! The line that describes an aborted connection, next to that of its fault.
-use dss_server::phase::Phase;
-use dss_server::server_log::AbortedConnection;
+use server_base::phase::Phase;
+use server_base::server_log::AbortedConnection;
 use std::io;
 use std::io::Write;
 

@@ -4,11 +4,11 @@ ghost use Rattle.std.specs.String.{string_bytes};
 ghost use Rattle.dss_command.specs.LogLine.{IsLogLine, IsMoment, entity_text, how, log_line, microseconds_text, rule_text, uss_text, what, who};
 
 use admin_http::operation::operation_name;
-use dss_server::server_log::LoggedRequest;
 use entity_core::entity_id::EntityId;
 use entity_core::uss_id::UssId;
 use jiff_core::Timestamp;
 use jiff_fmt::temporal::DateTimePrinter;
+use server_base::server_log::LoggedRequest;
 use std::alloc::{AllocError, Global};
 use std::time::Duration;
 use wire_http::Outcome;

@@ -1,7 +1,7 @@
 //! The access log: a line for each request, written at the end of its batch.
 use crate::log_line::log_line;
-use dss_server::server_log::LoggedRequest;
 use jiff_core::Timestamp;
+use server_base::server_log::LoggedRequest;
 use std::alloc::{AllocError, Global};
 use std::io;
 use std::time::Duration;

@@ -3,7 +3,7 @@ ghost use Rattle.std.specs.Prelude.{OnOk};
 ghost use Rattle.std.specs.Io.KnownBytes.{Appends};
 ghost use Rattle.dss_command.specs.StoreLines.{store_line};
 
-use dss_server::server_log::StoreEvent;
+use server_base::server_log::StoreEvent;
 use std::io;
 use std::io::Write;
 

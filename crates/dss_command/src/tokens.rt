@@ -6,8 +6,8 @@ ghost use Rattle.dss_command.specs.Tokens.{Passes, Tables, refusal_line};
 ghost use Rattle.dss_command.specs.declared.fault.Fault.TheVariants.{Memory};
 
 use crate::fault::{Fault, print_fault};
-use dss_server::token_watch::TokenReloadFault;
 use entity_core::salt::Salt;
+use server_watch::token_watch::TokenReloadFault;
 use std::alloc::Global;
 use std::io;
 use std::io::Write;

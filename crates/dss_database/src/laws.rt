@@ -1,7 +1,7 @@
 //! A law of the commands over a database. No program calls it: its contract is the statement.
 ghost use Rattle.dss_database.specs.Served.{NextStartFinds};
 
-use dss_server::token_watch::TokenSource;
+use server_watch::token_watch::TokenSource;
 use service_recovery::laws::closed_run_in_batches_continues;
 use space_core::space::Space;
 use space_mirror::mirrored::Mirrored;

@@ -1,3 +1,1 @@
-mod Queues
-mod Salts
 pub mod Serving

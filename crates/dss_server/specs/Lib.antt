@@ -1,5 +1,1 @@
-pub mod ClientIo
-pub mod FairQueue
 pub mod Serve
-pub mod StoreWatch
-pub mod Tokens

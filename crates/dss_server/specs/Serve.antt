@@ -1,22 +1,17 @@
 -- What is known of all requests of many clients.
-use Rattle.std.specs.Prelude.{◌≡◌, ◌-◌, ◌⊎◌, ℕ, List, [], ◌∷◌, ◌++◌, All, map, Option, Some, None}
+use Rattle.std.specs.Prelude.{◌≡◌, ◌-◌, ℕ, List, [], ◌∷◌, ◌++◌, All, map, Option, Some, None}
 use Rattle.std.specs.List.{flat_map}
 use Rattle.space_core.specs.declared.group_commit.GroupCommit as settles
 use Rattle.space_core.specs.declared.space.Space as spaces
 use Rattle.service_calls.specs.declared.service.Service.{Service}
-use Rattle.service_calls.specs.Batches.{CallRecord, CalledInOrder, MadeBatches, Batch, all_timed}
+use Rattle.service_calls.specs.Batches.{MadeBatches, Batch, all_timed}
 use Rattle.service_calls.specs.Run.{TimedCall}
-use Rattle.service_calls.specs.Purged.{MadeSegments, Segment, PurgesOnce}
+use Rattle.service_calls.specs.Purged.{MadeSegments, Segment}
 use Rattle.token_conf.specs.TokenFile.{Callers, TokenFile, callers_of}
-use Rattle.wire_http.specs.Asked.{IsCallOf}
-use Rattle.wire_http.specs.Count.{one_more}
 use Rattle.wire_http.specs.Wire.{RequestCall, timed}
 use Rattle.wire_http.specs.declared.moments.Moments as moments
-use Rattle.dss_server.specs.Tokens.{IsTakenAfter}
-
--- Holds if some request makes this call, and bears the token of its caller.
-abbrev pub IsAskedBy : Callers → RequestCall → Type 0
-IsAskedBy callers asked = (body : List ℕ) × IsCallOf callers asked.head body asked.endpoint asked.call
+use Rattle.server_base.specs.Calls.{AreAmong, ClockReadings, GoesOn, IsAskedBy, moments_of}
+use Rattle.server_watch.specs.Tokens.{IsTakenAfter}
 
 -- Holds if the calls were made under these tables, loaded one after the other: first calls of the
 -- callers of the first table, then calls of the callers of the second, and so on.
@@ -25,24 +20,6 @@ AskedUnder [] all = all ≡ []
 AskedUnder (table ∷ tables) all =
     (under : List RequestCall) × (after : List RequestCall) × (all ≡ under ++ after)
     × All (IsAskedBy (callers_of table)) under × AskedUnder tables after
-
--- The results of a clock, in order: a time, or a failure.
-abbrev pub ClockReadings : {M : Type 0} → moments.Ghosts M → List (Option ℕ) → M → M → Type 0
-ClockReadings m [] clock clock' = clock' ≡ clock
-ClockReadings {M} m (Some moment ∷ told) clock clock' =
-    (mid : M) × m.gives clock moment mid × ClockReadings m told mid clock'
-ClockReadings {M} m (None ∷ told) clock clock' =
-    (mid : M) × (m.failures mid ≡ one_more (m.failures clock)) × ClockReadings m told mid clock'
-
--- Holds if these times are among the results of the clock, in that order.
-abbrev pub AreAmong : List ℕ → List (Option ℕ) → Type 0
-AreAmong [] told = Unit {0}
-AreAmong (moment ∷ more) told = (before : List (Option ℕ)) × (after : List (Option ℕ))
-    × (told ≡ before ++ Some moment ∷ after) × AreAmong more after
-
--- The times of calls.
-abbrev pub moments_of : List RequestCall → List ℕ
-moments_of all = map (λ asked. asked.moment) all
 
 module _ {S M : Type 0} (g : spaces.Ghosts S) (k : settles.Ghosts S) (m : moments.Ghosts M)
     (callers : Callers) where
@@ -59,38 +36,10 @@ module _ {S M : Type 0} (g : spaces.Ghosts S) (k : settles.Ghosts S) (m : moment
     pub clock_told : ClockReadings m told clock clock'
     pub moments : AreAmong (moments_of all) told
 
-  -- States that the service executed calls of requests in a batch that has not ended yet.
-  pub record GoesOn (old new : Service S) (clock clock' : M) : Type 0 where
-    pub all : List RequestCall
-    pub batch : List CallRecord
-    pub told : List (Option ℕ)
-    pub requests : All (IsAskedBy callers) all
-    pub calls : map (λ made. made.timed) batch ≡ map timed all
-    pub made : CalledInOrder g k old batch new
-    pub clock_told : ClockReadings m told clock clock'
-    pub moments : AreAmong (moments_of all) told
-
   -- Holds if calls were made in batches that have ended, and in one that has not.
   abbrev pub ServesSoFar : Service S → Service S → M → M → Type 0
   ServesSoFar old new clock clock' = (mid : Service S) × (between : M)
       × ServesBy old mid clock between × GoesOn mid new between clock'
-
-module _ {S M : Type 0} (g : spaces.Ghosts S) (k : settles.Ghosts S) (m : moments.Ghosts M) where
-  -- Holds if nothing was purged, whatever the clock returned.
-  abbrev pub PurgesNothing : Service S → Service S → M → M → Type 0
-  PurgesNothing old new clock clock' =
-      (new ≡ old) × (told : List (Option ℕ)) × ClockReadings m told clock clock'
-
-  -- Holds if one chunk was purged, up to a time that the clock returned less the retention in
-  -- seconds. Without a retention it never holds.
-  abbrev pub PurgesChunk : (keep : Option ℕ) → Service S → Service S → M → M → Type 0
-  PurgesChunk None old new clock clock' = ⊥
-  PurgesChunk (Some keep) old new clock clock' =
-      (moment : ℕ) × m.gives clock moment clock' × PurgesOnce g k (moment - keep) old new
-
-  abbrev pub MayPurge : (keep : Option ℕ) → Service S → Service S → M → M → Type 0
-  MayPurge keep old new clock clock' =
-      PurgesNothing old new clock clock' ⊎ PurgesChunk keep old new clock clock'
 
 -- The calls of the batches between purges, and of those after the last purge.
 abbrev pub all_timed_in : List Segment → List Batch → List TimedCall

@@ -1,5 +1,5 @@
 //! The clients whose responses are deferred until the batch ends.
-use crate::limits::{DEFERRED_BYTES, MAX_DEFERRED};
+use server_base::limits::{DEFERRED_BYTES, MAX_DEFERRED};
 use std::alloc::{AllocError, Global};
 use std::collections::VecDeque;
 

@@ -3,26 +3,30 @@ ghost use Rattle.std.specs.Prelude.{◌≡◌, ◌⊎◌, IsSome, IsTrue, Result
 ghost use Rattle.token_conf.specs.TokenFile.{callers_of};
 ghost use Rattle.service_calls.specs.Batches.{IsCommitted};
 ghost use Rattle.space_core.specs.declared.space.SpaceFault.{SpaceFault};
-ghost use Rattle.dss_server.specs.Serve.{GoesOn, MayPurge, ServesBy, ServesSoFar};
+ghost use Rattle.dss_server.specs.Serve.{ServesBy, ServesSoFar};
+ghost use Rattle.server_base.specs.Calls.{GoesOn};
+ghost use Rattle.server_watch.specs.Purger.{MayPurge};
 
-use crate::admin_connection::AdminContext;
-use crate::admin_connections::AdminConnections;
-use crate::client_connection::{ClientConnection, TurnOutcome};
 use crate::deferred_clients::DeferredClients;
-use crate::fair_queue::{ClassMember, FairQueue, is_round_over, nanos_between};
-use crate::limits::{FULL, LARGE_BUFFERS, LOOKS, LOOKS_SOON, Limits, MAX_CONNECTIONS, STOPPING};
-use crate::purger::Purger;
-use crate::request_context::RequestContext;
 use crate::response_record::{failure_of, record_response};
-use crate::server_log::ServerLog;
-use crate::sockets::{AcceptFault, EventSource, SocketEvent, Sockets};
-use crate::store_watch::{
-    CommitOutcome, StoreWatch, outcome_of_batch, outcome_of_change, outcome_of_purge,
-};
 use admin_http::build::BuildInfo;
 use admin_http::service_metrics::ServiceMetrics;
 use admin_http::store_metrics::StoreMetrics;
 use admin_http::tokens::TokenMetrics;
+use server_admin::admin_connections::AdminConnections;
+use server_admin::admin_context::AdminContext;
+use server_base::limits::{
+    FULL, LARGE_BUFFERS, LOOKS, LOOKS_SOON, Limits, MAX_CONNECTIONS, STOPPING,
+};
+use server_base::server_log::ServerLog;
+use server_base::sockets::{AcceptFault, EventSource, SocketEvent, Sockets};
+use server_client::client_connection::{ClientConnection, TurnOutcome};
+use server_client::fair_queue::{ClassMember, FairQueue, is_round_over, nanos_between};
+use server_client::request_context::RequestContext;
+use server_watch::purger::Purger;
+use server_watch::store_watch::{
+    CommitOutcome, StoreWatch, outcome_of_batch, outcome_of_change, outcome_of_purge,
+};
 use service_calls::service::Service;
 use slab::Slab;
 use space_core::group_commit::GroupCommit;

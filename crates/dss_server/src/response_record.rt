@@ -1,10 +1,10 @@
 //! How responses and aborted connections are counted and logged.
-use crate::client_connection::ClientConnection;
-use crate::server_log::{LoggedRequest, ServerLog};
-use crate::sockets::Socket;
 use admin_http::connections::ConnectionFailure;
 use admin_http::requests::ResponseRecord;
 use admin_http::service_metrics::ServiceMetrics;
+use server_base::server_log::{LoggedRequest, ServerLog};
+use server_base::sockets::Socket;
+use server_client::client_connection::ClientConnection;
 use std::time::Duration;
 use wire_http::StreamFault;
 

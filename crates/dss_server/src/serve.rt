@@ -3,12 +3,12 @@ ghost use Rattle.std.specs.Prelude.{◌≡◌, ◌⊎◌, OnOk, IsSome, unwrap_o
 ghost use Rattle.dss_server.specs.Serve.{ServesAll};
 
 use crate::event_loop::EventLoop;
-use crate::limits::Limits;
-use crate::request_context::RequestContext;
-use crate::server_log::ServerLog;
-use crate::sockets::Sockets;
-use crate::token_watch::{TokenSource, TokenWatch};
 use admin_http::build::BuildInfo;
+use server_base::limits::Limits;
+use server_base::server_log::ServerLog;
+use server_base::sockets::Sockets;
+use server_client::request_context::RequestContext;
+use server_watch::token_watch::{TokenSource, TokenWatch};
 use service_calls::service::Service;
 use space_core::purge_ended::PurgeEnded;
 use space_snapshot::snapshot::SnapshotSource;

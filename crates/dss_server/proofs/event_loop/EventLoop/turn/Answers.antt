@@ -1,5 +1,5 @@
 use Rattle.token_conf.specs.TokenFile.{callers_of}
-use Rattle.dss_server.proofs.Serving.{goes_still}
+use Rattle.server_base.proofs.Calls.{goes_still}
 use Rattle.dss_server.proofs.event_loop.EventLoop.turn.Goals as goal
 
 pub returns-in_default : goal.returns-in_default

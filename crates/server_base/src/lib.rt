@@ -1,0 +1,9 @@
+//! What the parts of `serve` share: limits, sockets, logs, and the calls of a batch.
+#![tactic(auto)]
+
+pub mod backups;
+pub mod limits;
+pub mod phase;
+pub mod response_info;
+pub mod server_log;
+pub mod sockets;

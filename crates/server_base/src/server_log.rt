@@ -1,0 +1,79 @@
+//! The log of requests, and of faults of clients, of the token file and of the store.
+use crate::phase::Phase;
+use std::net::SocketAddrV4;
+use std::time::Duration;
+use token_conf::conf_fault::ConfFault;
+use wire_http::{RequestInfo, StreamFault};
+
+/// The reason why a changed token file was not loaded.
+#[derive(Clone, Copy, Debug, PartialEq, Eq)]
+pub enum TokenReloadFault {
+    /// It does not open, fails to read or is not UTF-8.
+    Unread,
+    /// It is invalid, or memory ran out for it.
+    Wrong(ConfFault),
+    /// It has another salt than the one with which the service started.
+    OtherSalt,
+}
+
+/// A change of the store's state.
+#[derive(Clone, Copy, Debug, PartialEq, Eq)]
+pub enum StoreEvent {
+    /// A commit failed, for the first time since the last successful commit.
+    CommitFailed,
+    /// So many more commits failed since the last report.
+    StillFailing(u64),
+    /// A commit succeeded after so many failures.
+    Recovered(u64),
+    /// The store failed for good, so that no call is answered any more.
+    Stopped,
+}
+
+/// An answered request, as the log prints it.
+#[derive(Clone, Copy, Debug)]
+pub struct LoggedRequest<'a> {
+    /// The number of its connection. Connections count up from 1 since the start.
+    pub connection: u64,
+    /// The request that was answered.
+    pub noted: &'a RequestInfo,
+    /// The status of the response.
+    pub status: u16,
+    /// The size of the response in bytes.
+    pub size: usize,
+    /// The time from the complete request until the response may be sent, if the clock returned it.
+    pub took: Option<Duration>,
+}
+
+/// A connection that was aborted.
+#[derive(Clone, Copy, Debug)]
+pub struct AbortedConnection {
+    /// The address and port of its client, if the system returned them.
+    pub client: Option<SocketAddrV4>,
+    /// Its number. Connections count up from 1 since the start.
+    pub connection: u64,
+    /// The phase in which it was aborted.
+    pub phase: Phase,
+}
+
+/// A log of requests, and of faults of clients, of a changed token file and of the store.
+///
+/// No such fault ends the service.
+pub trait ServerLog {
+    /// Logs a connection that was aborted for that reason.
+    fn connection_failed(&mut self, fault: StreamFault, given_up: AbortedConnection);
+
+    /// Logs a changed token file that was rejected for that reason. The tokens before it stay
+    /// active.
+    fn tokens_rejected(&mut self, fault: TokenReloadFault);
+
+    /// Logs a change of the store's state. The default logs nothing.
+    fn store_event(&mut self, _news: StoreEvent) {}
+
+    /// Logs an answered request. The default logs nothing.
+    fn request_answered(&mut self, _request: &LoggedRequest<'_>) {}
+
+    /// Flushes the lines of an iteration. Returns how many lines were dropped since the start.
+    fn flush(&mut self) -> u64 {
+        0
+    }
+}

@@ -1,0 +1,2 @@
+pub mod ClientIo
+pub mod FairQueue

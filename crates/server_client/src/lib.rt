@@ -1,0 +1,7 @@
+//! One client connection of `serve`, and the order in which requests are answered.
+#![tactic(auto)]
+
+pub mod client_connection;
+mod client_io;
+pub mod fair_queue;
+pub mod request_context;

@@ -1,0 +1,12 @@
+//! The request context, the same for all clients.
+use std::alloc::Global;
+use token_conf::token_table::TokenTable;
+use wire_route::routes::Routes;
+
+/// The routes and tokens from which requests are answered.
+#[derive(Clone, Copy)]
+pub struct RequestContext<'a> {
+    pub alloc: Global,
+    pub routes: &'a Routes,
+    pub tokens: &'a TokenTable,
+}

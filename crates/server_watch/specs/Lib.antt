@@ -1,0 +1,3 @@
+pub mod Purger
+pub mod StoreWatch
+pub mod Tokens
