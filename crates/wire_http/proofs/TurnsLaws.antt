@@ -159,15 +159,15 @@ module _ {S : Type 0} (g : Ghosts S) (callers : Callers) (first : Service S) whe
     turn_of (steps.Answered n) h =
         let next = served_answered g Gives callers old new clock clock' (came who) (asked_for who log) (told_for who log) (sent who) n (conns who) c' (s.each who goes) h in
         put_call old new log came sent conns who next.asked next.reply c' s next.is_reply (λ _. next.served) (λ _. next.deferred_response)
-    turn_of (steps.Ended end) (asked, ticks, stops, wrote, held, left, done, slot) =
+    turn_of (steps.Ended end) (asked, ticks, stops, wrote, held, left, done, slot, ended) =
         put_none old new log came sent conns who c' s asked (λ d. let no : true ≡ false = sym done ∙ d in let none : ⊥ = cc in absurd none)
 
     pub given_up : (fault : StreamFault) → IsStepPart g Gives callers old new clock clock' (conns who) c' fault → AreServedAfter g callers first new log came sent conns who c'
-    given_up fault (some, (ahead, input, inl h), output, held, done, slot) =
+    given_up fault (some, (ahead, input, inl h), output, held, done, slot, left, ended) =
         put_none old new log came sent conns who c' s h.same (λ d. let no : true ≡ false = sym done ∙ d in let none : ⊥ = cc in absurd none)
-    given_up fault (some, (ahead, input, inr (inl h)), output, held, done, slot) =
+    given_up fault (some, (ahead, input, inr (inl h)), output, held, done, slot, left, ended) =
         put_call old new log came sent conns who h.asked h.reply c' s h.took.is_reply (λ d. let no : true ≡ false = sym done ∙ d in let none : ⊥ = cc in absurd none) (λ d. let no : true ≡ false = sym done ∙ d in let none : ⊥ = cc in absurd none)
-    given_up fault (some, (ahead, input, inr (inr h)), output, held, done, slot) =
+    given_up fault (some, (ahead, input, inr (inr h)), output, held, done, slot, left, ended) =
         put_none old new log came sent conns who c' s h.same (λ d. let no : true ≡ false = sym done ∙ d in let none : ⊥ = cc in absurd none)
 
 -- The received and sent bytes of one connection change.

@@ -98,7 +98,7 @@ module _ {S M : Type 0} (g : Ghosts S) (Gives : M → ℕ → M → Type 0) (cal
       → Finishes (left_of c) (buffered_of c ++ later) end)
       × (output_of c' ≡ output_of c ++ concat (end_texts end))
       × (buffered_of c' ≡ buffered_of c) × (left_of c' ≡ left_of c) × (is_done c' ≡ true)
-      × (slot_of c' ≡ slot_of c)
+      × (slot_of c' ≡ slot_of c) × (has_ended c' ≡ has_ended c)
 
   -- Holds if the recorded information is about that request and its reply, or about the protocol
   -- rule that ended the stream.
@@ -119,4 +119,5 @@ module _ {S M : Type 0} (g : Ghosts S) (Gives : M → ℕ → M → Type 0) (cal
       × IsTurnPart g Gives callers (left_of c - 1) old new clock clock' (Some (output_of c))
       (Some (output_of c')) (Some []) (buffered_of c) fault
       × (output_of c' ≡ output_of c) × (buffered_of c' ≡ buffered_of c) × (is_done c' ≡ true)
-      × (slot_of c' ≡ slot_of c)
+      × (slot_of c' ≡ slot_of c) × (left_of c' ≡ left_of c)
+      × (has_ended c' ≡ has_ended c)

@@ -47,6 +47,7 @@ returns-in-Ok-clause-step g c =
       refl,
       refl,
       refl,
+      refl,
     )
 
 pub returns-then-len-self-clause-noted : goal.returns-then-len-self-clause-noted

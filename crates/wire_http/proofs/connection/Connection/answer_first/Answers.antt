@@ -20,6 +20,8 @@ returns-in-Err-clause-part g c =
       refl,
       refl,
       refl,
+      refl,
+      refl,
     )
 
 pub returns-in-Err-clause-clock : goal.returns-in-Err-clause-clock
@@ -38,6 +40,8 @@ returns-in-Err-reply_behind-clause-part g c =
           c.in-Ok.ensures.made c.left_after-left.ensures c.in-Ok.ensures.moment
           (part_unsent g.S.Space _ _ _ _ _ _ self.sent self.answers.items c.reply_behind.new.output.items self.sent_fits c.in-Err-reply_behind.ensures.part),
       ap (λ v. drop self.sent v) c.in-Err-reply_behind.ensures.same,
+      refl,
+      refl,
       refl,
       refl,
       refl,
