@@ -6,6 +6,7 @@ pub mod airspace;
 pub mod answer;
 pub mod backup;
 pub mod build;
+pub mod clock;
 pub mod connections;
 mod durations;
 mod exposition;

@@ -16,6 +16,7 @@ pub(crate) fn metrics(
     figures.faults.put(&mut text)?;
     figures.kept.put(&mut text)?;
     figures.purged.put(&mut text)?;
+    figures.clock.put(&mut text)?;
     figures.tokens.put(&mut text, build.started)?;
     build.put(&mut text)?;
     Ok(text.into_text())

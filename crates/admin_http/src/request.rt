@@ -77,7 +77,7 @@ fn said_by_head<'a>(
 pub fn parse_admin_request<'a>(hosts: &OwnHosts, bytes: &'a [u8]) -> RequestParse<'a>
     ensures { HasAllowedHead hosts.now bytes.now result }
 {
-    let front = &bytes[..bytes.len().min(HEAD_LIMIT)];
+    let front = &bytes[..HEAD_LIMIT.min(bytes.len())];
     let mut fields = [EMPTY_HEADER_SPAN; 64];
     match head_so_far(front, &mut fields) {
         PartialHead::Head(spans) => said_by_head(hosts, bytes, front, &fields, spans),

@@ -1,9 +1,10 @@
 //! The metrics and the health of a service.
 ghost use Rattle.std.specs.Prelude.{◌≡◌};
-ghost use Rattle.admin_http.specs.ServiceMetrics.{health_of, when_broken, when_failing, when_kept};
+ghost use Rattle.admin_http.specs.ServiceMetrics.{health_of, shown_health, when_broken, when_failing, when_kept};
 ghost use Rattle.admin_http.specs.declared.admin_route.Health.TheVariants as health;
 
 use crate::admin_route::Health;
+use crate::clock::ClockMetrics;
 use crate::connections::{ConnectionFailure, ConnectionMetrics};
 use crate::faults::FailureMetrics;
 use crate::purged::PurgeMetrics;
@@ -33,6 +34,8 @@ pub struct ServiceMetrics {
     pub kept: StoreMetrics,
     /// The metrics of purges.
     pub purged: PurgeMetrics,
+    /// The metrics of the clock.
+    pub clock: ClockMetrics,
     /// The metrics of the token file.
     pub tokens: TokenMetrics,
     pub(crate) health: Health,
@@ -49,8 +52,20 @@ impl ServiceMetrics {
             faults: FailureMetrics::new(),
             kept: StoreMetrics::unknown(),
             purged: PurgeMetrics::new(),
+            clock: ClockMetrics::new(),
             tokens: TokenMetrics::new(),
             health: Health::Serving,
+        }
+    }
+
+    /// Returns the health as operators see it: a service that answers calls is degraded while
+    /// purges are held.
+    pub fn shown_health(&self) -> Health
+        ensures { result ≡ shown_health self.now }
+    {
+        match self.health {
+            Health::Serving if self.clock.is_held => Health::Degraded,
+            health => health,
         }
     }
 
@@ -91,7 +106,7 @@ impl ServiceMetrics {
         ensures { health_of self.new ≡ when_broken (health_of self.old) }
     {
         match self.health {
-            Health::Serving | Health::Failing => {
+            Health::Serving | Health::Degraded | Health::Failing => {
                 self.faults.note_store();
                 self.health = Health::Stopped;
             }

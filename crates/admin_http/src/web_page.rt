@@ -70,7 +70,9 @@ fn comes_from_page(name: &[u8], value: &[u8]) -> bool
     ensures { result ≡ comes_from_page (name.now, value.now) }
 {
     is_named(name, b"origin")
-        || (is_named(name, b"sec-fetch-site") && value != "none".as_bytes() && value != "same-origin".as_bytes())
+        || (is_named(name, b"sec-fetch-site")
+            && value != "none".as_bytes()
+            && value != "same-origin".as_bytes())
 }
 
 // Returns true if a field is `X-Dss-Admin: 1`.

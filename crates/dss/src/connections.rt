@@ -4,13 +4,14 @@ use crate::causes::Causes;
 use crate::clock::SystemClock;
 use crate::log_file::SystemLog;
 use crate::sockets::PortSockets;
-use crate::tokens::TokenFile;
+use crate::tokens::{TokenFile, served_token_text};
 use admin_backup::folder::BackupDir;
 use dss_args::serve_args::ServeArgs;
 use dss_command::backup_fault::BackupFault;
 use dss_command::clients::{AdminListener, Listen, ServeConfig};
 use dss_command::fault::{Fault, io_fault};
 use dss_command::limits::print_limits;
+use dss_command::moment::seconds_of;
 use dss_command::token_files::print_token_check;
 use dss_command::tokens::{salt_of, table_of};
 use dss_database::files::{self, close_database, open_database};
@@ -96,6 +97,25 @@ fn backups_of<'a>(
     }
 }
 
+// Returns the time of the last change of a file in Unix seconds, if the system returns one.
+fn change_of(rt: &HostRuntime, name: &str) -> Option<u64> {
+    let Ok(found) = fs::metadata(rt, name) else {
+        return None;
+    };
+    let Ok(changed) = found.modified() else {
+        return None;
+    };
+    seconds_of(changed)
+}
+
+// Returns the time of the last change of a database or its log.
+fn last_change(rt: &HostRuntime, database: &str) -> Option<u64> {
+    let Ok(log) = format!(in rt.alloc(); "{database}-wal") else {
+        return None;
+    };
+    change_of(rt, database).max(change_of(rt, log.as_str()))
+}
+
 // Returns the text of the token file, and its table. With `--verbose`, first prints the errors and
 // warnings of the file, and then the limits. A failed print is ignored.
 fn tokens_of<E: Write>(
@@ -104,7 +124,7 @@ fn tokens_of<E: Write>(
     causes: Causes<'_>,
     error: &mut E,
 ) -> Result<(String, TokenTable), Fault> {
-    let text = match fs::read_to_string(rt, given.tokens) {
+    let text = match served_token_text(rt, given.tokens) {
         Ok(text) => text,
         Err(cause) => {
             causes.print_cause(given.tokens, &cause);
@@ -150,6 +170,7 @@ pub(crate) fn serve<F: Start, E: Write>(
     let (text, tokens) = tokens_of(rt, given, causes, error)?;
     let salt = salt_of(&tokens)?;
     let log = log_of(rt, given, causes)?;
+    let changed = last_change(rt, given.database);
     let (space, listed) = match open_database(rt, given.database, start) {
         Ok(taken) => taken,
         Err(fault) => {
@@ -170,6 +191,7 @@ pub(crate) fn serve<F: Start, E: Write>(
         port: given.port,
         limits: limits_of(given),
         keep: given.retention,
+        changed,
         operated: operated(rt, given),
         verbose: given.verbose,
     };

@@ -11,6 +11,7 @@ mod log_file;
 mod loopback;
 mod program;
 mod purge;
+mod regular;
 mod run;
 mod sockets;
 mod tokens;

@@ -8,6 +8,7 @@ ghost use Rattle.dss_command.specs.Fault.{EndsServing, TellsClient};
 ghost use Rattle.dss_command.specs.Service.{ServesClients};
 
 use crate::aborted_connection::print_aborted;
+use crate::clock_lines::{print_clock_event, print_removed};
 use crate::fault::{Fault, io_fault, print_fault};
 use crate::request_log::{LogFile, RequestLog};
 use crate::store_lines::print_store_event;
@@ -18,7 +19,9 @@ use dss_args::version::{KIT, VERSION};
 use dss_server::serve::serve_clients;
 use entity_core::salt::Salt;
 use server_base::limits::Limits;
-use server_base::server_log::{AbortedConnection, LoggedRequest, ServerLog, StoreEvent};
+use server_base::server_log::{
+    AbortedConnection, ClockEvent, LoggedRequest, ServerLog, StoreEvent,
+};
 use server_base::sockets::Sockets;
 use server_watch::token_watch::{TokenReloadFault, TokenSource, TokenWatch};
 use service_calls::service::Service;
@@ -56,8 +59,9 @@ pub fn print_client_fault<E: Write>(fault: StreamFault, error: &mut E) -> io::Re
     print_fault(&Fault::from(fault), error)
 }
 
-// The server log: the access log, if there is one, and a line for each fault of a client and of the
-// token file. If `verbose`, also a line for each change of the store's state.
+// The server log: the access log, if there is one, and a line for each fault of a client, of the
+// token file and of the clock. If `verbose`, also a line for each change of the store's state, and
+// for each purge that removed something.
 #[derive(Drop)]
 struct Lines<'a, E: Write, L> {
     error: &'a mut E,
@@ -95,6 +99,16 @@ impl<'a, E: Write, L: LogFile> ServerLog for Lines<'a, E, L> {
             let _ = print_store_event(news, self.error);
         }
     }
+
+    fn clock_event(&mut self, news: ClockEvent) {
+        let _ = print_clock_event(news, self.error);
+    }
+
+    fn purged(&mut self, count: usize) {
+        if self.verbose {
+            let _ = print_removed(count, self.error);
+        }
+    }
 }
 
 // Returns how the command ends, given the result of the service.
@@ -129,6 +143,9 @@ pub struct ServeConfig<'a> {
     pub limits: Limits,
     /// The retention of what has ended in seconds; nothing is purged if `None`.
     pub keep: Option<u64>,
+    /// The time of the last change of the database before the start, if it is known, in Unix
+    /// seconds.
+    pub changed: Option<u64>,
     /// The admin port, if there is one.
     pub operated: Option<AdminListener>,
     /// True if failed commits and their recovery are reported, too.
@@ -154,10 +171,7 @@ pub trait Listen {
 }
 
 // Returns the build information for the admin port.
-fn build_of(
-    operated: Option<AdminListener>,
-    hosts: &Option<OwnHosts>,
-) -> Option<BuildInfo<'_>>
+fn build_of(operated: Option<AdminListener>, hosts: &Option<OwnHosts>) -> Option<BuildInfo<'_>>
     ensures { IsSome result → IsSome operated }
 {
     match (operated, hosts) {
@@ -225,6 +239,7 @@ fn serve_sockets<
         sockets,
         given.limits,
         given.keep,
+        given.changed,
         build,
         journal,
     );
