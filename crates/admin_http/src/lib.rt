@@ -11,6 +11,7 @@ pub mod connections;
 mod durations;
 mod exposition;
 pub mod faults;
+pub mod machine;
 mod metrics;
 pub mod operation;
 pub mod purged;

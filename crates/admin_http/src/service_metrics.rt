@@ -7,6 +7,7 @@ use crate::admin_route::Health;
 use crate::clock::ClockMetrics;
 use crate::connections::{ConnectionFailure, ConnectionMetrics};
 use crate::faults::FailureMetrics;
+use crate::machine::MachineMetrics;
 use crate::purged::PurgeMetrics;
 use crate::requests::RequestMetrics;
 use crate::store_metrics::StoreMetrics;
@@ -36,6 +37,8 @@ pub struct ServiceMetrics {
     pub purged: PurgeMetrics,
     /// The metrics of the clock.
     pub clock: ClockMetrics,
+    /// The metrics that the system has of the process.
+    pub machine: MachineMetrics,
     /// The metrics of the token file.
     pub tokens: TokenMetrics,
     pub(crate) health: Health,
@@ -53,6 +56,7 @@ impl ServiceMetrics {
             kept: StoreMetrics::unknown(),
             purged: PurgeMetrics::new(),
             clock: ClockMetrics::new(),
+            machine: MachineMetrics::unknown(),
             tokens: TokenMetrics::new(),
             health: Health::Serving,
         }

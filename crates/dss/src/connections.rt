@@ -41,6 +41,7 @@ struct Ports<'a> {
     rt: &'a HostRuntime,
     log: Option<SystemLog<'a>>,
     backups: Option<PortBackups<'a>>,
+    database: &'a str,
     causes: Causes<'a>,
 }
 
@@ -63,9 +64,10 @@ impl<'a> Listen for Ports<'a> {
             rt,
             log: _,
             backups,
+            database,
             causes,
         } = self;
-        PortSockets::listen(rt, address, port, operators, backups, causes)
+        PortSockets::listen(rt, address, port, operators, backups, database, causes)
     }
 }
 
@@ -201,6 +203,7 @@ pub(crate) fn serve<F: Start, E: Write>(
         rt,
         log,
         backups,
+        database: given.database,
         causes,
     };
     let _files = files::serve(

@@ -9,6 +9,7 @@ mod connections;
 mod copying;
 mod log_file;
 mod loopback;
+mod machine;
 mod program;
 mod purge;
 mod regular;

@@ -12,7 +12,8 @@ use crate::clock_lines::{print_clock_event, print_removed};
 use crate::fault::{Fault, io_fault, print_fault};
 use crate::request_log::{LogFile, RequestLog};
 use crate::store_lines::print_store_event;
-use crate::tokens::print_reload_fault;
+use crate::token_files::print_token_check;
+use crate::tokens::{has_error_lines, print_reload_fault};
 use admin_http::build::BuildInfo;
 use admin_http::web_page::OwnHosts;
 use dss_args::version::{KIT, VERSION};
@@ -64,6 +65,7 @@ pub fn print_client_fault<E: Write>(fault: StreamFault, error: &mut E) -> io::Re
 // for each purge that removed something.
 #[derive(Drop)]
 struct Lines<'a, E: Write, L> {
+    alloc: Global,
     error: &'a mut E,
     log: Option<RequestLog<L>>,
     verbose: bool,
@@ -90,8 +92,14 @@ impl<'a, E: Write, L: LogFile> ServerLog for Lines<'a, E, L> {
         }
     }
 
-    fn tokens_rejected(&mut self, fault: TokenReloadFault) {
+    fn tokens_rejected(&mut self, fault: TokenReloadFault, checked: &[u8]) {
         let _ = print_reload_fault(fault, self.error);
+        if self.verbose
+            && has_error_lines(fault)
+            && let Ok(text) = str::from_utf8(checked)
+        {
+            let _ = print_token_check(self.alloc, text, self.error);
+        }
     }
 
     fn store_event(&mut self, news: StoreEvent) {
@@ -295,6 +303,7 @@ pub fn serve_port<
         let _ = print_admin_listening(operated.port, error);
     }
     let mut journal = Lines {
+        alloc,
         error,
         log: log.map(|file| RequestLog::new(alloc, file)),
         verbose: given.verbose,

@@ -74,6 +74,8 @@ pub(crate) struct EventLoop<N: Sockets> {
     store: StoreWatch,
     purger: Purger,
     operators: AdminConnections<N>,
+    // The time until which the metrics of the process count as current.
+    measured_until: Duration,
     stopping: Option<Duration>,
 }
 
@@ -117,6 +119,7 @@ impl<N: Sockets + Drop> EventLoop<N> {
             store: StoreWatch::new(),
             purger: Purger::new(watch),
             operators,
+            measured_until: Duration::from_millis(0),
             stopping: None,
         })
     }
@@ -776,6 +779,10 @@ impl<N: Sockets + Drop> EventLoop<N> {
         self.metrics.connections.open = self.peers.len();
         self.metrics.connections.waiting = self.waiting_for_buffers();
         self.metrics.kept = StoreMetrics::of(shown);
+        if self.measured_until < now {
+            self.measured_until = now.saturating_add(Duration::from_millis(LOOKS_SOON));
+            self.metrics.machine = self.sockets.machine();
+        }
         let admin_context = AdminContext {
             alloc: self.alloc,
             metrics: &self.metrics,

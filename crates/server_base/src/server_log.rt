@@ -78,9 +78,10 @@ pub trait ServerLog {
     /// Logs a connection that was aborted for that reason.
     fn connection_failed(&mut self, fault: StreamFault, given_up: AbortedConnection);
 
-    /// Logs a changed token file that was rejected for that reason. The tokens before it stay
-    /// active.
-    fn tokens_rejected(&mut self, fault: TokenReloadFault);
+    /// Logs a changed token file that was rejected for that reason, with the bytes that were last
+    /// checked: those of the file, unless it could not be read or memory ran out. The tokens before
+    /// it stay active.
+    fn tokens_rejected(&mut self, fault: TokenReloadFault, checked: &[u8]);
 
     /// Logs a change of the store's state. The default logs nothing.
     fn store_event(&mut self, _news: StoreEvent) {}
