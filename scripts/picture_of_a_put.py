@@ -81,7 +81,7 @@ PARTS = {
 }
 # the columns: the crates of each, by how their names begin
 LANES = {
-    "server": ("dss_",), "wire": ("wire_", "token_conf"), "service": ("service_",), "policy": ("policy_", "entity_"),
+    "server": ("dss_", "server_"), "wire": ("wire_", "token_conf"), "service": ("service_",), "policy": ("policy_", "entity_"),
     "quota": ("space_quota",), "mirror": ("space_mirror", "space_memory"), "SQL space": ("space_sql",),
 }
 FUNCTION = re.compile(r"^( *)(?:pub(?:\(\w+\))? )?fn (\w+)", re.M)

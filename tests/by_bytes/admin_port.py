@@ -24,6 +24,8 @@ PUT = wire.request("PUT", f"{wire.AVAILABILITY}/uss-b", "Bearer tok-v", b'{"old_
 # The most seconds that a stopping service takes, and those within which an operator gets a response.
 END, AT_ONCE = 5, 2
 MOST = 16
+# The seconds after which a connection counts as idle, and a little more.
+IDLE = 1.2
 # The names of the metrics, with their types.
 NAMES = {
     "dss_connections_open": "gauge", "dss_connections_accepted_total": "counter", "dss_connections_refused_total": "counter",
@@ -316,23 +318,26 @@ def begun(started, stack, count):
 
 
 def many():
-    """Fifteen idle operators stay connected. The next one is served, and the one that has been idle for the longest is
-    closed. Fourteen that have begun a request do not keep another one out. Clients are served meanwhile."""
+    """Sixteen operators stay connected, and one more is served beside them, whether they are idle or have begun a
+    request. For it, the one that has been idle for the longest is closed. Clients are served meanwhile."""
     found = []
     with AdminService() as started:
         with contextlib.ExitStack() as stack:
-            held = [stack.enter_context(started.operator()) for _ in range(MOST - 1)]
-            time.sleep(0.2)
-            held[0].settimeout(0.1)
-            with contextlib.suppress(TimeoutError):
-                found += [f"the first of {MOST - 1} idle ones is closed: {held[0].recv(1)}"]
-            held[0].settimeout(SECONDS)
+            held = [stack.enter_context(started.operator()) for _ in range(MOST)]
+            time.sleep(IDLE)
+            for at, connection in enumerate(held):
+                connection.settimeout(0.01)
+                with contextlib.suppress(TimeoutError):
+                    found += [f"idle operator {at} is closed: {connection.recv(1)}"]
+                connection.settimeout(SECONDS)
             with started.operator() as late:
                 late.sendall(HEALTH)
                 found += difference("one more", until_closed(late), said(200, SERVING))
             found += difference("the first one", until_closed(held[0]), b"")
+            held[1].sendall(HEALTH)
+            found += difference("the second one", until_closed(held[1]), said(200, SERVING))
         with contextlib.ExitStack() as stack:
-            held = begun(started, stack, MOST - 2)
+            held = begun(started, stack, MOST)
             with started.operator() as late:
                 late.sendall(HEALTH)
                 found += difference("one beside those that have begun", until_closed(late), said(200, SERVING))

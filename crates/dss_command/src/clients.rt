@@ -21,10 +21,10 @@ use dss_server::serve::serve_clients;
 use entity_core::salt::Salt;
 use server_base::limits::Limits;
 use server_base::server_log::{
-    AbortedConnection, ClockEvent, LoggedRequest, ServerLog, StoreEvent,
+    AbortedConnection, ClockEvent, LoggedRequest, ServerLog, StoreEvent, TokenReloadFault,
 };
 use server_base::sockets::Sockets;
-use server_watch::token_watch::{TokenReloadFault, TokenSource, TokenWatch};
+use server_watch::token_watch::{TokenSource, TokenWatch};
 use service_calls::service::Service;
 use space_core::purge_ended::PurgeEnded;
 use space_snapshot::snapshot::SnapshotSource;

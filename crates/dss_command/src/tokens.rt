@@ -7,7 +7,7 @@ ghost use Rattle.dss_command.specs.declared.fault.Fault.TheVariants.{Memory};
 
 use crate::fault::{Fault, print_fault};
 use entity_core::salt::Salt;
-use server_watch::token_watch::TokenReloadFault;
+use server_base::server_log::TokenReloadFault;
 use std::alloc::Global;
 use std::io;
 use std::io::Write;

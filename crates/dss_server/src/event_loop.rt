@@ -21,7 +21,9 @@ use server_base::limits::{
 use server_base::server_log::ServerLog;
 use server_base::sockets::{AcceptFault, EventSource, SocketEvent, Sockets};
 use server_client::client_connection::{ClientConnection, TurnOutcome};
-use server_client::fair_queue::{ClassMember, FairQueue, is_round_over, nanos_between};
+use server_client::fair_queue::{
+    ClassMember, FairQueue, WITHOUT_TOKEN, is_round_over, nanos_between,
+};
 use server_client::request_context::RequestContext;
 use server_watch::clock_watch::ClockWatch;
 use server_watch::purger::Purger;
@@ -441,6 +443,14 @@ impl<N: Sockets + Drop> EventLoop<N> {
         }
     }
 
+    // Returns the class of a client.
+    fn class_of(&self, key: usize) -> usize {
+        match self.peers.get(key) {
+            Some(peer) => peer.member.class,
+            None => WITHOUT_TOKEN,
+        }
+    }
+
     // Moves bytes of a client, and classifies its next request.
     fn move_one<J: ServerLog>(
         &mut self,
@@ -453,7 +463,6 @@ impl<N: Sockets + Drop> EventLoop<N> {
             return;
         };
         peer.set_queued(false);
-        let class = peer.member.class;
         let was_ending = peer.is_ending();
         let begun = self.clock;
         let moved = peer.move_on(now);
@@ -461,6 +470,8 @@ impl<N: Sockets + Drop> EventLoop<N> {
             TurnOutcome::Ready => self.classify(key, tokens),
             _ => moved,
         };
+        // the bytes of a head count for the class of its caller
+        let class = self.class_of(key);
         self.count_unsent(key);
         self.act_on(key, turned, now, journal);
         self.count_ending(key, was_ending);

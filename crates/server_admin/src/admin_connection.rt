@@ -83,10 +83,12 @@ impl<T: Socket> AdminConnection<T> {
     }
 
     /// Returns the time since which it waits for the first byte of a request, or `None` if it waits
-    /// for something else.
+    /// for something else or bytes have arrived.
     pub(crate) fn idle_since(&self) -> Option<Duration> {
         match self.phase {
-            Phase::Idle => Some(self.until.saturating_sub(Phase::Idle.patience())),
+            Phase::Idle if !self.readable => {
+                Some(self.until.saturating_sub(Phase::Idle.patience()))
+            }
             _ => None,
         }
     }

@@ -4,7 +4,8 @@ use crate::admin_context::AdminContext;
 use crate::backup_job::BackupJob;
 use admin_http::backup::BackupResult;
 use server_base::limits::{
-    ADMIN_IDLE_GRACE, FULL, LOOKS, LOOKS_SOON, MAX_ADMIN_CONNECTIONS, MAX_IDLE_ADMIN_CONNECTIONS,
+    ADMIN_IDLE_GRACE, ADMIN_SLOTS, FULL, LOOKS, LOOKS_SOON, MAX_ADMIN_CONNECTIONS,
+    MAX_IDLE_ADMIN_CONNECTIONS,
 };
 use server_base::sockets::{AcceptFault, EventSource, SocketEvent, Sockets};
 use slab::Slab;
@@ -31,7 +32,7 @@ pub struct AdminConnections<N: Sockets> {
 impl<N: Sockets + Drop> AdminConnections<N> {
     /// Creates an empty set. Connections may come only if there is an admin port.
     pub fn new(alloc: Global, may_come: bool) -> Result<AdminConnections<N>, AllocError> {
-        let room = if may_come { MAX_ADMIN_CONNECTIONS } else { 0 };
+        let room = if may_come { ADMIN_SLOTS } else { 0 };
         Ok(AdminConnections {
             alloc,
             all: Slab::with_capacity(alloc, room)?,
@@ -46,12 +47,12 @@ impl<N: Sockets + Drop> AdminConnections<N> {
 
     // Returns true if one more can be accepted, if the system has room for it.
     fn has_room(&self) -> bool {
-        self.waiting && self.all.len() < MAX_ADMIN_CONNECTIONS
+        self.waiting && self.all.len() <= MAX_ADMIN_CONNECTIONS
     }
 
     // Returns true if one of them waits for its client to close.
     fn is_any_ending(&self) -> bool {
-        for key in 0..MAX_ADMIN_CONNECTIONS {
+        for key in 0..ADMIN_SLOTS {
             if let Some(operator) = self.all.get(key)
                 && operator.is_ending()
             {
@@ -81,7 +82,7 @@ impl<N: Sockets + Drop> AdminConnections<N> {
 
     /// Returns true if each client that was answered has read its response.
     pub fn are_served(&self) -> bool {
-        for key in 0..MAX_ADMIN_CONNECTIONS {
+        for key in 0..ADMIN_SLOTS {
             if let Some(operator) = self.all.get(key)
                 && operator.is_owed()
             {
@@ -132,12 +133,12 @@ impl<N: Sockets + Drop> AdminConnections<N> {
     }
 
     // Closes the connection that has been idle for the longest, if more than `most` have been idle
-    // for `time`.
-    fn close_oldest_idle(&mut self, most: usize, time: u64, now: Duration) {
-        let latest = now.saturating_sub(Duration::from_millis(time));
+    // for the grace period.
+    fn close_oldest_idle(&mut self, most: usize, now: Duration) {
+        let latest = now.saturating_sub(Duration::from_millis(ADMIN_IDLE_GRACE));
         let mut idle = 0_usize;
         let mut oldest = None;
-        for key in 0..MAX_ADMIN_CONNECTIONS {
+        for key in 0..ADMIN_SLOTS {
             if let Some(operator) = self.all.get(key)
                 && let Some(begun) = operator.idle_since()
                 && begun <= latest
@@ -156,11 +157,12 @@ impl<N: Sockets + Drop> AdminConnections<N> {
         }
     }
 
-    /// Accepts waiting connections, as far as there is room. Idle connections make room for them.
+    /// Accepts waiting connections, as far as there is room: one more than the maximum, so that
+    /// stalled connections do not keep a new one out. Idle connections make room for them.
     pub fn accept(&mut self, sockets: &mut N, now: Duration) {
-        for _ in 0..MAX_ADMIN_CONNECTIONS {
-            if self.waiting && self.all.len() >= MAX_ADMIN_CONNECTIONS {
-                self.close_oldest_idle(0, 0, now);
+        for _ in 0..ADMIN_SLOTS {
+            if self.waiting && self.all.len() > MAX_ADMIN_CONNECTIONS {
+                self.close_oldest_idle(0, now);
             }
             if !self.has_room() || now < self.full_until {
                 return;
@@ -168,7 +170,7 @@ impl<N: Sockets + Drop> AdminConnections<N> {
             match sockets.accept_operator() {
                 Ok(socket) => {
                     self.take_in(sockets, socket, now);
-                    self.close_oldest_idle(MAX_IDLE_ADMIN_CONNECTIONS, ADMIN_IDLE_GRACE, now);
+                    self.close_oldest_idle(MAX_IDLE_ADMIN_CONNECTIONS, now);
                 }
                 Err(AcceptFault::NoneWaits) => self.waiting = false,
                 Err(AcceptFault::Gone) => {}
@@ -198,7 +200,7 @@ impl<N: Sockets + Drop> AdminConnections<N> {
     /// Runs the turn of each connection, and one step of the requested backup.
     pub fn run_once(&mut self, admin_context: AdminContext<'_>, sockets: &mut N, now: Duration) {
         self.again = false;
-        for key in 0..MAX_ADMIN_CONNECTIONS {
+        for key in 0..ADMIN_SLOTS {
             self.turn(key, admin_context, now);
             self.begin_wanted(key, sockets, now);
         }

@@ -76,10 +76,14 @@ pub const FULL: u64 = 100;
 /// The maximum number of connections to the admin port at once.
 pub const MAX_ADMIN_CONNECTIONS: usize = 16;
 
+/// The slots of admin connections: one more than the maximum, so that a new connection is served
+/// beside stalled ones.
+pub const ADMIN_SLOTS: usize = 17;
+
 /// How many of them stay idle when another is accepted.
 pub const MAX_IDLE_ADMIN_CONNECTIONS: usize = 8;
 
-/// How long one counts as not idle, in milliseconds.
+/// How long a new admin connection counts as not idle, in milliseconds.
 pub const ADMIN_IDLE_GRACE: u64 = 1_000;
 
 /// The maximum number of bytes of an admin request.
