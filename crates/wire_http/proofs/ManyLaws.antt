@@ -137,7 +137,7 @@ module _ {S M : Type 0} (g : Ghosts S) (Gives : M → ℕ → M → Type 0) (cal
       → IsServed callers came all replies sent c → IsStep g Gives callers old new clock clock' c c' (steps.Ended end)
       → (later : List ℕ) → MayCome (has_ended c) later
       → IsServedWhole callers (came ++ later) all replies end (sent ++ output_of c')
-  served_whole came all replies sent end c c' s (same, ticks, stops, wrote, held, left, done, slot) later may = record {
+  served_whole came all replies sent end c c' s (same, ticks, stops, wrote, held, left, done, slot, ended) later may = record {
     n = left_of c;
     rest = buffered_of c ++ later;
     spells = s.spells later;
