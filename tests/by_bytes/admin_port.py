@@ -1,5 +1,6 @@
 """The admin port of `serve`: the health of the service, its metrics, and its end."""
 import contextlib
+import pathlib
 import re
 import socket
 import time
@@ -36,7 +37,11 @@ NAMES = {
     "dss_log_lines_dropped_total": "counter",
     "dss_mirror_up": "gauge", "dss_entities": "gauge", "dss_subscriptions": "gauge", "dss_serial": "gauge",
     "dss_purged_total": "counter", "dss_purge_failures_total": "counter",
-    "dss_tokens_loaded_time_seconds": "gauge", "dss_tokens_reload_failures_total": "counter",
+    "dss_tokens_loaded_time_seconds": "gauge", "dss_tokens_reload_failures_total": "counter", "dss_tokens_valid": "gauge",
+    "dss_purges_total": "counter", "dss_clock_jumps_total": "counter", "dss_purge_held": "gauge", "dss_health": "gauge",
+    "dss_database_bytes": "gauge", "dss_database_log_bytes": "gauge",
+    "process_cpu_seconds_total": "counter", "process_resident_memory_bytes": "gauge", "process_open_fds": "gauge",
+    "process_max_fds": "gauge", "process_start_time_seconds": "gauge",
 }
 
 
@@ -143,6 +148,21 @@ def paths():
         return found + difference("the service", started.ended(), (0, b"", started.listening))
 
 
+def of_process(started):
+    """Compares the metrics of the process with what the system says of it."""
+    text = started.asked(METRICS).partition(b"\r\n\r\n")[2].decode()
+    told = {name: float(value) for name, value in re.findall(r"^(process_\w+) (\S+)$", text, re.M)}
+    folder = pathlib.Path("/proc", f"{started.program.pid}")
+    fields = (folder / "stat").read_text().rpartition(")")[2].split()
+    limit = re.search(r"^Max open files\s+(\d+)", (folder / "limits").read_text(), re.M)[1]
+    found = difference("its descriptors", told["process_max_fds"], float(limit))
+    # One more is that of the connection that asked.
+    found += [] if 0 <= told["process_open_fds"] - len(list((folder / "fd").iterdir())) <= 1 else [f"descriptors: {told}"]
+    close = 0.5 < told["process_resident_memory_bytes"] / (4096 * int(fields[21])) < 2
+    found += [] if close and 0 <= told["process_cpu_seconds_total"] <= (int(fields[11]) + int(fields[12])) / 100 else [f"{told}, {fields}"]
+    return found
+
+
 OTHER_HOST = b"forbidden: the field Host must be 127.0.0.1 or localhost, with the port\n"
 WEB_PAGE = b"forbidden: a web page sent the request\n"
 UNCONFIRMED = b"forbidden: a POST requires the field X-Dss-Admin: 1\n"
@@ -205,7 +225,12 @@ def counts():
         found += difference("when it started", before - SECONDS < int(first["dss_start_time_seconds"]) <= before + 1, True)
         found += difference("when its tokens were read", first["dss_tokens_loaded_time_seconds"], first["dss_start_time_seconds"])
         there = {name: number for name, number in first.items() if "_time_" not in name and "build" not in name}
-        found += difference("a copy", there.pop("dss_mirror_up"), "1")
+        ones = ["dss_mirror_up", "dss_tokens_valid", 'dss_health{state="serving"}']
+        found += difference("a mirror, a valid token file, health", [there.pop(it) for it in ones], ["1"] * len(ones))
+        for it in ("", "-wal"):
+            size = there.pop(f"dss_database{'_log' if it else ''}_bytes")
+            found += difference(f"bytes of dss.db{it}", size, f"{(started.folder / f'dss.db{it}').stat().st_size}")
+        found += of_process(started)
         found += difference("of no clients", set(there.values()), {"0"})
         refusal = started.exchange(b"no request\r\n\r\n", ends=False)
         started.exchange(ASKED + CLOSING, ends=False)

@@ -20,20 +20,14 @@ pub struct MachineMetrics {
     pub log: Option<u64>,
 }
 
-// Appends a gauge, if there is a number.
-fn put_gauge(
+// Appends a metric, if there is a number.
+fn put_known(
     text: &mut Exposition,
-    name: &str,
-    help: &str,
+    metric: Metric<'_>,
     number: Option<u64>,
 ) -> Result<(), AllocError> {
-    let gauge = Metric {
-        name,
-        kind: MetricKind::Gauge,
-        help,
-    };
     match number {
-        Some(number) => text.one(gauge, number),
+        Some(number) => text.one(metric, number),
         None => Ok(()),
     }
 }
@@ -62,20 +56,40 @@ impl MachineMetrics {
             text.describe(cpu)?;
             text.sample_seconds(cpu.name, &[], time)?;
         }
-        let help = "Resident memory of the process in bytes.";
-        put_gauge(text, "process_resident_memory_bytes", help, self.resident)?;
-        let help = "Open file descriptors.";
-        put_gauge(text, "process_open_fds", help, self.open_files)?;
-        let help = "Maximum number of open file descriptors.";
-        put_gauge(text, "process_max_fds", help, self.max_files)
+        let resident = Metric {
+            name: "process_resident_memory_bytes",
+            kind: MetricKind::Gauge,
+            help: "Resident memory of the process in bytes.",
+        };
+        put_known(text, resident, self.resident)?;
+        let open = Metric {
+            name: "process_open_fds",
+            kind: MetricKind::Gauge,
+            help: "Open file descriptors.",
+        };
+        put_known(text, open, self.open_files)?;
+        let most = Metric {
+            name: "process_max_fds",
+            kind: MetricKind::Gauge,
+            help: "Maximum number of open file descriptors.",
+        };
+        put_known(text, most, self.max_files)
     }
 
     /// Appends their lines to the text.
     pub(crate) fn put(&self, text: &mut Exposition) -> Result<(), AllocError> {
         self.put_process(text)?;
-        let help = "Size of the database file in bytes.";
-        put_gauge(text, "dss_database_bytes", help, self.database)?;
-        let help = "Size of the log of the database in bytes.";
-        put_gauge(text, "dss_database_log_bytes", help, self.log)
+        let database = Metric {
+            name: "dss_database_bytes",
+            kind: MetricKind::Gauge,
+            help: "Size of the database file in bytes.",
+        };
+        put_known(text, database, self.database)?;
+        let log = Metric {
+            name: "dss_database_log_bytes",
+            kind: MetricKind::Gauge,
+            help: "Size of the log of the database in bytes.",
+        };
+        put_known(text, log, self.log)
     }
 }

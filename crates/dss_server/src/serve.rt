@@ -54,7 +54,7 @@ fn in_force<'a>(first: &'a TokenTable, newer: &'a Option<TokenTable>) -> &'a Tok
 /// intents, constraints and subscriptions, a chunk at a time, between two batches. Without a
 /// retention nothing is purged.
 ///
-/// The clock is read each second. While it has jumped against the monotonic clock nothing is purged,
+/// With a retention or an admin port the clock is read each second. While it has jumped against the monotonic clock nothing is purged,
 /// nor after a start that is later than the retention and a day after `changed`, the last change of
 /// the database, until the clock returns or an operator confirms it.
 ///
@@ -91,7 +91,7 @@ pub fn serve_clients<
 {
     let mut newer = None;
     let is_counted = limits.count.is_some();
-    let clock = ClockWatch::new(keep, changed);
+    let clock = ClockWatch::new(keep, changed, keep.is_some() || operated.is_some());
     let mut port = EventLoop::new(alloc, sockets, limits, operated.is_some(), clock)?;
     let mut now = port.time()?;
     for _ in 0..u64::MAX {

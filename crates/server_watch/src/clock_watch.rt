@@ -90,12 +90,14 @@ pub struct ClockWatch {
     state: ClockState,
     looked: Option<Duration>,
     jumps: u64,
+    // True if the clock is read without a purge, too.
+    is_watched: bool,
 }
 
 impl ClockWatch {
     /// Creates a watch for a service with this retention, over a database that was last changed at
-    /// this time.
-    pub fn new(keep: Option<u64>, changed: Option<u64>) -> ClockWatch {
+    /// this time. `is_watched` says whether the clock is read without a purge, too.
+    pub fn new(keep: Option<u64>, changed: Option<u64>, is_watched: bool) -> ClockWatch {
         let last = match (keep, changed) {
             (Some(keep), Some(changed)) => Some(LastChange {
                 changed,
@@ -107,6 +109,7 @@ impl ClockWatch {
             state: ClockState::Unread(last),
             looked: None,
             jumps: 0,
+            is_watched,
         }
     }
 
@@ -136,8 +139,11 @@ impl ClockWatch {
         }
     }
 
-    /// Returns true if the clock was not read for a second.
+    /// Returns true if the clock is watched, and was not read for a second.
     pub fn is_due(&self, now: Duration) -> bool {
+        if !self.is_watched {
+            return false;
+        }
         match self.looked {
             Some(looked) => now.saturating_sub(looked) >= Duration::from_secs(GAP),
             None => true,
