@@ -2,7 +2,9 @@
 import contextlib
 import pathlib
 import re
+import shutil
 import socket
+import subprocess
 import time
 
 import wire
@@ -208,6 +210,34 @@ def of_web_pages():
         found += difference("told to end", started.asked(asks("POST", "/stop", [f"Host: {hosts[0]}", "x-dss-admin: 1"],
                                                               confirmed=False)), said(200, b"stopping\n"))
         return found + difference("the service", started.ended(), (0, b"", started.listening))
+
+
+def browse(folder, address, *options):
+    """Returns what Chromium shows of an address, after the navigations of its page."""
+    words = ["chromium", "--headless", "--no-sandbox", "--disable-gpu", f"--user-data-dir={folder}/browser", *options]
+    words += ["--virtual-time-budget=5000", "--dump-dom", address]
+    return subprocess.run(words, capture_output=True, text=True, timeout=SECONDS, check=False).stdout
+
+
+def of_a_browser():
+    """If Chromium is installed: it can read the health at the port's own address. A page with a form cannot stop the
+    service, and a name that resolves to this machine cannot read the airspace."""
+    if not shutil.which("chromium"):
+        print("chromium is missing, so no browser was tried")
+        return []
+    with AdminService() as started:
+        page = started.folder / "page.html"
+        action = f"http://127.0.0.1:{started.admin}/stop"
+        page.write_text(f'<form id="f" method="post" action="{action}"></form><script>document.getElementById("f").submit()</script>')
+        resolved = f"--host-resolver-rules=MAP dss.example 127.0.0.1:{started.admin}"
+        found = []
+        for name, shown, words in (
+            ("its own address", browse(started.folder, f"http://127.0.0.1:{started.admin}/health"), SERVING),
+            ("a form", browse(started.folder, page.as_uri()), WEB_PAGE),
+            ("a name", browse(started.folder, f"http://dss.example:{started.admin}/airspace", resolved), OTHER_HOST),
+        ):
+            found += [] if words.decode().strip() in shown else [f"{name}: {shown!r}"]
+        return found + difference("its health", started.asked(HEALTH), said(200, SERVING))
 
 
 def counts():
@@ -438,6 +468,7 @@ class Listening(AdminService):
 CASES = {
     "admin-port": paths,
     "admin-port-and-web-pages": of_web_pages,
+    "admin-port-and-a-browser": of_a_browser,
     "admin-port-metrics": counts,
     "admin-port-ends-the-service": ends,
     "admin-port-ends-it-in-time": ends_with_others,

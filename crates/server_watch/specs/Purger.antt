@@ -15,7 +15,7 @@ module _ {S M : Type 0} (g : spaces.Ghosts S) (k : settles.Ghosts S) (m : moment
   -- Holds if nothing was purged, whatever the clock returned.
   abbrev pub PurgesNothing : Service S → Service S → M → M → Type 0
   PurgesNothing old new clock clock' =
-      (new ≡ old) × ReadsClock m clock clock'
+      (new ≡ old) × (told : List (Option ℕ)) × ClockReadings m told clock clock'
 
   -- Holds if one chunk was purged, up to a time that the clock returned less the retention in
   -- seconds. Without a retention it never holds.
