@@ -1,15 +1,15 @@
 """A machine stops at each change of the database's files.
 
 Whatever the disk may have persisted, the next start finds the airspace before or after the change, and the one after
-it if the change was acknowledged. If a database of format 1 is opened, its tables are found as they were, or in
-format 2."""
+it if the change was acknowledged. If an old database is opened, of format 1 or without the index of format 2, its
+tables are found as they were, or in format 2 with the index."""
 import pathlib
 import shutil
 
 import tables
 import wire
 from changed_databases import Filled
-from databases import CONSTRAINT, INTENT, NAMED, NAMING, NOW, SUBSCRIPTION, Room, ask, filled, sub_put, volume
+from databases import CONSTRAINT, INTENT, NAMED, NAMING, NOW, SUBSCRIPTION, Room, ask, filled, sub_put, vacuumed, volume
 from devices import library
 from old_databases import HELD, MOVED, moved_wrong, unpacked
 from program import run
@@ -146,9 +146,9 @@ def copied(database):
     return folder / database.name
 
 
-def of_move(name, fill):
-    """Returns what is wrong after a stop at any call while `upgrade` upgrades a database of format 1, and the number of
-    stops."""
+def of_move(name, fill, told):
+    """Returns what is wrong after a stop at any call while `upgrade` upgrades an old database and prints this, and the
+    number of stops."""
     found, stops = [], 0
     with Room() as room:
         machine = Machine(room, [])
@@ -161,45 +161,65 @@ def of_move(name, fill):
         database = machine.again()
         status, output, calls = upgrade(database)
         after = machine.seen(database)
-        if (status, output) != MOVED[:2] or not calls or after[0]:
+        if (status, output) != told[:2] or not calls or after[0]:
             return [f"{name}: {status}, {output!r}, {calls} calls, {after!r}"], 0
         for kept in KEPT:
             for at in range(1, calls + 1):
                 database = machine.again()
                 status, output, _ = upgrade(database, at, kept)
                 left = copied(database)
-                is_old = tables.rows_in(left) == before
+                is_old = not tables.has_index(left)
                 stops += 1
                 where = f"{name}, call {at} of {calls}, {kept} kept"
                 found += [f"{where}: {status}, {output!r}"] if (status, output) != (STOPPED, b"") else []
                 found += [f"{where}: {it}" for it in tables.wrong_in(left)]
-                found += [] if is_old else moved_wrong(where, before, left)
+                if is_old:
+                    found += [] if tables.rows_in(left) == before else [f"{where}: other rows"]
+                else:
+                    found += moved_wrong(where, before, left)
                 # The next start finds it upgraded or not, and then upgrades it.
                 got = upgrade(database)[:2], upgrade(database)[:2]
-                wanted = (MOVED if is_old else HELD)[:2], HELD[:2]
+                wanted = (told if is_old else HELD)[:2], HELD[:2]
                 found += [f"{where}: then {got}"] if got != wanted else []
                 found += [f"{where}: then other answers"] if machine.seen(database) != after else []
     return found, stops
 
 
 def moves():
-    """The same for old databases: a filled one, an empty one, and one of a killed service, with its log."""
+    """The same for old databases: filled ones, empty ones, one of a killed service, with its log, and what SQLite's
+    `VACUUM` makes of filled ones; with what `upgrade` prints for each."""
 
-    def filled_first(folder):
+    def first(folder, *rewrites):
         with Filled(1) as room:
+            for rewrite in rewrites:
+                rewrite(room.database)
             shutil.copy(room.database, folder / "dss.db")
 
+    def second(folder, *rewrites):
+        with Filled(2) as room:
+            for rewrite in (tables.without_index, *rewrites):
+                rewrite(room.database)
+            shutil.copy(room.database, folder / "dss.db")
+
+    def second_of_nothing(folder):
+        tables.make(folder / "dss.db", 2)
+        tables.without_index(folder / "dss.db")
+
     return {
-        "a move": filled_first,
-        "a move of nothing": lambda folder: tables.make(folder / "dss.db", 1),
-        "a move of what was killed": lambda folder: unpacked(folder, "killed"),
+        "a move": (first, MOVED),
+        "a move of nothing": (lambda folder: tables.make(folder / "dss.db", 1), MOVED),
+        "a move of what was killed": (lambda folder: unpacked(folder, "killed"), MOVED),
+        "a move after VACUUM": (lambda folder: first(folder, vacuumed), MOVED),
+        "an index": (second, HELD),
+        "an index of nothing": (second_of_nothing, HELD),
+        "an index after VACUUM": (lambda folder: second(folder, vacuumed), HELD),
     }
 
 
 def each_move():
     found, stops = [], 0
-    for name, fill in moves().items():
-        wrong, count = of_move(name, fill)
+    for name, (fill, told) in moves().items():
+        wrong, count = of_move(name, fill, told)
         found, stops = found + wrong, stops + count
     print(f"the machine stopped {stops} times among the calls that upgrade an old database")
     return found

@@ -1,4 +1,5 @@
-"""Databases of format 1 are upgraded to format 2 when they are opened. Their contents stay, and nothing is added.
+"""Databases of format 1 are upgraded to format 2 when they are opened. Those of format 2 that lack its index get it.
+Their contents stay, and nothing else is added.
 
 The last release that knew no other format made those of tests/data/format_1 from its calls.json: `closed.db` when it
 exited, `killed.db` with its log when it was killed after the last response."""
@@ -236,6 +237,31 @@ def of_sqlite():
     return found
 
 
+def of_each_history():
+    """A database without the index of format 2 gets it at its first opening, whichever command that is, and the one of
+    a new database if SQLite did not rewrite it. One that has it is not written. The contents stay."""
+    found, made = [], schema_made()
+    rewrites = {"as it was": lambda file: None, "VACUUM": vacuumed, "dump": dumped}
+    for word, rewrite in rewrites.items():
+        for number, lacks in (1, True), (2, True), (2, False):
+            with Filled(number) as room:
+                if number == 2 and lacks:
+                    tables.without_index(room.database)
+                rewrite(room.database)
+                before, saved = tables.rows_in(room.database), room.database.read_bytes()
+                report = room.command("report")
+                name = f"format {number}, {'without' if lacks else 'with'} the index, {word}"
+                found += [f"{name}: {report}"] if report[0] else []
+                found += moved_wrong(name, before, room.database) + tables.wrong_in(room.database)
+                schema = tables.schema_in(room.database)
+                found += [f"{name}: {schema}, not {made}"] if schema != made else []
+                if not lacks:
+                    found += [] if room.database.read_bytes() == saved else [f"{name}: the file was written"]
+                found += [f"{name}: {it}" for it in [room.command("upgrade")] if it != HELD]
+                found += [f"{name}: another report"] if room.command("report") != report else []
+    return found
+
+
 def without_space():
     """An upgrade for which the disk has no room is reported as Store and leaves format 1. Once there is room, it
     succeeds."""
@@ -269,6 +295,7 @@ CASES = {
     "old-database-worked-example": worked_example,
     "old-databases-keep-their-serial": serials,
     "old-databases-that-sqlite-wrote-anew": of_sqlite,
+    "old-databases-of-each-history": of_each_history,
     "old-databases-without-space": without_space,
     "upgrade-of-others": of_others,
 }

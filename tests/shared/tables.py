@@ -3,7 +3,8 @@ import contextlib
 import re
 import sqlite3
 
-# The tables of format 1, and those that format 2 added, in the order in which the program makes them.
+# The tables of format 1, those that format 2 added, and the index of a later version of format 2, in the order in which
+# the program makes them.
 FIRST = """
 CREATE TABLE meta (one INTEGER PRIMARY KEY NOT NULL CHECK (one = 1), format INTEGER NOT NULL,
   serial INTEGER NOT NULL CHECK (serial >= 0)) STRICT;
@@ -37,6 +38,7 @@ CREATE INDEX subscription_cell_range ON subscription_cell (lo, hi);
 CREATE TABLE naming (entity INTEGER PRIMARY KEY NOT NULL REFERENCES entity (num) ON DELETE CASCADE,
   subscription INTEGER NOT NULL REFERENCES subscription (num) ON DELETE RESTRICT) STRICT;
 """
+INDEX = "CREATE INDEX naming_subscription ON naming (subscription);"
 
 
 def statements(text):
@@ -54,7 +56,7 @@ def tables_of(text):
 
 FIRST_TABLES, LATER_TABLES = tables_of(FIRST), tables_of(LATER)
 TABLES = FIRST_TABLES + LATER_TABLES
-FORMATS = {1: FIRST, 2: FIRST + LATER}
+FORMATS = {1: FIRST, 2: FIRST + LATER + INDEX}
 
 
 @contextlib.contextmanager
@@ -88,6 +90,16 @@ def make(file, number, rows=None):
         for table, all_ in ({"meta": [(1, number, 0)]} | (rows or {})).items():
             for row in all_:
                 database.execute(f"INSERT INTO {table} VALUES ({', '.join('?' * len(row))})", row)
+
+
+def without_index(file):
+    """Makes of a file with the tables of format 2 one that an earlier version made, without the index on `naming`."""
+    with opened(file) as database:
+        database.execute("DROP INDEX naming_subscription")
+
+
+def has_index(file):
+    return "naming_subscription" in schema_in(file)
 
 
 def rows_in(file):

@@ -1,5 +1,5 @@
 -- Properties of a space are properties of the files from which it was opened.
-use Rattle.std.proofs.Common.{◌≡◌, ℕ, Bool, true, false, List, Option, refl, sym, subst, inl, inr}
+use Rattle.std.proofs.Common.{◌≡◌, ℕ, Bool, true, false, List, Option, refl, sym, subst, inl, inr, ◌∙◌}
 use Rattle.std.specs.Prelude.{◌↔◌, ◌⊎◌, IsTrue, IfErr, IfOk, OnOk, Result, Ok, Err, codes, if◌then◌else◌}
 use Rattle.std.proofs.Math.Logic.{∥∥₁_map}
 use Rattle.std.specs.Io.KnownBytes.{Appends}
@@ -16,7 +16,7 @@ use Rattle.space_sql.specs.Found.{FilesSpell, FindsSpelt}
 use Rattle.space_sql.specs.Holding.{SqlSpaceModel, holds_of, is_sound_of, is_whole_of}
 use Rattle.space_sql.specs.Restart.{ClosesFiles, without_log}
 use Rattle.space_sql_schema.specs.declared.format.Format.{Format}
-use Rattle.space_sql_schema.specs.declared.format.Format.TheVariants.{One, Two}
+use Rattle.space_sql_schema.specs.declared.format.Format.TheVariants.{One, TwoUnindexed, Two}
 use Rattle.dss_command.specs.Print.{WritesReport}
 use Rattle.dss_command.specs.declared.fault.Fault.{Fault}
 use Rattle.dss_command.specs.declared.fault.Fault.TheVariants.{DatabaseFailed, Memory, Output}
@@ -66,8 +66,10 @@ pub record IsOver {D : Type 0} {g : disk.Ghosts D} (space : spaces.Ghosts (SqlSp
 line_told : (upgraded : Bool) (format : Format) → (IsTrue upgraded ↔ (format ≡ One))
     → (if upgraded then codes "format 2, was 1\n" else codes "format 2\n") ≡ format_line format
 line_told true One tells = refl
+line_told true TwoUnindexed tells = let wrong : TwoUnindexed ≡ One = tells.0 refl in cc
 line_told true Two tells = let wrong : Two ≡ One = tells.0 refl in cc
 line_told false One tells = let wrong : false ≡ true = tells.1 refl in cc
+line_told false TwoUnindexed tells = refl
 line_told false Two tells = refl
 
 module _ {D : Type 0} {g : disk.Ghosts D} (space : spaces.Ghosts (SqlSpaceModel (FileStore D g))) (image : Image) (before after : Option (List ℕ)) where
@@ -102,5 +104,8 @@ module _ {D : Type 0} {g : disk.Ghosts D} (space : spaces.Ghosts (SqlSpaceModel 
     told = λ clean format a spelt.
         let tells : IsTrue upgraded ↔ (format ≡ One) = subst (λ (b : Bool). IsTrue b ↔ (format ≡ One)) (sym same) (finds.upgraded (over.sound k (closes.sound clean)) format a spelt) in
         subst (λ (line : List ℕ). Appends before after line) (line_told upgraded format tells) told;
+    made = λ clean none.
+        let no : upgraded ≡ false = same ∙ finds.made (over.sound k (closes.sound clean)) none in
+        subst (λ (b : Bool). Appends before after (if b then codes "format 2, was 1\n" else codes "format 2\n")) no told;
     kept = settled_kept k files finds closes over;
   }

@@ -13,7 +13,7 @@ use Rattle.service_calls.specs.Held.{salt_of, space_of}
 use Rattle.service_calls.specs.Batches.{Batch, uncommitted}
 use Rattle.service_calls.specs.Purged.{Segment}
 use Rattle.service_recovery.specs.Crash.{quota_pending_of}
-use Rattle.service_recovery.specs.InBatches.{ContinuesInBatchesClosed, IsOnlyRead, IsSoundByStore, StartsOver}
+use Rattle.service_recovery.specs.InBatches.{ContinuesInBatchesClosed, IsOnlyRead, IsSoundByStore, RunOver, StartsOver}
 use Rattle.service_recovery.specs.Life.{Continues, run_purged}
 use Rattle.service_recovery.proofs.Crashes.{words_of}
 use Rattle.service_recovery.proofs.Persisting.{without_empty_purged}
@@ -61,9 +61,25 @@ module _ {D T M : Type 0} {g : disk.Ghosts D} (space : Ghosts (QuotaModel (Mirro
   closed : ClosesFiles (space_of clients.last).space.store files
   closed = subst (λ (k : SqlSpaceModel (FileStore D g)). ClosesFiles k files) (copied.released ∙ ap (λ (k : QuotaModel (MirroredModel (SqlSpaceModel (FileStore D g)))). k.space.store) clients.ends) closes
 
+  run : RunOver (words_of over_files) space before
+  run = record {
+    old = clients.first;
+    purged = clients.serves.last;
+    mid = clients.last;
+    new = clients.last;
+    segments = clients.serves.segments;
+    batches = clients.serves.batches;
+    calls = [];
+    starts = starts;
+    segments_made = clients.serves.segments_made;
+    batches_made = clients.serves.made;
+    calls_made = refl;
+    sound = by_store;
+  }
+
   served_found : ServedIsFound space (quota_pending_of (words_of over_files)) clocks again gives keep tokens clock clock' before after
   served_found =
-      let both = law before after clients.first clients.serves.last clients.last clients.last clients.serves.segments clients.serves.batches [] files starts clients.serves.segments_made clients.serves.made refl by_store closed clean have in
+      let both = law before after run files closed clean have in
       record {
         first = copied.first;
         last = copied.last;

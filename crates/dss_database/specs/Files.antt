@@ -21,11 +21,11 @@ use Rattle.space_sql_load.specs.Checking.{loaded_airspace}
 use Rattle.space_sql_load.specs.declared.table_check.LoadedAirspace.{LoadedAirspace}
 use Rattle.space_quota.specs.QuotaSpace.{QuotaModel}
 use Rattle.space_mirror.specs.Mirrored.{MirroredModel, is_pending_in}
-use Rattle.space_sql.specs.Found.{FilesSpell, FindsSpelt}
+use Rattle.space_sql.specs.Found.{AreUnmade, FilesSpell, FindsSpelt}
 use Rattle.space_sql.specs.Holding.{SqlSpaceModel}
 use Rattle.space_sql.specs.Restart.{ClosesFiles, FilesHave, FilesLeft, LeavesFiles, without_log}
 use Rattle.space_sql_schema.specs.declared.format.Format.{Format}
-use Rattle.space_sql_schema.specs.declared.format.Format.TheVariants.{One, Two}
+use Rattle.space_sql_schema.specs.declared.format.Format.TheVariants.{One, TwoUnindexed, Two}
 use Rattle.token_conf.specs.TokenFile.{TokenFile}
 use Rattle.wire_http.specs.declared.moments.Moments as moments
 use Rattle.dss_command.specs.Print.{WritesReport, purged_line}
@@ -40,6 +40,7 @@ use Rattle.dss_command.specs.declared.fault.Fault.TheVariants.{Database, Databas
 -- The line that is printed for a database that had this format.
 abbrev pub format_line : Format → List ℕ
 format_line One = codes "format 2, was 1\n"
+format_line TwoUnindexed = codes "format 2\n"
 format_line Two = codes "format 2\n"
 
 -- Holds if the database could not be opened.
@@ -86,12 +87,14 @@ module _ {D : Type 0} (g : disk.Ghosts D) (image : Image) where
         → WritesReport places a before after
     pub kept : KeepsAirspace files
 
-  -- States that the output is the line of the format in which the files represented an airspace.
-  -- The files now represent it in format 2.
+  -- States that the output is the line of the format in which the files represented an airspace, or
+  -- of format 2 if they had no table. The files now represent it in format 2.
   pub record UpgradesFiles (before after : Option (List ℕ)) (files : Files D) : Type 0 where
     pub told : AreClean g files.log files.db
         → (format : Format) (a : Airspace) → FilesSpell format image a
         → Appends before after (format_line format)
+    pub made : AreClean g files.log files.db → AreUnmade image
+        → Appends before after (format_line Two)
     pub kept : KeepsAirspace files
 
   -- States that the output is the line of what a purge removed from the airspace of the files. The

@@ -83,6 +83,10 @@ pub trait ServerLog {
     /// it stay active.
     fn tokens_rejected(&mut self, fault: TokenReloadFault, checked: &[u8]);
 
+    /// Logs that no connection could be accepted, for lack of descriptors or memory. The default
+    /// logs nothing.
+    fn accept_failed(&mut self) {}
+
     /// Logs a change of the store's state. The default logs nothing.
     fn store_event(&mut self, _news: StoreEvent) {}
 

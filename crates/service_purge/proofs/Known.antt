@@ -104,7 +104,7 @@ known_since salt [] batches last made from a kept counted goes both =
         first = record { from = from; batches = batches };
         others = [];
         begins = refl;
-        follow = record { batches = refl; left = is };
+        follow = record { is_last = refl; left = is };
         told = (both.0, tt);
       };
       kept = subst (Kept salt (λ k. later_or (writer salt from batches both.0 goes k) (last k))) (sym is) (kept_then salt from batches both.0 goes last kept);

@@ -11,3 +11,4 @@ pub mod Backs
 pub mod Known
 pub mod Earlier
 pub mod Unseen
+pub mod Readers

@@ -245,7 +245,7 @@ step_part salt a b t c sees part =
 
 -- ---- lists of calls
 
-one_part : (until : ℕ) (salt : List ℕ) (a b : Airspace) (t : ℕ) (c : Call) → IsPartlyPurged until a b → LooksAhead until a c → IsPartlyPurged until (step salt a t c).0 (step salt b t c).0
+pub one_part : (until : ℕ) (salt : List ℕ) (a b : Airspace) (t : ℕ) (c : Call) → IsPartlyPurged until a b → LooksAhead until a c → IsPartlyPurged until (step salt a t c).0 (step salt b t c).0
 one_part until salt a b t c part look =
     let kept = step_part salt a b t c (sees_part until a b c part look) (record { entities = part.entities; subscriptions = part.subscriptions }) in
     record {
@@ -254,7 +254,7 @@ one_part until salt a b t c part look =
       same = sym (stays_alone until salt b t c (look_part until a b c part look)) ∙ (ap (λ (x : Airspace). purged until (step salt x t c).0) part.same ∙ stays_alone until salt a t c look);
     }
 
-one_unseen : (until : ℕ) (salt : List ℕ) (a b : Airspace) (t : ℕ) (c : Call) → IsAirspace a → IsPartlyPurged until a b → LooksAhead until a c → (step salt b t c).1 ≡ (step salt a t c).1
+pub one_unseen : (until : ℕ) (salt : List ℕ) (a b : Airspace) (t : ℕ) (c : Call) → IsAirspace a → IsPartlyPurged until a b → LooksAhead until a c → (step salt b t c).1 ≡ (step salt a t c).1
 one_unseen until salt a b t c proper part look =
     sym (purge_unseen until salt b t c (part_proper until a b part proper) (look_part until a b c part look))
     ∙ (ap (λ (x : Airspace). (step salt x t c).1) part.same ∙ purge_unseen until salt a t c proper look)

@@ -23,7 +23,7 @@ use Rattle.service_purge.proofs.Earlier.{all_earlier, all_split}
 -- ---- purges
 
 -- An airspace that is partly purged up to a time is also partly purged up to each later time.
-partly_later : (u v : ℕ) (a b : Airspace) → u ≤ v → IsPartlyPurged u a b → IsPartlyPurged v a b
+pub partly_later : (u v : ℕ) (a b : Airspace) → u ≤ v → IsPartlyPurged u a b → IsPartlyPurged v a b
 partly_later u v a b h part = record {
   entities = part.entities;
   subscriptions = part.subscriptions;
@@ -37,11 +37,11 @@ partly_then u v a b c one two =
 
 -- ---- calls
 
-after_proper : (salt : List ℕ) (a : Airspace) (cs : List TimedCall) → IsAirspace a → IsAirspace (airspace_after salt a cs)
+pub after_proper : (salt : List ℕ) (a : Airspace) (cs : List TimedCall) → IsAirspace a → IsAirspace (airspace_after salt a cs)
 after_proper salt a [] proper = proper
 after_proper salt a (c ∷ cs) proper = after_proper salt (step salt a c.0 c.1).0 cs (steps_keep salt a c.0 c.1 proper)
 
-even_all : (batches : List Batch) → length (all_delivered batches) ≡ length (all_timed batches)
+pub even_all : (batches : List Batch) → length (all_delivered batches) ≡ length (all_timed batches)
 even_all [] = refl
 even_all (batch ∷ batches) =
     let one = even_in batch in
@@ -51,10 +51,10 @@ even_all (batch ∷ batches) =
 -- ---- segments
 
 module _ (salt : List ℕ) (segment : Segment) (segments : List Segment) (batches : List Batch) (goes : has_stopped (all_delivered_in (segment ∷ segments) batches) ≡ false) where
-  first_goes : has_stopped (all_delivered segment.batches) ≡ false
+  pub first_goes : has_stopped (all_delivered segment.batches) ≡ false
   first_goes = goes_first (all_delivered segment.batches) (all_delivered_in segments batches) goes
 
-  others_go : has_stopped (all_delivered_in segments batches) ≡ false
+  pub others_go : has_stopped (all_delivered_in segments batches) ≡ false
   others_go = sym (stops_then (all_delivered segment.batches) (all_delivered_in segments batches) first_goes) ∙ goes
 
   module _ (a : Airspace) where
@@ -62,10 +62,10 @@ module _ (salt : List ℕ) (segment : Segment) (segments : List Segment) (batche
     left = airspace_after_batches salt a segment.batches
 
     -- The airspace that a purge left, and the replies and durable airspaces after it.
-    told_left : AreDeliveredPurged salt a (segment ∷ segments) batches → (b : Airspace) × IsPartlyPurged segment.until left b × AreDeliveredPurged salt b segments batches
+    pub told_left : AreDeliveredPurged salt a (segment ∷ segments) batches → (b : Airspace) × IsPartlyPurged segment.until left b × AreDeliveredPurged salt b segments batches
     told_left told = subst (λ x. IfStopped x (AllStopped segments batches) ((b : Airspace) × IsPartlyPurged segment.until left b × AreDeliveredPurged salt b segments batches)) first_goes told.1
 
-    kept_left : (c : Airspace) → MayHavePersistedPurged salt a (segment ∷ segments) batches c → (b : Airspace) × IsPartlyPurged segment.until left b × MayHavePersistedPurged salt b segments batches c
+    pub kept_left : (c : Airspace) → MayHavePersistedPurged salt a (segment ∷ segments) batches c → (b : Airspace) × IsPartlyPurged segment.until left b × MayHavePersistedPurged salt b segments batches c
     kept_left c kept = subst (λ x. IfStopped x (MayHavePersisted salt a segment.batches c) ((b : Airspace) × IsPartlyPurged segment.until left b × MayHavePersistedPurged salt b segments batches c)) first_goes kept.1
 
     -- The replies in the segment, and in what follows.
@@ -73,7 +73,7 @@ module _ (salt : List ℕ) (segment : Segment) (segments : List Segment) (batche
         → delivered_replies (all_delivered_in (segment ∷ segments) batches) ≡ replies_of salt a (answered_in (segment ∷ segments) batches)
     told_more = policy_then salt a (all_timed segment.batches) (all_delivered segment.batches) (all_timed_in segments batches) (all_delivered_in segments batches) (even_all segment.batches) first_goes
 
-    left_more : airspace_after salt left (answered_in segments batches) ≡ airspace_after salt a (answered_in (segment ∷ segments) batches)
+    pub left_more : airspace_after salt left (answered_in segments batches) ≡ airspace_after salt a (answered_in (segment ∷ segments) batches)
     left_more = airspace_then salt a (all_timed segment.batches) (all_delivered segment.batches) (all_timed_in segments batches) (all_delivered_in segments batches) (even_all segment.batches) first_goes
 
 -- The replies over a partly purged airspace are those over the whole one.

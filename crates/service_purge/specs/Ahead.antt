@@ -1,5 +1,5 @@
 -- Forward-looking calls: calls that get the same reply before and after a purge.
-use Rattle.std.specs.Prelude.{◌≡◌, ℕ, ◌≤◌, nat_lt, Bool, true, false, List, [], ◌∷◌, map, Option, Some, None}
+use Rattle.std.specs.Prelude.{◌≡◌, ◌⊎◌, ℕ, ◌≤◌, nat_lt, Bool, true, false, List, [], ◌∷◌, map, Option, Some, None}
 use Rattle.std.specs.List.{AllByRecursion}
 use Rattle.std.specs.FinMap.{get}
 use Rattle.grid_core.specs.Extent.{Extent, Region, region_of}
@@ -15,11 +15,12 @@ use Rattle.policy_core.specs.declared.call.Call.{Call}
 use Rattle.policy_core.specs.declared.call.Put.{Put}
 use Rattle.policy_core.specs.declared.call.SubPut.{SubPut}
 use Rattle.policy_core.specs.declared.call.Operation.{Operation}
-use Rattle.policy_core.specs.declared.call.Operation.TheVariants.{Query, Read, Create, Update, Delete, ReadAvail, SetAvail, QuerySub, ReadSub, CreateSub, UpdateSub, DeleteSub}
+use Rattle.policy_core.specs.declared.call.Operation.TheVariants.{NoRoute, NoMethod, Malformed, Query, Read, Create, Update, Delete, ReadAvail, SetAvail, QuerySub, ReadSub, CreateSub, UpdateSub, DeleteSub}
 use Rattle.policy_core.specs.Call.{named_by, subject_of}
 use Rattle.policy_core.specs.Standing.{found_of}
 use Rattle.service_notify.specs.Notices.{notifies}
 use Rattle.service_step.specs.Step.{step}
+use Rattle.service_step.specs.declared.reply.Reply.{Reply}
 use Rattle.service_calls.specs.Run.{TimedCall, airspace_after, replies_of}
 use Rattle.entity_purge.specs.Purge.{IsPartlyPurged, ReferencesExist, SameOncePurged, is_due_for_purge, has_ended, sub_has_ended, purged}
 
@@ -201,3 +202,41 @@ abbrev pub RunCommutes : Type 0
 RunCommutes = (until : ℕ) (salt : List ℕ) (cs : List TimedCall) (a : Airspace)
     → AllLookOn until salt cs a
     → airspace_after salt (purged until a) cs ≡ purged until (airspace_after salt a cs)
+
+-- ---- the law for lists of calls in which readers look back
+
+-- True for an operation that changes nothing.
+abbrev pub only_reads : Operation → Bool
+only_reads NoRoute = true
+only_reads NoMethod = true
+only_reads (Malformed kind) = true
+only_reads (Query kind area) = true
+only_reads (Read kind id) = true
+only_reads (ReadAvail uss) = true
+only_reads (QuerySub area) = true
+only_reads (ReadSub id) = true
+only_reads op = false
+
+-- Holds if each call of a list changes nothing, or is forward-looking in its airspace.
+abbrev pub AllReadOrLookAhead : ℕ → List ℕ → List TimedCall → Airspace → Type 0
+AllReadOrLookAhead until salt [] a = Unit {0}
+AllReadOrLookAhead until salt (c ∷ cs) a =
+    ((only_reads c.1.op ≡ true) ⊎ LooksAhead until a c.1)
+    × AllReadOrLookAhead until salt cs (step salt a c.0 c.1).0
+
+-- Holds if two lists of replies to these calls have the same reply to each call that is
+-- forward-looking in its airspace.
+abbrev pub AgreeAhead : ℕ → List ℕ → Airspace → List TimedCall → (rs qs : List Reply) → Type 0
+AgreeAhead until salt a [] rs qs = (rs ≡ []) × (qs ≡ [])
+AgreeAhead until salt a (c ∷ cs) [] qs = ⊥
+AgreeAhead until salt a (c ∷ cs) (r ∷ rs) [] = ⊥
+AgreeAhead until salt a (c ∷ cs) (r ∷ rs) (q ∷ qs) =
+    (LooksAhead until a c.1 → r ≡ q) × AgreeAhead until salt (step salt a c.0 c.1).0 cs rs qs
+
+-- States that over an airspace that is partly purged, forward-looking calls get the same replies
+-- and leave a partly purged airspace. Other calls between them may look back if they change nothing.
+abbrev pub ReadersDoNotDisturb : Type 0
+ReadersDoNotDisturb = (until : ℕ) (salt : List ℕ) (cs : List TimedCall) (a b : Airspace)
+    → IsAirspace a → IsPartlyPurged until a b → AllReadOrLookAhead until salt cs a
+    → AgreeAhead until salt a cs (replies_of salt b cs) (replies_of salt a cs)
+    × IsPartlyPurged until (airspace_after salt a cs) (airspace_after salt b cs)

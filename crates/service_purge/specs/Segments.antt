@@ -13,7 +13,7 @@ use Rattle.service_calls.specs.Held.{space_of}
 use Rattle.service_calls.specs.Batches.{Batch, all_timed, all_delivered}
 use Rattle.service_calls.specs.Run.{TimedCall, airspace_after, answered_calls, has_stopped, replies_of, delivered_replies}
 use Rattle.service_calls.specs.Purged.{AreTold, RunsPurged, Segment, airspace_after_batches, all_delivered_in}
-use Rattle.service_purge.specs.Ahead.{AllLookAhead}
+use Rattle.service_purge.specs.Ahead.{AgreeAhead, AllLookAhead, AllReadOrLookAhead}
 
 -- ---- stretches
 
@@ -35,7 +35,7 @@ pub record LeadsTo (salt : List ℕ) (segment : Segment) (stretch next : Stretch
 -- Holds if the stretch is that of the batches after all segments, and leaves the airspace.
 pub record EndsIn (salt : List ℕ) (batches : List Batch) (stretch : Stretch) (after : Airspace)
     : Type 0 where
-  pub batches : stretch.batches ≡ batches
+  pub is_last : stretch.batches ≡ batches
   pub left : after ≡ left_by salt stretch
 
 -- Holds if these are the stretches of the segments, in order, and of the batches after them.
@@ -166,3 +166,32 @@ OneMomentIsEnough =
     → AllLookAhead until salt (answered_in segments batches)
     (airspace_after_batches salt a segment.batches)
     → LookAheadOncePurged salt a (segment ∷ segments) batches
+
+-- Holds if the replies in the first segment are those of the policy, and each later call that is
+-- forward-looking got the policy's reply to the same calls without purges. The durable airspace is
+-- the one that these calls leave without purges, partly purged.
+pub record AreUnseenAhead {S : Type 0} (k : settles.Ghosts S) (until : ℕ) (salt : List ℕ)
+    (a : Airspace) (segment : Segment) (segments : List Segment) (batches : List Batch)
+    (new : Service S) : Type 0 where
+  pub first : delivered_replies (all_delivered segment.batches)
+      ≡ replies_of salt a (answered_of segment.batches)
+  pub told : AgreeAhead until salt (airspace_after_batches salt a segment.batches)
+      (answered_in segments batches) (delivered_replies (all_delivered_in segments batches))
+      (replies_of salt (airspace_after_batches salt a segment.batches)
+      (answered_in segments batches))
+  pub kept : (b : Airspace) → k.persists (space_of new) b → IsPartlyPurged until
+      (airspace_after salt a (answered_in (segment ∷ segments) batches)) b
+
+-- States that purges are invisible to forward-looking calls although others look back, as long as
+-- those change nothing. It assumes that no reply was `Stopped`, and one time that is not before the
+-- time of any purge.
+abbrev pub ReadersMayLookBack : {S : Type 0} → settles.Ghosts S → Type 0
+ReadersMayLookBack {S} k =
+    (until : ℕ) (salt : List ℕ) (a : Airspace) (segment : Segment) (segments : List Segment)
+    (batches : List Batch) (new : Service S)
+    → IsAirspace a → RunsPurged k salt a (segment ∷ segments) batches new
+    → has_stopped (all_delivered_in (segment ∷ segments) batches) ≡ false
+    → PurgedBy until (segment ∷ segments)
+    → AllReadOrLookAhead until salt (answered_in segments batches)
+    (airspace_after_batches salt a segment.batches)
+    → AreUnseenAhead k until salt a segment segments batches new

@@ -1,9 +1,12 @@
 //! Laws of calls before and after a purge. Each is the contract of a function that does nothing.
-ghost use Rattle.service_purge.specs.Ahead.{RunCommutes, RunIsInvisible, PurgeCommutes, PurgeIsInvisible, PurgeStaysAlone, TheseLookAhead};
+ghost use Rattle.service_purge.specs.Ahead.{RunCommutes, RunIsInvisible, PurgeCommutes};
+ghost use Rattle.service_purge.specs.Ahead.{PurgeIsInvisible, PurgeStaysAlone, TheseLookAhead};
+ghost use Rattle.service_purge.specs.Ahead.{ReadersDoNotDisturb};
 ghost use Rattle.service_purge.specs.Back.{LookingBackFindsLess};
 ghost use Rattle.service_purge.specs.Ended.{EndedIsRefused};
 ghost use Rattle.service_purge.specs.Kept.{PurgeKeepsAware, PurgeKeepsCounts, PurgeKeepsNumbers};
-ghost use Rattle.service_purge.specs.Segments.{OneMomentIsEnough, SegmentsAreAware, SegmentsAreInvisible};
+ghost use Rattle.service_purge.specs.Segments.{OneMomentIsEnough, ReadersMayLookBack};
+ghost use Rattle.service_purge.specs.Segments.{SegmentsAreAware, SegmentsAreInvisible};
 
 use space_core::group_commit::GroupCommit;
 
@@ -40,8 +43,12 @@ pub fn these_look_ahead()
 
 /// States that any list of forward-looking calls gets the same replies after a purge, after a part
 /// of it, and without it.
+///
+/// Each forward-looking call of a list also gets the same reply if the other calls of the list look
+/// back, as long as those change nothing.
 pub fn run_is_invisible()
-    ensures { RunIsInvisible }
+    ensures same { RunIsInvisible }
+    ensures readers { ReadersDoNotDisturb }
 {}
 
 /// States that a purge before a call leaves the same as a purge after it, if the call is
@@ -74,8 +81,10 @@ pub fn segments_are_aware<S: GroupCommit>()
 ///
 /// The durable airspace is the one without purges, partly purged. Calls before the first purge can
 /// be any. It suffices if the others are forward-looking from one time that is not before the time
-/// of any purge.
+/// of any purge. Calls that change nothing need not be: then the law compares the replies to the
+/// forward-looking ones.
 pub fn segments_are_invisible<S: GroupCommit>()
     ensures unseen { SegmentsAreInvisible S.GroupCommit.own }
     ensures enough { OneMomentIsEnough }
+    ensures readers { ReadersMayLookBack S.GroupCommit.own }
 {}

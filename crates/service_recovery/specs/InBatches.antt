@@ -20,7 +20,7 @@ use Rattle.space_sql.specs.Found.{FindsSpelt}
 use Rattle.space_sql.specs.Holding.{SqlSpaceModel}
 use Rattle.space_sql.specs.Restart.{ClosesFiles, FilesHave, FilesLeft, LeavesFiles, without_log}
 use Rattle.service_recovery.specs.Crash.{quota_pending_of}
-use Rattle.service_recovery.specs.Life.{Continues, run_purged}
+use Rattle.service_recovery.specs.Life.{Continues, Run, run_purged}
 
 -- Holds if a sound and whole space holds some airspace.
 abbrev pub SomeIsHeld : {S : Type 0} → spaces.Ghosts S → Type 0
@@ -50,34 +50,46 @@ module _ {D : Type 0} {g : disk.Ghosts D} (tables : spaces.Ghosts (SqlSpaceModel
   abbrev pub IsSoundByStore : QuotaModel (MirroredModel (SqlSpaceModel (FileStore D g))) → Type 0
   IsSoundByStore k = tables.is_sound k.space.store → space.is_sound k
 
-  -- States that a run in batches continues its files. A service started over files and received
-  -- batches of calls. After some batches, it purged some of what had ended. The last calls were
-  -- ended by no commit. The space over tables was abandoned, and a crash left what it can of the
-  -- files. The changes that were pending then are lost.
-  --
-  -- The premises go from files to files, in the order in which things happen. `old` starts over the
-  -- files `before`. `segments` lead from `old` to `purged`, `batches` from there to `mid`, and the
-  -- open batch `calls` to `new`. `last` is what the space over tables in `new` leaves of its store,
-  -- and `after` is what a crash leaves of that.
+  -- A run of a service over files, in the order in which things happen. A service started over
+  -- files and received batches of calls. After some batches, it purged some of what had ended. The
+  -- last calls were ended by no commit, so their pending changes are lost. `old` starts over the
+  -- files, `segments` lead from `old` to `purged`, `batches` from there to `mid`, and the open batch
+  -- `calls` to `new`.
+  pub record RunOver (before : Image) : Type 0 where
+    pub old : Service (QuotaModel (MirroredModel (SqlSpaceModel (FileStore D g))))
+    pub purged : Service (QuotaModel (MirroredModel (SqlSpaceModel (FileStore D g))))
+    pub mid : Service (QuotaModel (MirroredModel (SqlSpaceModel (FileStore D g))))
+    pub new : Service (QuotaModel (MirroredModel (SqlSpaceModel (FileStore D g))))
+    pub segments : List Segment
+    pub batches : List Batch
+    pub calls : List CallRecord
+    pub starts : StartsOver before old
+    pub segments_made : MadeSegments space (quota_pending_of tables) old segments purged
+    pub batches_made : MadeBatches space (quota_pending_of tables) purged batches mid
+    pub calls_made : CalledInOrder space (quota_pending_of tables) mid calls new
+    pub sound : IsSoundByStore (space_of new)
+
+  -- The salt, the segments and the batches of a run.
+  abbrev pub run_over : {before : Image} → RunOver before → Run
+  run_over run = run_purged run.old run.segments (run.batches ++ uncommitted run.calls ∷ [])
+
+  -- The space over tables after a run.
+  abbrev pub tables_after : {before : Image} → RunOver before → SqlSpaceModel (FileStore D g)
+  tables_after run = (space_of run.new).space.store
+
+  -- States that a run continues its files: the space over tables was abandoned, and a crash left
+  -- what it can of the files. `last` is what the space leaves of its store, and `after` is what a
+  -- crash leaves of that.
   abbrev pub ContinuesInBatches : Type 0
   ContinuesInBatches =
-      (before after : Image) (old purged mid new : Service (QuotaModel (MirroredModel (SqlSpaceModel (FileStore D g)))))
-      (segments : List Segment) (batches : List Batch) (calls : List CallRecord) (last : FileStore D g)
-      → StartsOver before old → MadeSegments space (quota_pending_of tables) old segments purged
-      → MadeBatches space (quota_pending_of tables) purged batches mid
-      → CalledInOrder space (quota_pending_of tables) mid calls new → IsSoundByStore (space_of new)
-      → LeavesFiles (space_of new).space.store last → IsClean (store.view last) → FilesLeft last after
-      → Continues before (run_purged old segments (batches ++ uncommitted calls ∷ [])) after
+      (before after : Image) (run : RunOver before) (last : FileStore D g)
+      → LeavesFiles (tables_after run) last → IsClean (store.view last) → FilesLeft last after
+      → Continues before (run_over run) after
 
   -- The same if the space was closed, even if the log is gone then.
   abbrev pub ContinuesInBatchesClosed : Type 0
   ContinuesInBatchesClosed =
-      (before after : Image) (old purged mid new : Service (QuotaModel (MirroredModel (SqlSpaceModel (FileStore D g)))))
-      (segments : List Segment) (batches : List Batch) (calls : List CallRecord) (files : Files D)
-      → StartsOver before old → MadeSegments space (quota_pending_of tables) old segments purged
-      → MadeBatches space (quota_pending_of tables) purged batches mid
-      → CalledInOrder space (quota_pending_of tables) mid calls new → IsSoundByStore (space_of new)
-      → ClosesFiles (space_of new).space.store files → AreClean g files.log files.db
+      (before after : Image) (run : RunOver before) (files : Files D)
+      → ClosesFiles (tables_after run) files → AreClean g files.log files.db
       → FilesHave g files after
-      → Continues before (run_purged old segments (batches ++ uncommitted calls ∷ [])) after
-      × Continues before (run_purged old segments (batches ++ uncommitted calls ∷ [])) (without_log after)
+      → Continues before (run_over run) after × Continues before (run_over run) (without_log after)

@@ -276,11 +276,6 @@ impl IndexedEntities {
         dependents_of(alloc, &self.entities, &self.names, id)
     }
 
-    /// Returns the approximate number of intents that reference any subscription.
-    pub(crate) fn namings(&self) -> usize {
-        self.names.len()
-    }
-
     /// Returns true if some intent references the subscription.
     ///
     /// Allocates nothing.

@@ -25,10 +25,6 @@ use std::collections::btree_map::Range;
 /// Each cell is a row to delete, and no client should wait long for that.
 const MAX_CELLS: usize = 1024;
 
-// The number of references that cost as much to scan as one cell row to delete. Deleting a
-// subscription scans all references, because the database has no index of them.
-const NAMINGS_A_CELL: usize = 40;
-
 // ---- tests of what has ended
 
 fn has_ended(entity: &Entity, until: u64) -> bool
@@ -105,14 +101,12 @@ fn first_free(
     ensures { IfOk result (λ gone. AreFirst most gone.items
         (free_in until (entity_map entities.now) (values_of subscriptions.entry))) }
 {
-    let looked_at = entities.namings() / NAMINGS_A_CELL;
     let mut gone = Vec::new(alloc);
     let mut cells = 0usize;
     for (_, sub) in subscriptions {
         if is_free(sub, entities, until) {
             gone.push(PurgeItem::Subscription(sub.id))?;
-            let own = sub.volume.cells().len();
-            cells = cells.saturating_add(own.saturating_add(looked_at));
+            cells = cells.saturating_add(sub.volume.cells().len());
             if is_full(&gone, cells, most) {
                 return Ok(gone);
             }

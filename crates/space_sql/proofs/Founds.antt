@@ -1,5 +1,5 @@
 -- Proofs that relate the content of files to the opened space.
-use Rattle.std.specs.Prelude.{◌≡◌, ◌≢◌, ◌⊎◌, ◌↔◌, ◌<◌, [], length, false, IsTrue, IfErr, IfOk, Result, Ok, Err, refl}
+use Rattle.std.specs.Prelude.{◌≡◌, ◌≢◌, ◌⊎◌, ◌↔◌, ◌<◌, [], length, Bool, true, false, IsTrue, IfErr, IfOk, Result, Ok, Err, refl}
 use Rattle.std.proofs.Common.{inl, inr, sym, ap, subst, ◌∙◌, arith}
 use Rattle.sqlite_trees.specs.Tree.{Trees}
 use Rattle.sqlite_trees.specs.declared.store.Store as stores
@@ -17,11 +17,14 @@ use Rattle.space_sql_schema.specs.Presence.{presence_in}
 use Rattle.space_sql_schema.specs.Spelling.{SpellsAs, Spells}
 use Rattle.space_sql_schema.specs.Tables.{no_schema, schema_of}
 use Rattle.space_sql_schema.specs.declared.format.Format.{Format}
-use Rattle.space_sql_schema.specs.declared.format.Format.TheVariants.{One, Two}
+use Rattle.space_sql_schema.specs.declared.format.Format.TheVariants.{One, TwoUnindexed, Two}
+use Rattle.space_sql_schema.specs.declared.presence.Presence.{Presence}
 use Rattle.space_sql_schema.specs.declared.presence.Presence.TheVariants.{Missing, Whole}
 use Rattle.space_sql_schema.proofs.OneAirspace.{one_airspace_of}
 use Rattle.space_sql_schema.proofs.Presences.{none_stands}
-use Rattle.space_sql_open.specs.Opening.{Refuses}
+use Rattle.space_sql_open.specs.Opening.{MayHaveUpgraded, Refuses, format_before}
+use Rattle.space_sql_open.specs.declared.old_format.OldFormat.{OldFormat}
+use Rattle.space_sql_open.specs.declared.old_format.OldFormat.TheVariants as old
 use Rattle.space_sql_open.specs.declared.open_fault.OpenFault.{OpenFault}
 use Rattle.space_sql_open.specs.declared.open_fault.OpenFault.TheVariants.{Store}
 use Rattle.space_sql.specs.Found.{AreUnmade, FilesSpell, FindsSpelt, HasTables, IsOpenedOver, KeepsAs, RefusesFound, tables_of}
@@ -45,11 +48,12 @@ new_found image none db (inl it) = absurd (let some : 0 < length image.db = it.3
 new_found image none db (inr it) = it.1
 
 pub new_is_unmade : (image : Image) → image.db ≡ [] → AreUnmade image
-new_is_unmade image none = inl (new_found image none)
+new_is_unmade image none = inl (inl (inl (ap length none)), new_found image none)
 
 -- The presence of a format determines it.
 same_format : (format : Format) → Whole format ≡ Whole One → format ≡ One
 same_format One e = refl
+same_format TwoUnindexed e = cc
 same_format Two e = cc
 
 module _ (image : Image) (s : State) (it : IsOpenedOver image s) where
@@ -67,7 +71,7 @@ module _ (image : Image) (s : State) (it : IsOpenedOver image s) where
 
   found_empty : AreUnmade image → IsEmpty s.committed.trees
   found_empty none = elim none [
-    | inl found ↦ found s.committed.trees it.found.reads
+    | inl blank ↦ blank.1 s.committed.trees it.found.reads
     | inr held ↦ subst IsEmpty (sym (it.found.holds held.0 held.1)) held.2
   ]
 
@@ -81,7 +85,7 @@ module _ (image : Image) (s : State) (it : IsOpenedOver image s) where
       let own = holds format sound (found_schema format h.0 (h.1, h.2.0)) in
       subst (λ b. IsContent space.holds k b) (one_airspace_of format s.now s.now own.0 a refl own.1 (found_spelt format a h)) own.2
 
-  told_found : (upgraded : Type 0) → (upgraded ↔ (presence_in s.now.schema.tables ≡ Whole One)) → (format : Format) (a : Airspace) → FilesSpell format image a → (upgraded ↔ (format ≡ One))
+  told_found : (upgraded : Type 0) → (upgraded ↔ (presence_in s.now.schema ≡ Whole One)) → (format : Format) (a : Airspace) → FilesSpell format image a → (upgraded ↔ (format ≡ One))
   told_found upgraded told format a h =
       let stands = stands_as format s.now.schema (found_schema format h.0 (h.1, h.2.0)) in
       ((λ yes. same_format format (sym stands ∙ told.0 yes)), (λ one. told.1 (stands ∙ ap Whole one)))
@@ -93,12 +97,17 @@ module _ (image : Image) (s : State) (it : IsOpenedOver image s) where
       let path : s.now ≡ tables_of format db = λ i. record { schema = schema i; trees = trees i } in
       subst (λ d. Refuses format d fault) path (due format schema)
 
+  moved_found : (from : OldFormat) (a : Airspace) → FilesSpell (format_before from) image a → (db : Trees) → MayHaveUpgraded from s db → KeepsAs Two db a
+  moved_found from a h db may =
+      let format = format_before from in
+      let moved = may (found_schema format h.0 (h.1, h.2.0)) in
+      let same = one_airspace_of format s.now s.now moved.0 a refl moved.1 (found_spelt format a h) in
+      keeps_of Two db moved.2.0 a moved.2.1 moved.2.2 (subst (λ b. Spells moved.2.0 b) same moved.2.3)
+
   -- The trees that may be committed over files that represent an airspace store it in format 2.
   taken_found : (format : Format) (a : Airspace) → FilesSpell format image a → (db : Trees) → CommittedIfFound (Whole format) s db → KeepsAs Two db a
-  taken_found One a h db may =
-      let moved = may (found_schema One h.0 (h.1, h.2.0)) in
-      let same = one_airspace_of One s.now s.now moved.0 a refl moved.1 (found_spelt One a h) in
-      keeps_of Two db moved.2.0 a moved.2.1 moved.2.2 (subst (λ b. Spells moved.2.0 b) same moved.2.3)
+  taken_found One a h db may = moved_found old.One a h db may
+  taken_found TwoUnindexed a h db may = moved_found old.TwoUnindexed a h db may
   taken_found Two a h db may = absurd may
 
   left_found : (back : State) (fault : OpenFault) → Rests s → Survives s back (MayBeOpened s fault) → HasCleanDisk back → (format : Format) (a : Airspace) → FilesSpell format image a → (db : Trees) → back.may_leave db → KeepsAs format db a ⊎ KeepsAs Two db a
@@ -109,12 +118,12 @@ module _ (image : Image) (s : State) (it : IsOpenedOver image s) where
     | inr taken ↦ inr (taken_found format a h db (subst (λ p. CommittedIfFound p s db) (stands_as format s.now.schema (found_schema format h.0 (h.1, h.2.0))) taken.1))
   ]
 
-  left_unmade : (back : State) (fault : OpenFault) → Rests s → Survives s back (MayBeOpened s fault) → HasCleanDisk back → AreUnmade image → presence_in no_schema.tables ≡ Missing → (db : Trees) → back.may_leave db → IsEmpty db ⊎ KeepsAs Two db (empty_at 0)
+  left_unmade : (back : State) (fault : OpenFault) → Rests s → Survives s back (MayBeOpened s fault) → HasCleanDisk back → AreUnmade image → presence_in no_schema ≡ Missing → (db : Trees) → back.may_leave db → IsEmpty db ⊎ KeepsAs Two db (empty_at 0)
   left_unmade back fault rests went clean none missing db may = elim (went.crash clean db may) [
     | inl earlier ↦ inl (subst IsEmpty (sym (rests.no_other db it.is_open earlier)) (found_empty none))
     | inr taken ↦
         let schema = found_none none in
-        let stands = ap (λ s. presence_in s.tables) schema ∙ missing in
+        let stands = ap presence_in schema ∙ missing in
         let may : EmptyIfNoTable s db = subst (λ p. CommittedIfFound p s db) stands taken.1 in
         let made = may schema in
         inr (keeps_of Two db made.0 (empty_at 0) made.1 made.2 made.3)
@@ -126,14 +135,22 @@ module _ (image : Image) (s : State) (it : IsOpenedOver image s) where
     | inr taken ↦ absurd (other taken.0)
   ]
 
+-- A space whose tables are not of format 1 was not upgraded.
+not_upgraded : (upgraded : Bool) (presence : Presence) → (IsTrue upgraded ↔ (presence ≡ Whole One)) → presence ≡ Missing → upgraded ≡ false
+not_upgraded false presence told missing = refl
+not_upgraded true presence told missing = absurd (let whole = told.0 refl in cc)
+
 -- Proves `FindsSpelt` for an adopted space.
 pub finds : {S : Type 0} (image : Image) (s : State) (space : Ghosts (SqlSpaceModel S)) (k : SqlSpaceModel S) → (space.is_sound k → IsOpenedOver image s) → HoldsSpelt space s k → (space.is_sound k → s.now.schema ≡ no_schema → IsContent space.holds k (empty_at 0))
-    → (space.is_sound k → (a : Airspace) → space.holds k a → space.is_whole k) → (IsTrue k.upgraded ↔ (presence_in s.now.schema.tables ≡ Whole One)) → FindsSpelt image space k
+    → (space.is_sound k → (a : Airspace) → space.holds k a → space.is_whole k) → (IsTrue k.upgraded ↔ (presence_in s.now.schema ≡ Whole One)) → FindsSpelt image space k
 finds image s space k opened holds made whole told = record {
   spelt = λ sound. held_found image s (opened sound) space k holds sound;
   new = λ sound none. made sound (found_none image s (opened sound) none);
   whole = whole;
   upgraded = λ sound. told_found image s (opened sound) _ told;
+  made = λ sound none.
+      let schema = found_none image s (opened sound) none in
+      not_upgraded k.upgraded _ told (ap presence_in schema ∙ none_stands);
 }
 
 -- Proves `RefusesFound` after a fault.
@@ -152,7 +169,7 @@ module _ {S L : Type 0} (g : stores.Ghosts S) (image : Image) (s : State) (opene
   -- Proves the result of a successful opening.
   pub finds_ok : (space : Ghosts (SqlSpaceModel S)) (clean : (k : SqlSpaceModel S) → space.is_sound k → HasCleanDisk (state g k.conn)) (certain : (k : SqlSpaceModel S) (a : Airspace) → space.is_sound k → space.is_broken k ≡ false → space.holds k a → space.is_whole k)
       → (r : Result (SqlSpaceModel S × L) (OpenFault × Held S)) → IfOk r (λ t. IsFresh g space t.0) → IfOk r (λ t. HasCleanDisk (state g t.0.conn) → HasCleanDisk s) → IfOk r (λ t. HoldsSpelt space s t.0)
-      → IfOk r (λ t. space.is_sound t.0 → s.now.schema ≡ no_schema → IsContent space.holds t.0 (empty_at 0)) → IfOk r (λ t. IsTrue t.0.upgraded ↔ (presence_in s.now.schema.tables ≡ Whole One)) → IfOk r (λ t. FindsSpelt image space t.0)
+      → IfOk r (λ t. space.is_sound t.0 → s.now.schema ≡ no_schema → IsContent space.holds t.0 (empty_at 0)) → IfOk r (λ t. IsTrue t.0.upgraded ↔ (presence_in s.now.schema ≡ Whole One)) → IfOk r (λ t. FindsSpelt image space t.0)
   finds_ok space clean certain (Ok t) fresh before holds made told = finds image s space t.0 (λ sound. opened (before (clean t.0 sound))) holds made (λ sound a. certain t.0 a sound fresh.works) told
   finds_ok space clean certain (Err e) fresh before holds made told = tt
 

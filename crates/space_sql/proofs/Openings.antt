@@ -1,5 +1,5 @@
 -- Proofs about the result and the effects of opening, by the presence of the tables.
-use Rattle.std.specs.Prelude.{◌≡◌, ◌≢◌, Result, Ok, Err, IfErr, refl}
+use Rattle.std.specs.Prelude.{◌≡◌, ◌≢◌, ◌↔◌, Bool, false, true, IsTrue, Result, Ok, Err, IfErr, refl}
 use Rattle.std.proofs.Common.{ap, subst, sym, ◌∙◌}
 use Rattle.sqlite_trees.specs.Tree.{Trees}
 use Rattle.sqlite_schema.specs.declared.schema.Schema.{Schema}
@@ -12,11 +12,11 @@ use Rattle.space_sql_schema.specs.Presence.{presence_in}
 use Rattle.space_sql_schema.specs.Spelling.{SpellsAs}
 use Rattle.space_sql_schema.specs.Tables.{schema_of}
 use Rattle.space_sql_schema.specs.declared.format.Format.{Format}
-use Rattle.space_sql_schema.specs.declared.format.Format.TheVariants.{One, Two}
+use Rattle.space_sql_schema.specs.declared.format.Format.TheVariants.{One, TwoUnindexed, Two}
 use Rattle.space_sql_schema.specs.declared.presence.Presence.{Presence}
 use Rattle.space_sql_schema.specs.declared.presence.Presence.TheVariants.{Missing, Whole}
 use Rattle.space_sql_schema.proofs.OneAirspace.{one_airspace_of}
-use Rattle.space_sql_schema.proofs.Presences.{first_stands, second_stands}
+use Rattle.space_sql_schema.proofs.Presences.{first_stands, unindexed_stands, second_stands}
 use Rattle.space_sql_open.specs.declared.open_fault.OpenFault.{OpenFault}
 use Rattle.space_sql_open.specs.declared.open_fault.OpenFault.TheVariants.{Store}
 use Rattle.space_sql.specs.OpenResult.{MayBeOpened, CommittedIfFound}
@@ -27,31 +27,40 @@ ok_is_no_fault x fault = λ e. cc
 -- ---- the schema that was found
 
 -- The presence of the tables in a schema is that in an equal one.
-pub stands_seen : {seen own : Schema} {presence : Presence} → seen ≡ own → presence ≡ presence_in seen.tables → presence_in own.tables ≡ presence
-stands_seen same exact = ap (λ (s : Schema). presence_in s.tables) (sym same) ∙ sym exact
+pub stands_seen : {seen own : Schema} {presence : Presence} → seen ≡ own → presence ≡ presence_in seen → presence_in own ≡ presence
+stands_seen same exact = ap presence_in (sym same) ∙ sym exact
 
-pub stands_as : (format : Format) (schema : Schema) → schema ≡ schema_of format → presence_in schema.tables ≡ Whole format
-stands_as One schema e = ap (λ (s : Schema). presence_in s.tables) e ∙ first_stands
-stands_as Two schema e = ap (λ (s : Schema). presence_in s.tables) e ∙ second_stands
+pub stands_as : (format : Format) (schema : Schema) → schema ≡ schema_of format → presence_in schema ≡ Whole format
+stands_as One schema e = ap presence_in e ∙ first_stands
+stands_as TwoUnindexed schema e = ap presence_in e ∙ unindexed_stands
+stands_as Two schema e = ap presence_in e ∙ second_stands
 
 -- If P holds for the format that the tables are found to have, it holds for each format that they
 -- have.
-pub of_format : (schema : Schema) (P : Format → Type 0) (own : Format) → presence_in schema.tables ≡ Whole own → (schema ≡ schema_of own → P own) → (format : Format) → schema ≡ schema_of format → P format
+pub of_format : (schema : Schema) (P : Format → Type 0) (own : Format) → presence_in schema ≡ Whole own → (schema ≡ schema_of own → P own) → (format : Format) → schema ≡ schema_of format → P format
 of_format schema P own stands f format e =
     let same : Whole own ≡ Whole format = sym stands ∙ stands_as format schema e in
     let is : own ≡ format = cc in
     subst (λ (x : Format). schema ≡ schema_of x → P x) is f e
 
+-- ---- what is told of an upgrade
+
+pub tells_first : (upgraded : Bool) (presence : Presence) → upgraded ≡ true → presence ≡ Whole One → (IsTrue upgraded ↔ (presence ≡ Whole One))
+tells_first upgraded presence is stands = ((λ yes. stands), (λ one. is))
+
+pub tells_unindexed : (upgraded : Bool) (presence : Presence) → upgraded ≡ false → presence ≡ Whole TwoUnindexed → (IsTrue upgraded ↔ (presence ≡ Whole One))
+tells_unindexed upgraded presence is stands = ((λ yes. let wrong : false ≡ true = sym is ∙ yes in cc), (λ one. let wrong : Whole TwoUnindexed ≡ Whole One = sym stands ∙ one in cc))
+
 -- ---- effects of a crash
 
 module _ {X C : Type 0} (old : State) (shown : C → State) where
   -- After a fault, the trees are those that the fault allows.
-  pub left_as : (presence : Presence) (P : OpenFault → Trees → Type 0) (r : Result X (OpenFault × C)) → presence_in old.now.schema.tables ≡ presence → ((fault : OpenFault) (trees : Trees) → P fault trees → (fault ≡ Store) × CommittedIfFound presence old trees)
+  pub left_as : (presence : Presence) (P : OpenFault → Trees → Type 0) (r : Result X (OpenFault × C)) → presence_in old.now.schema ≡ presence → ((fault : OpenFault) (trees : Trees) → P fault trees → (fault ≡ Store) × CommittedIfFound presence old trees)
       → IfErr r (λ e. Survives old (shown e.1) (P e.0)) → IfErr r (λ e. Survives old (shown e.1) (MayBeOpened old e.0))
   left_as presence P (Ok x) is f left = tt
   left_as presence P (Err e) is f left = survives_weaker old (shown e.1) _ _ (λ clean db p. let it = f e.0 db p in (it.0, subst (λ (s : Presence). CommittedIfFound s old db) (sym is) it.1)) left
 
-  pub left_made : (r : Result X (OpenFault × C)) → presence_in old.now.schema.tables ≡ Missing → IfErr r (λ e. e.0 ≡ Store) → IfErr r (λ e. Survives old (shown e.1) (EmptyIfNoTable old)) → IfErr r (λ e. Survives old (shown e.1) (MayBeOpened old e.0))
+  pub left_made : (r : Result X (OpenFault × C)) → presence_in old.now.schema ≡ Missing → IfErr r (λ e. e.0 ≡ Store) → IfErr r (λ e. Survives old (shown e.1) (EmptyIfNoTable old)) → IfErr r (λ e. Survives old (shown e.1) (MayBeOpened old e.0))
   left_made (Ok x) is store left = tt
   left_made (Err e) is store left = survives_weaker old (shown e.1) _ _ (λ clean db made. (store, subst (λ (s : Presence). CommittedIfFound s old db) (sym is) made)) left
 

@@ -1,9 +1,9 @@
 -- Definitions of what an opening finds, by the content of the log and of the database file.
-use Rattle.std.specs.Prelude.{◌≡◌, ◌≢◌, ◌⊎◌, ◌↔◌, [], IsTrue}
+use Rattle.std.specs.Prelude.{◌≡◌, ◌≢◌, ◌⊎◌, ◌↔◌, [], IsTrue, false}
 use Rattle.sqlite_trees.specs.Tree.{Trees}
 use Rattle.sqlite.specs.Recovery.{Image}
 use Rattle.sqlite.specs.Effect.{Database, IsDatabase}
-use Rattle.sqlite.specs.Files.{AreFoundIn, HoldsDatabase, IsEmpty}
+use Rattle.sqlite.specs.Files.{AreFoundIn, HoldsDatabase, IsEmpty, IsNothing}
 use Rattle.sqlite.specs.Start.{FindsIn}
 use Rattle.sqlite.specs.State.{State, HasCleanDisk, IsLive}
 use Rattle.entity_core.specs.Airspace.{Airspace, empty_at}
@@ -34,11 +34,15 @@ HasTables format image db = HoldsDatabase image db × IsDatabase (tables_of form
 abbrev pub FilesSpell : Format → Image → Airspace → Type 0
 FilesSpell format image a = (db : Trees) × HoldsDatabase image db × KeepsAs format db a
 
--- Holds if an opening of the files finds no table: the database file has no byte, or the files hold
--- a database without a table.
+-- Holds if the files are those of a database that was not made yet, and an opening finds no table in
+-- them: the database file has no byte, or is what an opening left of its first page.
+abbrev pub AreBlank : Image → Type 0
+AreBlank image = IsNothing image × ((db : Trees) → AreFoundIn image db → IsEmpty db)
+
+-- Holds if an opening of the files finds no table: no database was made in them yet, or they hold a
+-- database without a table. A ruined file is not unmade.
 abbrev pub AreUnmade : Image → Type 0
-AreUnmade image = ((db : Trees) → AreFoundIn image db → IsEmpty db)
-    ⊎ ((db : Trees) × HoldsDatabase image db × IsEmpty db)
+AreUnmade image = AreBlank image ⊎ ((db : Trees) × HoldsDatabase image db × IsEmpty db)
 
 -- States that a database file without a byte is unmade, whatever its log holds.
 abbrev pub NewIsUnmade : Type 0
@@ -57,7 +61,7 @@ IsOver image s = HasCleanDisk s → IsOpenedOver image s
 
 -- Holds if a space adopted over files with this content holds exactly the airspace represented
 -- there, or an empty one if there was no table. If it holds an airspace, it is whole. The space
--- reports whether the tables were of format 1.
+-- reports whether the tables were of format 1. New tables were not.
 pub record FindsSpelt {S : Type 0} (image : Image) (space : Ghosts (SqlSpaceModel S)) (k : SqlSpaceModel S)
     : Type 0 where
   pub spelt : space.is_sound k → (format : Format) (a : Airspace) → FilesSpell format image a
@@ -66,6 +70,7 @@ pub record FindsSpelt {S : Type 0} (image : Image) (space : Ghosts (SqlSpaceMode
   pub whole : space.is_sound k → (a : Airspace) → space.holds k a → space.is_whole k
   pub upgraded : space.is_sound k → (format : Format) (a : Airspace)
       → FilesSpell format image a → (IsTrue k.upgraded ↔ (format ≡ One))
+  pub made : space.is_sound k → AreUnmade image → k.upgraded ≡ false
 
 -- Holds if the fault is right for a connection over files with this content. Whatever a crash
 -- leaves represents the same airspace, in its format or in format 2. If there was no table, there

@@ -1,5 +1,5 @@
 -- Definitions of the results and effects of adopting a database.
-use Rattle.std.specs.Prelude.{◌≡◌, ◌≢◌, false}
+use Rattle.std.specs.Prelude.{◌≡◌, ◌≢◌, Bool, false, true}
 use Rattle.sqlite_trees.specs.Tree.{Trees}
 use Rattle.sqlite_trees.specs.declared.store.Store as stores
 use Rattle.sqlite.specs.Effect.{Database}
@@ -11,13 +11,15 @@ use Rattle.space_core.specs.declared.space.Space.{Ghosts}
 use Rattle.space_sql_schema.specs.Spelling.{SpellsAs}
 use Rattle.space_sql_schema.specs.Tables.{no_schema, schema_of}
 use Rattle.space_sql_schema.specs.declared.format.Format.{Format}
-use Rattle.space_sql_schema.specs.declared.format.Format.TheVariants.{One, Two}
+use Rattle.space_sql_schema.specs.declared.format.Format.TheVariants.{One, TwoUnindexed, Two}
 use Rattle.space_sql_schema.specs.declared.presence.Presence.{Presence}
 use Rattle.space_sql_schema.specs.declared.presence.Presence.TheVariants.{Missing, Partial, Whole}
 use Rattle.space_sql_schema.specs.Making.{EmptyIfNoTable}
 use Rattle.space_sql_schema.specs.Presence.{presence_in}
 use Rattle.space_sql_select.specs.Reading.{IsAsFound}
 use Rattle.space_sql_open.specs.Opening.{MayHaveUpgraded, Refuses}
+use Rattle.space_sql_open.specs.declared.old_format.OldFormat.{OldFormat}
+use Rattle.space_sql_open.specs.declared.old_format.OldFormat.TheVariants as old
 use Rattle.space_sql_open.specs.declared.open_fault.OpenFault.{OpenFault}
 use Rattle.space_sql_open.specs.declared.open_fault.OpenFault.TheVariants.{Store}
 use Rattle.space_sql.specs.Holding.{SqlSpaceModel}
@@ -65,22 +67,28 @@ IsDueFault opened back fault = (format : Format) → IsDueFaultAs format opened 
 abbrev pub IsUnwritten : State → State → OpenFault → Type 0
 IsUnwritten opened back fault = (format : Format) → IsUnwrittenAs format opened back fault
 
+-- True if the tables that were upgraded were those of format 1.
+abbrev pub is_format_1 : OldFormat → Bool
+is_format_1 old.One = true
+is_format_1 old.TwoUnindexed = false
+
 -- ---- effects of a crash
 
 -- Holds if opening can have committed these trees, given which tables it found. If it found none,
--- they are those of an empty airspace. If it found format 1, they are those of format 2 with the
--- same airspace. Otherwise it committed nothing.
+-- they are those of an empty airspace. If it found format 1, or format 2 without the index on
+-- `naming`, they are those of format 2 with the same airspace. Otherwise it committed nothing.
 abbrev pub CommittedIfFound : (found : Presence) → State → Trees → Type 0
-CommittedIfFound Missing old trees = EmptyIfNoTable old trees
-CommittedIfFound Partial old trees = ⊥
-CommittedIfFound (Whole One) old trees = MayHaveUpgraded old trees
-CommittedIfFound (Whole Two) old trees = ⊥
+CommittedIfFound Missing s trees = EmptyIfNoTable s trees
+CommittedIfFound Partial s trees = ⊥
+CommittedIfFound (Whole One) s trees = MayHaveUpgraded old.One s trees
+CommittedIfFound (Whole TwoUnindexed) s trees = MayHaveUpgraded old.TwoUnindexed s trees
+CommittedIfFound (Whole Two) s trees = ⊥
 
 -- Holds if opening may have committed the trees before it failed. After `NotADss` and `Version`,
 -- there are none.
 abbrev pub MayBeOpened : State → OpenFault → Trees → Type 0
-MayBeOpened old fault trees =
-    (fault ≡ Store) × CommittedIfFound (presence_in old.now.schema.tables) old trees
+MayBeOpened s fault trees =
+    (fault ≡ Store) × CommittedIfFound (presence_in s.now.schema) s trees
 
 -- ---- the represented airspace
 

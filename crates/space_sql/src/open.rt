@@ -17,12 +17,12 @@ ghost use Rattle.space_sql_schema.specs.Tables.{dss_schema, no_schema};
 ghost use Rattle.space_sql_schema.specs.declared.format.Format.{Format};
 ghost use Rattle.space_sql_schema.specs.declared.format.Format.TheVariants.{One, Two};
 ghost use Rattle.space_sql_schema.specs.declared.presence.Presence.TheVariants.{Whole};
-ghost use Rattle.space_sql_open.specs.Opening.{MayHaveUpgraded};
+ghost use Rattle.space_sql_open.specs.Opening.{MayHaveUpgraded, format_before};
 ghost use Rattle.space_sql_open.specs.declared.open_fault.OpenFault.TheVariants.{Store, Version};
 ghost use Rattle.space_sql.specs.Found.{FindsSpelt, IsOver, RefusesFound};
 ghost use Rattle.space_sql.specs.FailedOpen.{RefusesOpening};
 ghost use Rattle.space_sql.specs.Load.{IsAllOf};
-ghost use Rattle.space_sql.specs.OpenResult.{HoldsEmpty, HoldsSpelt, HoldsSpeltAs, IsDueFault, IsDueFaultAs, IsFresh, IsUnwritten, IsUnwrittenAs, MayBeOpened};
+ghost use Rattle.space_sql.specs.OpenResult.{HoldsEmpty, HoldsSpelt, HoldsSpeltAs, IsDueFault, IsDueFaultAs, IsFresh, IsUnwritten, IsUnwrittenAs, MayBeOpened, is_format_1};
 ghost use Rattle.space_sql.specs.Restart.{ClosesFiles};
 
 use crate::answers::at_rest;
@@ -32,6 +32,7 @@ use crate::space::SqlSpace;
 use space_core::space::{Space, SpaceFault};
 use space_sql_load::table_check::LoadedAirspace;
 use space_sql_open::checking::{check_format_2, partial_schema_fault};
+use space_sql_open::old_format::OldFormat;
 use space_sql_open::open_fault::OpenFault;
 use space_sql_open::upgrading::upgrade_format;
 use space_sql_schema::format::Format;
@@ -114,27 +115,37 @@ fn adopt_format_2<S: Alter>(alloc: Global, mut conn: Connection<S>) -> AdoptResu
     }
 }
 
-// Upgrades tables of format 1 to format 2, and adopts them.
-fn adopt_format_1<S: Alter>(alloc: Global, mut conn: Connection<S>) -> AdoptResult<S>
+fn is_format_1(from: OldFormat) -> bool
+    ensures { result ≡ is_format_1 from }
+{
+    match from {
+        OldFormat::One => true,
+        OldFormat::TwoUnindexed => false,
+    }
+}
+
+// Upgrades tables of an old format to format 2, and adopts them.
+fn adopt_old<S: Alter>(alloc: Global, mut conn: Connection<S>, from: OldFormat) -> AdoptResult<S>
     requires { conn.in_transaction ≡ false }
     ensures clean { IfOk result (λ t. HasCleanDisk (state S.Store t.0.conn)
         → HasCleanDisk (state S.Store conn)) }
     ensures fresh { IfOk result (λ t. IsFresh S.Store ⟦<SqlSpace<S> as Space>⟧ t.0) }
     ensures taken { IfOk result
-        (λ t. HoldsSpeltAs One ⟦<SqlSpace<S> as Space>⟧ (state S.Store conn) t.0) }
-    ensures upgraded { IfOk result (λ t. IsTrue t.0.upgraded) }
+        (λ t. HoldsSpeltAs (format_before from) ⟦<SqlSpace<S> as Space>⟧
+        (state S.Store conn) t.0) }
+    ensures upgraded { IfOk result (λ t. t.0.upgraded ≡ is_format_1 from) }
     ensures all { IfOk result (λ t. (state S.Store conn).now.schema ≡ dss_schema
         → IfSome t.1 (IsAllOf S.Store t.0)) }
     ensures refused { IfErr result
-        (λ e. IsDueFaultAs One (state S.Store conn) (state S.Store e.1) e.0) }
+        (λ e. IsDueFaultAs (format_before from) (state S.Store conn) (state S.Store e.1) e.0) }
     ensures back { IfErr result (λ e. e.1.in_transaction ≡ false) }
     ensures unwritten { IfErr result
-        (λ e. IsUnwrittenAs One (state S.Store conn) (state S.Store e.1) e.0) }
+        (λ e. IsUnwrittenAs (format_before from) (state S.Store conn) (state S.Store e.1) e.0) }
     ensures left { IfErr result (λ e. Survives (state S.Store conn) (state S.Store e.1)
-        (λ trees. (e.0 ≡ OpenFault.Store) × MayHaveUpgraded (state S.Store conn) trees)) }
+        (λ trees. (e.0 ≡ OpenFault.Store) × MayHaveUpgraded from (state S.Store conn) trees)) }
 {
-    match upgrade_format(alloc, &mut conn) {
-        Ok(()) => Ok((space_over(alloc, conn, true), None)),
+    match upgrade_format(alloc, &mut conn, from) {
+        Ok(()) => Ok((space_over(alloc, conn, is_format_1(from)), None)),
         Err(fault) => Err((fault, conn)),
     }
 }
@@ -153,8 +164,9 @@ impl<S: Alter> SqlSpace<S> {
     /// Adopts a connection that is outside a transaction.
     ///
     /// If it has none of the tables, they are created. Tables of format 1 are upgraded to format 2,
-    /// in one transaction, with the same airspace. If the tables were complete and of format 2, the
-    /// loaded airspace is returned with the space. The contract says that it is all that the space
+    /// in one transaction, with the same airspace. Tables of format 2 that lack the index on
+    /// `naming` get it in the same way. If the tables were complete and of format 2, the loaded
+    /// airspace is returned with the space. The contract says that it is all that the space
     /// holds only if the tables are exactly as `make_tables` creates them.
     ///
     /// Returns `Version` if `meta` has one row, of a format that is neither 1 nor 2. Otherwise
@@ -171,7 +183,7 @@ impl<S: Alter> SqlSpace<S> {
         ensures taken { IfOk result
             (λ t. HoldsSpelt ⟦<SqlSpace<S> as Space>⟧ (state S.Store conn) t.0) }
         ensures upgraded { IfOk result (λ t. IsTrue t.0.upgraded
-            ↔ (presence_in (state S.Store conn).now.schema.tables ≡ Whole One)) }
+            ↔ (presence_in (state S.Store conn).now.schema ≡ Whole One)) }
         ensures all { IfOk result (λ t. (state S.Store conn).now.schema ≡ dss_schema
             → IfSome t.1 (IsAllOf S.Store t.0)) }
         ensures new { IfErr result (λ e. (state S.Store conn).now.schema ≡ no_schema
@@ -186,7 +198,10 @@ impl<S: Alter> SqlSpace<S> {
     {
         match presence_of(conn.schema()) {
             Presence::Missing => make_new(alloc, conn),
-            Presence::Whole(Format::One) => adopt_format_1(alloc, conn),
+            Presence::Whole(Format::One) => adopt_old(alloc, conn, OldFormat::One),
+            Presence::Whole(Format::TwoUnindexed) => {
+                adopt_old(alloc, conn, OldFormat::TwoUnindexed)
+            }
             Presence::Whole(Format::Two) => adopt_format_2(alloc, conn),
             Presence::Partial => Err(refused(conn)),
         }

@@ -94,7 +94,7 @@ fn gather_subs(
     ensures { let r = rows.now in
         let c = cells.now in
         IfOk result (λ o. MatchOption o ((a : Subs)
-            → ¬ GathersSubs serial (pos 0) r c (empty, []) a)
+        → ¬ GathersSubs serial (pos 0) r c (empty, []) a)
         (λ k. GathersSubs serial (pos 0) r c (empty, []) (subs_of k))) }
 {
     let mut subscriptions = Subscriptions::new(alloc);

@@ -8,10 +8,12 @@ use Rattle.space_sql_select.specs.Meta.{IsOtherFormat}
 use Rattle.space_sql_load.specs.Checking.{loaded_airspace}
 use Rattle.space_sql_load.specs.declared.table_check.LoadedAirspace.{LoadedAirspace}
 use Rattle.space_sql_schema.specs.declared.format.Format.{Format}
-use Rattle.space_sql_schema.specs.declared.format.Format.TheVariants.{One, Two}
+use Rattle.space_sql_schema.specs.declared.format.Format.TheVariants.{One, TwoUnindexed, Two}
 use Rattle.space_sql_schema.specs.Making.{AreOf}
 use Rattle.space_sql_schema.specs.Spelling.{Spells, SpellsAs}
-use Rattle.space_sql_schema.specs.Tables.{first_schema}
+use Rattle.space_sql_schema.specs.Tables.{schema_of}
+use Rattle.space_sql_open.specs.declared.old_format.OldFormat.{OldFormat}
+use Rattle.space_sql_open.specs.declared.old_format.OldFormat.TheVariants as old
 use Rattle.space_sql_open.specs.declared.open_fault.OpenFault.{OpenFault}
 use Rattle.space_sql_open.specs.declared.open_fault.OpenFault.TheVariants.{NotADss, Version, Store}
 
@@ -29,16 +31,21 @@ abbrev pub ChecksTables : Database → Result LoadedAirspace OpenFault → Type 
 ChecksTables db (Ok listed) = Spells db (loaded_airspace listed)
 ChecksTables db (Err fault) = Refuses Two db fault
 
--- Holds if the result is right for tables of format 1. After `Ok`, they represented an airspace,
--- and the upgraded tables represent it in format 2.
-abbrev pub UpgradesFormat : Database → Database → Result (Unit {0}) OpenFault → Type 0
-UpgradesFormat old new (Ok x) =
-    (a : Airspace) × SpellsAs One old a × Spells new a × IsDatabase new
-UpgradesFormat old new (Err fault) = Refuses One old fault
+-- The format of tables that are upgraded.
+abbrev pub format_before : OldFormat → Format
+format_before old.One = One
+format_before old.TwoUnindexed = TwoUnindexed
 
--- Holds if, when the tables were of format 1, they represented an airspace, and the trees are those
--- of tables of format 2 that represent it. A commit may have left them.
-abbrev pub MayHaveUpgraded : State → Trees → Type 0
-MayHaveUpgraded old trees =
-    old.now.schema ≡ first_schema → (a : Airspace) × SpellsAs One old.now a
-    × AreOf (λ db. Spells db a) trees
+-- Holds if the result is right for tables of the old format. After `Ok`, they represented an
+-- airspace, and the upgraded tables represent it in format 2.
+abbrev pub UpgradesFormat : OldFormat → Database → Database → Result (Unit {0}) OpenFault → Type 0
+UpgradesFormat from old new (Ok x) =
+    (a : Airspace) × SpellsAs (format_before from) old a × Spells new a × IsDatabase new
+UpgradesFormat from old new (Err fault) = Refuses (format_before from) old fault
+
+-- Holds if, when the tables were of the old format, they represented an airspace, and the trees are
+-- those of tables of format 2 that represent it. A commit may have left them.
+abbrev pub MayHaveUpgraded : OldFormat → State → Trees → Type 0
+MayHaveUpgraded from old trees =
+    old.now.schema ≡ schema_of (format_before from)
+    → (a : Airspace) × SpellsAs (format_before from) old.now a × AreOf (λ db. Spells db a) trees

@@ -1,10 +1,11 @@
--- Definitions of the steps of an upgrade from format 1 to format 2.
+-- Definitions of the steps of an upgrade to format 2.
 use Rattle.std.specs.Prelude.{◌≡◌, Result, Ok, Err}
-use Rattle.sqlite.specs.Effect.{Database}
+use Rattle.sqlite.specs.Effect.{Database, IsDatabase}
 use Rattle.entity_core.specs.Airspace.{Airspace}
 use Rattle.space_sql_schema.specs.declared.format.Format.TheVariants.{Two}
-use Rattle.space_sql_schema.specs.Making.{IsUpgraded}
+use Rattle.space_sql_schema.specs.Making.{HasRows, IsUpgraded}
 use Rattle.space_sql_schema.specs.Spelling.{Spells}
+use Rattle.space_sql_schema.specs.Tables.{second_schema}
 use Rattle.space_sql_open.specs.Opening.{Refuses}
 use Rattle.space_sql_open.specs.declared.open_fault.OpenFault.{OpenFault}
 use Rattle.space_sql_open.specs.declared.open_fault.OpenFault.TheVariants.{Store}
@@ -13,6 +14,11 @@ use Rattle.space_sql_open.specs.declared.open_fault.OpenFault.TheVariants.{Store
 abbrev pub Rewrites : Database → Database → Result (Unit {0}) OpenFault → Type 0
 Rewrites old new (Ok x) = IsUpgraded old.trees new
 Rewrites old new (Err fault) = fault ≡ Store
+
+-- Holds if the index on `naming` is added, and all rows stay, whatever they represent.
+abbrev pub Indexes : Database → Database → Result (Unit {0}) OpenFault → Type 0
+Indexes old new (Ok x) = HasRows second_schema old.trees new × IsDatabase new
+Indexes old new (Err fault) = fault ≡ Store
 
 -- Holds if the result says whether tables of format 2 represent an airspace, and the database is
 -- unchanged.

@@ -1,8 +1,8 @@
-//! The checks of a database when it is opened, and the upgrade from format 1 to format 2 in one
-//! transaction.
+//! The checks of a database when it is opened, and the upgrade of an older one in one transaction.
 #![tactic(auto)]
 
 pub mod checking;
 pub mod first_meta;
+pub mod old_format;
 pub mod open_fault;
 pub mod upgrading;

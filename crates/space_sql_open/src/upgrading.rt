@@ -1,26 +1,27 @@
-//! Upgrade of tables of format 1 to format 2, in one transaction, if they represent an airspace.
+//! Upgrade of tables of an old format, in one transaction, if they represent an airspace.
 ghost use Rattle.std.specs.Prelude.{◌≡◌, ◌≢◌, ◌⊎◌, false, IfErr, OnOk, IsTrue};
 ghost use Rattle.sqlite.specs.Held.{state};
 ghost use Rattle.sqlite.specs.State.{HasCleanDisk, IsUnchanged, Survives};
 ghost use Rattle.space_sql_schema.specs.Making.{IsSettled};
-ghost use Rattle.space_sql_schema.specs.Tables.{dss_schema, first_schema};
+ghost use Rattle.space_sql_schema.specs.Tables.{dss_schema, first_schema, schema_of, unindexed_schema};
 ghost use Rattle.space_sql_schema.specs.Within.{SameConnection, Within};
 ghost use Rattle.space_sql_select.specs.Reading.{GoesBack, IsAsFound};
 ghost use Rattle.space_sql_open.specs.Inside.{Inside};
-ghost use Rattle.space_sql_open.specs.Upgrading.{Judges, Rewrites};
-ghost use Rattle.space_sql_open.specs.Opening.{MayHaveUpgraded, UpgradesFormat};
+ghost use Rattle.space_sql_open.specs.Upgrading.{Indexes, Judges, Rewrites};
+ghost use Rattle.space_sql_open.specs.Opening.{MayHaveUpgraded, UpgradesFormat, format_before};
 ghost use Rattle.space_sql_open.specs.declared.open_fault.OpenFault.TheVariants.{Store};
 
 use crate::checking::airspace_or_fault;
 use crate::first_meta::first_meta;
+use crate::old_format::OldFormat;
 use crate::open_fault::OpenFault;
 use space_sql_load::reading::read_airspace_in_transaction;
-use space_sql_schema::upgrade::upgrade_in_transaction;
+use space_sql_schema::upgrade::{add_index, upgrade_in_transaction};
 use space_sql_select::reading::{connection_facts, is_store_alive};
 use sqlite::{Alter, Connection, Transaction};
 use std::alloc::Global;
 
-// Upgrades the tables to format 2, whatever they represent.
+// Upgrades tables of format 1 to format 2, whatever they represent.
 fn rewrite<S: Alter>(tx: &mut Transaction<'_, S>) -> Result<(), OpenFault>
     ensures same_reference { SameConnection tx.old tx.new }
     ensures rewrites { Within S.Store tx.old tx.new (Inside first_schema Rewrites) result }
@@ -43,9 +44,10 @@ fn check_upgraded<S: Alter>(alloc: Global, tx: &mut Transaction<'_, S>) -> Resul
     }
 }
 
-fn upgrade_inside<S: Alter>(alloc: Global, tx: &mut Transaction<'_, S>) -> Result<(), OpenFault>
+fn upgrade_first<S: Alter>(alloc: Global, tx: &mut Transaction<'_, S>) -> Result<(), OpenFault>
     ensures same_reference { SameConnection tx.old tx.new }
-    ensures moves { Within S.Store tx.old tx.new (Inside first_schema UpgradesFormat) result }
+    ensures moves { Within S.Store tx.old tx.new
+        (Inside first_schema (UpgradesFormat OldFormat.One)) result }
 {
     match first_meta(tx) {
         Ok(()) => {}
@@ -57,25 +59,67 @@ fn upgrade_inside<S: Alter>(alloc: Global, tx: &mut Transaction<'_, S>) -> Resul
     }
 }
 
-fn upgrade_tables<S: Alter>(alloc: Global, conn: &mut Connection<S>) -> Result<(), OpenFault>
+// Adds the index on `naming`, whatever the tables represent.
+fn index<S: Alter>(tx: &mut Transaction<'_, S>) -> Result<(), OpenFault>
+    ensures same_reference { SameConnection tx.old tx.new }
+    ensures indexes { Within S.Store tx.old tx.new (Inside unindexed_schema Indexes) result }
+{
+    match add_index(tx) {
+        Ok(()) => Ok(()),
+        Err(_) => Err(OpenFault::Store),
+    }
+}
+
+fn index_second<S: Alter>(alloc: Global, tx: &mut Transaction<'_, S>) -> Result<(), OpenFault>
+    ensures same_reference { SameConnection tx.old tx.new }
+    ensures moves { Within S.Store tx.old tx.new
+        (Inside unindexed_schema (UpgradesFormat OldFormat.TwoUnindexed)) result }
+{
+    match index(tx) {
+        Ok(()) => check_upgraded(alloc, tx),
+        Err(fault) => Err(fault),
+    }
+}
+
+fn upgrade_inside<S: Alter>(
+    alloc: Global,
+    tx: &mut Transaction<'_, S>,
+    from: OldFormat,
+) -> Result<(), OpenFault>
+    ensures same_reference { SameConnection tx.old tx.new }
+    ensures moves { Within S.Store tx.old tx.new
+        (Inside (schema_of (format_before from)) (UpgradesFormat from)) result }
+{
+    match from {
+        OldFormat::One => upgrade_first(alloc, tx),
+        OldFormat::TwoUnindexed => index_second(alloc, tx),
+    }
+}
+
+fn upgrade_tables<S: Alter>(
+    alloc: Global,
+    conn: &mut Connection<S>,
+    from: OldFormat,
+) -> Result<(), OpenFault>
     requires { conn.old.in_transaction ≡ false }
     ensures ended { conn.new.in_transaction ≡ false }
     ensures moves { let old = state S.Store conn.old in
         let new = state S.Store conn.new in
-        HasCleanDisk new → old.now.schema ≡ first_schema → UpgradesFormat old.now new.now result }
+        HasCleanDisk new → old.now.schema ≡ schema_of (format_before from)
+        → UpgradesFormat from old.now new.now result }
     ensures settled { let new = state S.Store conn.new in
         HasCleanDisk new → OnOk result (IsSettled new) }
     ensures clean { HasCleanDisk (state S.Store conn.new) → HasCleanDisk (state S.Store conn.old) }
     ensures back { let old = state S.Store conn.old in
         let new = state S.Store conn.new in
-        HasCleanDisk new → IsTrue new.is_open → old.now.schema ≡ first_schema
+        HasCleanDisk new → IsTrue new.is_open → old.now.schema ≡ schema_of (format_before from)
         → IfErr result (λ fault. fault ≢ Store → GoesBack old new) }
     ensures left { let old = state S.Store conn.old in
         IfErr result (λ fault. Survives old (state S.Store conn.new)
-        (λ trees. (fault ≡ Store) × MayHaveUpgraded old trees)) }
+        (λ trees. (fault ≡ Store) × MayHaveUpgraded from old trees)) }
 {
     let mut tx = conn.transaction();
-    match upgrade_inside(alloc, &mut tx) {
+    match upgrade_inside(alloc, &mut tx, from) {
         Ok(()) => {}
         Err(fault) => return Err(fault),
     }
@@ -100,30 +144,35 @@ fn fault_if_alive<S: Alter>(conn: &mut Connection<S>, fault: OpenFault) -> OpenF
     }
 }
 
-/// Upgrades tables of format 1 to format 2, in one transaction, if they represent an airspace,
-/// which stays the same.
+/// Upgrades tables of the old format to format 2 with its index, in one transaction, if they
+/// represent an airspace, which stays the same.
 ///
 /// Otherwise it leaves them unchanged. After `NotADss` and `Version`, nothing was written. After
-/// `Store`, the tables are of format 1 or 2, with the same airspace.
-pub fn upgrade_format<S: Alter>(alloc: Global, conn: &mut Connection<S>) -> Result<(), OpenFault>
+/// `Store`, the tables are those before the upgrade or those after it, with the same airspace.
+pub fn upgrade_format<S: Alter>(
+    alloc: Global,
+    conn: &mut Connection<S>,
+    from: OldFormat,
+) -> Result<(), OpenFault>
     requires { conn.old.in_transaction ≡ false }
     ensures outside { conn.new.in_transaction ≡ false }
     ensures moves { let old = state S.Store conn.old in
         let new = state S.Store conn.new in
-        HasCleanDisk new → old.now.schema ≡ first_schema → UpgradesFormat old.now new.now result }
+        HasCleanDisk new → old.now.schema ≡ schema_of (format_before from)
+        → UpgradesFormat from old.now new.now result }
     ensures settled { let new = state S.Store conn.new in
         HasCleanDisk new → OnOk result (IsSettled new) }
     ensures clean { HasCleanDisk (state S.Store conn.new) → HasCleanDisk (state S.Store conn.old) }
     ensures at_rest { let old = state S.Store conn.old in
         let new = state S.Store conn.new in
-        HasCleanDisk new → old.now.schema ≡ first_schema
+        HasCleanDisk new → old.now.schema ≡ schema_of (format_before from)
         → IfErr result (λ fault. fault ≢ Store → IsAsFound old new) }
     ensures left { let old = state S.Store conn.old in
         IfErr result (λ fault. Survives old (state S.Store conn.new)
-        (λ trees. (fault ≡ Store) × MayHaveUpgraded old trees)) }
+        (λ trees. (fault ≡ Store) × MayHaveUpgraded from old trees)) }
 {
     connection_facts(conn);
-    match upgrade_tables(alloc, conn) {
+    match upgrade_tables(alloc, conn, from) {
         Ok(()) => Ok(()),
         Err(fault) => Err(fault_if_alive(conn, fault)),
     }

@@ -15,7 +15,7 @@ use Rattle.sqlite.specs.Does.{Tally, Does, lacks_sequence}
 use Rattle.sqlite.specs.Tree.{Trees}
 use Rattle.sqlite.specs.declared.error.Error.{Error}
 use Rattle.sqlite.specs.Listing.{understood}
-use Rattle.sqlite.specs.Effect.{Database}
+use Rattle.sqlite.specs.Effect.{Database, IsDatabase}
 use Rattle.sqlite.specs.State.{State, mode_of, Writes, Executes}
 use Rattle.sqlite.proofs.Callers.{IsPlain, command_of, statement_of, runs_as}
 use Rattle.sqlite.specs.Edit.{Edit, edit_of, edited}
@@ -40,7 +40,7 @@ use Rattle.space_sql_schema.specs.Spelling.{AreApart, IsStated, availability_val
 use Rattle.space_sql_schema.proofs.Means.{old_row_is, old_row_plain, first_row_is, first_row_plain}
 use Rattle.space_sql_schema.proofs.Steps.{cast_int, cast_null, inserts}
 use Rattle.space_sql_schema.specs.Making.{HasRows, IsBare, IsMade, SpellsEmptyAs}
-use Rattle.space_sql_schema.proofs.Steps.{went, same_value}
+use Rattle.space_sql_schema.proofs.Steps.{went, same_value, ok_map}
 
 -- The statement creates a table beside the others, whose rows stay.
 pub makes : (before after : Schema) (rows : Trees) (table : Table) (text : List ℕ) (old new : State) (r : Result ℕ Error) → rows (next_tree before) ≡ [] → command_of (understood before text) ≡ CreateTable → IsPlain (understood before text)
@@ -63,12 +63,12 @@ makes before after rows table text old new (Ok count) none is plain whole define
     let every = all-append (λ (t : Table). first.0.trees t.tree ≡ rows t.tree) before.tables (record table { tree = next_tree before } ∷ []) there (empty, tt) in
     subst (HasRows after rows) (sym now) (schema, subst (λ (s : Schema). AllByRecursion (λ t. first.0.trees t.tree ≡ rows t.tree) s.tables) after_is every)
 
--- The statement creates an index, and all rows stay.
-pub makes_index : (before after : Schema) (rows : Trees) (table : Table) (at : ℕ) (index : Index) (text : List ℕ) (old new : State) (r : Result ℕ Error) → command_of (understood before text) ≡ CreateIndex at → IsPlain (understood before text)
+-- The statement creates an index, and all rows stay. The rows also obey the new schema.
+pub makes_sound_index : (before after : Schema) (rows : Trees) (table : Table) (at : ℕ) (index : Index) (text : List ℕ) (old new : State) (r : Result ℕ Error) → command_of (understood before text) ≡ CreateIndex at → IsPlain (understood before text)
     → statement_of text (understood before text) ≡ text → slice_get before.tables at ≡ Some table → index_defined_by table text ≡ Ok index → indexed before table index ≡ after → after.tables ≡ before.tables
-    → Executes text [] old new r → HasRows before rows old.now → OnOk r (HasRows after rows new.now)
-makes_index before after rows table at index text old new (Err e) is plain whole listed defined after_is tables h has = tt
-makes_index before after rows table at index text old new (Ok count) is plain whole listed defined after_is tables h has =
+    → Executes text [] old new r → HasRows before rows old.now → OnOk r (HasRows after rows new.now × IsDatabase new.now)
+makes_sound_index before after rows table at index text old new (Err e) is plain whole listed defined after_is tables h has = tt
+makes_sound_index before after rows table at index text old new (Ok count) is plain whole listed defined after_is tables h has =
     let w = subst (λ t. Writes old new None (CreateIndex at) t [] count) whole (runs_as text [] old new before has.0 (CreateIndex at) is plain count h) in
     let at_schema = subst (λ s. Does old.step_limit (mode_of old) [] (record old.now { schema = s }) text None (CreateIndex at) (Ok (w.tally, new.now))) has.0 w.changed in
     let all = went (rw listed at at_schema) in
@@ -78,7 +78,13 @@ makes_index before after rows table at index text old new (Ok count) is plain wh
     let schema : all.0.schema ≡ after = made.is ∙ ap (indexed before table) same ∙ after_is in
     let now : new.now ≡ all.0 = ap (λ (p : Tally × Database). p.1) (same_value all.2) in
     let there = all_both (λ (t : Table). all.0.trees t.tree ≡ old.now.trees t.tree) (λ t. old.now.trees t.tree ≡ rows t.tree) (λ t. all.0.trees t.tree ≡ rows t.tree) (λ t p q. p ∙ q) before.tables made.rows has.1 in
-    subst (HasRows after rows) (sym now) (schema, subst (λ ts. AllByRecursion (λ (t : Table). all.0.trees t.tree ≡ rows t.tree) ts) (sym tables) there)
+    (subst (HasRows after rows) (sym now) (schema, subst (λ ts. AllByRecursion (λ (t : Table). all.0.trees t.tree ≡ rows t.tree) ts) (sym tables) there), w.sound)
+
+pub makes_index : (before after : Schema) (rows : Trees) (table : Table) (at : ℕ) (index : Index) (text : List ℕ) (old new : State) (r : Result ℕ Error) → command_of (understood before text) ≡ CreateIndex at → IsPlain (understood before text)
+    → statement_of text (understood before text) ≡ text → slice_get before.tables at ≡ Some table → index_defined_by table text ≡ Ok index → indexed before table index ≡ after → after.tables ≡ before.tables
+    → Executes text [] old new r → HasRows before rows old.now → OnOk r (HasRows after rows new.now)
+makes_index before after rows table at index text old new r is plain whole listed defined after_is tables h has =
+    ok_map r _ _ (makes_sound_index before after rows table at index text old new r is plain whole listed defined after_is tables h has) (λ it. it.0)
 
 abbrev source : ℕ → Row
 source format = Int (pos 1) ∷ Null ∷ Int (pos format) ∷ Int (pos 0) ∷ []

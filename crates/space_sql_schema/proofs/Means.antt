@@ -11,9 +11,9 @@ use Rattle.sqlite.specs.Command.TheVariants.{Insert, Update, CreateTable, Create
 use Rattle.sqlite.specs.Source.TheVariants.{Values}
 use Rattle.std.proofs.Common.{List}
 use Rattle.sqlite.specs.Term.{Term, lit, col}
-use Rattle.space_sql_schema.specs.Tables.{meta, entity, volume, cell, availability, cell_range, subscription, subscription_cell, subscription_cell_range, naming, first_schema, second_schema, dss_schema, no_schema, schema_1, schema_2, schema_3, schema_4, schema_5, schema_7, schema_8, schema_9}
+use Rattle.space_sql_schema.specs.Tables.{meta, entity, volume, cell, availability, cell_range, subscription, subscription_cell, subscription_cell_range, naming, naming_subscription, first_schema, unindexed_schema, second_schema, dss_schema, no_schema, schema_1, schema_2, schema_3, schema_4, schema_5, schema_7, schema_8, schema_9}
 use Rattle.space_sql_schema.proofs.Selecting.{query_of, is_one}
-use Rattle.space_sql_schema.proofs.Texts.{meta_text, entity_text, volume_text, cell_text, availability_text, range_text, old_row_text, first_row_text, subscription_text, subscription_cell_text, subscription_range_text, naming_text, set_format_text}
+use Rattle.space_sql_schema.proofs.Texts.{meta_text, entity_text, volume_text, cell_text, availability_text, range_text, old_row_text, first_row_text, subscription_text, subscription_cell_text, subscription_range_text, naming_text, naming_index_text, set_format_text}
 
 pub meta_is : table_defined_by meta_text ≡ Ok (meta 0)
 unfolding everything
@@ -112,9 +112,17 @@ pub subscription_range_made : (command_of (understood schema_8 subscription_rang
 unfolding understood everything
 subscription_range_made = (refl, (refl, refl), refl, refl)
 
-pub naming_made : (command_of (understood schema_9 naming_text) ≡ CreateTable) × IsPlain (understood schema_9 naming_text) × (statement_of naming_text (understood schema_9 naming_text) ≡ naming_text) × (created schema_9 (naming 0) ≡ second_schema)
+pub naming_made : (command_of (understood schema_9 naming_text) ≡ CreateTable) × IsPlain (understood schema_9 naming_text) × (statement_of naming_text (understood schema_9 naming_text) ≡ naming_text) × (created schema_9 (naming 0) ≡ unindexed_schema)
 unfolding understood everything
 naming_made = (refl, (refl, refl), refl, refl)
+
+pub naming_index_is : index_defined_by (naming 15) naming_index_text ≡ Ok (naming_subscription 0 15)
+unfolding everything
+naming_index_is = refl
+
+pub naming_index_made : (command_of (understood unindexed_schema naming_index_text) ≡ CreateIndex 7) × IsPlain (understood unindexed_schema naming_index_text) × (statement_of naming_index_text (understood unindexed_schema naming_index_text) ≡ naming_index_text) × (indexed unindexed_schema (naming 15) (naming_subscription 0 15) ≡ second_schema)
+unfolding understood everything
+naming_index_made = (refl, (refl, refl), refl, refl)
 
 abbrev pub format_row : List Term
 format_row = col 1 0 ∷ col 1 0 ∷ lit Null ∷ lit (Int (pos 2)) ∷ col 1 3 ∷ []

@@ -33,7 +33,7 @@ use Rattle.space_rows.proofs.SubRows.{one_sub}
 use Rattle.space_rows.proofs.Chunks.{one_flat, Borne, Differ, all_turned}
 use Rattle.sqlite.specs.Effect.{Database}
 use Rattle.space_sql_schema.specs.declared.format.Format.{Format}
-use Rattle.space_sql_schema.specs.declared.format.Format.TheVariants.{One, Two}
+use Rattle.space_sql_schema.specs.declared.format.Format.TheVariants.{One, TwoUnindexed, Two}
 use Rattle.space_sql_schema.specs.Tables.{format_number}
 use Rattle.space_sql_schema.specs.Laws.{OneAirspace}
 use Rattle.space_sql_schema.specs.Spelling.{SpellsAs, SubGroup, IsSubGroup, IsSubBefore, sub_pair_of, IsSubNumber, Names, Group, IsGroup, IsBefore, pair_of, naming_rows, naming_rows_of, meta_values, entity_values, volume_values, cell_values, availability_values, sub_values, sub_cell_values, entity_columns, six_columns, three_columns, meta_columns, sub_columns, five_columns, two_columns, later_rows}
@@ -296,6 +296,7 @@ one_serial f m n e = cc
 
 same_later : (format : Format) (D E : Database) → D.trees ≡ E.trees → (t : ℕ) → later_rows format D t ≡ later_rows format E t
 same_later One D E same t = refl
+same_later TwoUnindexed D E same t = ap (λ (db : Trees). db t) same
 same_later Two D E same t = ap (λ (db : Trees). db t) same
 
 -- Databases with the same rows represent at most one airspace of a format.

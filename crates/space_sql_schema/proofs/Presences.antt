@@ -1,18 +1,30 @@
 -- Proofs about the presence of tables in the schemas of the formats.
-use Rattle.std.proofs.Common.{◌≡◌, refl}
+use Rattle.std.proofs.Common.{◌≡◌, ◌∙◌, List, ap, ap₂, refl}
 use Rattle.sqlite_tied.specs.Compute.{everything}
-use Rattle.space_sql_schema.specs.Tables.{no_schema, first_schema, second_schema}
-use Rattle.space_sql_schema.specs.Presence.{presence_in}
-use Rattle.space_sql_schema.specs.declared.format.Format.TheVariants.{One, Two}
+use Rattle.space_sql_schema.specs.Tables.{no_schema, first_schema, unindexed_schema, second_schema}
+use Rattle.sqlite_schema.specs.declared.schema.Index.{Index}
+use Rattle.sqlite_schema.specs.declared.schema.Schema.{Schema}
+use Rattle.sqlite_schema.specs.declared.schema.Table.{Table}
+use Rattle.space_sql_schema.specs.Presence.{presence_among, presence_in}
+use Rattle.space_sql_schema.specs.declared.presence.Presence.{Presence}
+use Rattle.space_sql_schema.specs.declared.format.Format.TheVariants.{One, TwoUnindexed, Two}
 use Rattle.space_sql_schema.specs.declared.presence.Presence.TheVariants.{Missing, Whole}
 
-pub none_stands : presence_in no_schema.tables ≡ Missing
+pub none_stands : presence_in no_schema ≡ Missing
 none_stands = refl
 
-pub first_stands : presence_in first_schema.tables ≡ Whole One
+pub first_stands : presence_in first_schema ≡ Whole One
 unfolding everything
 first_stands = refl
 
-pub second_stands : presence_in second_schema.tables ≡ Whole Two
+pub unindexed_stands : presence_in unindexed_schema ≡ Whole TwoUnindexed
+unfolding everything
+unindexed_stands = refl
+
+pub second_stands : presence_in second_schema ≡ Whole Two
 unfolding everything
 second_stands = refl
+
+-- The presence among the tables and indexes of a schema is that of an equal one.
+pub seen_in : (own : Schema) {p : Presence} {s : Schema} {tables : List Table} {indexes : List Index} → p ≡ presence_among tables indexes → tables ≡ s.tables → indexes ≡ s.indexes → s ≡ own → p ≡ presence_in own
+seen_in own p tables indexes has = p ∙ ap₂ presence_among (tables ∙ ap (λ (s : Schema). s.tables) has) (indexes ∙ ap (λ (s : Schema). s.indexes) has)

@@ -135,6 +135,10 @@ pub leads_on : (old new : State) (sql : List ℕ) (params : Row) (r : Result ℕ
     → (HasCleanDisk new → IsTrue old.in_transaction → ExecutesInside 0 sql params old new r) → Survives old new (λ _. ⊥) → (Executes sql params old new r → A old.now → OnOk r (B new.now)) → Leads A B old new r
 leads_on old new sql params r X e A B ended off runs survives each = steps_by old new sql params r X e (λ before after. A before → B after) ended off runs survives (λ h. turned r (A old.now) (B new.now) (each h))
 
+-- A step is one for each result without an error.
+pub steps_as : {X Y : Type 0} (R : Database → Database → Type 0) (old new : State) (x : X) (y : Y) → making.Steps R old new (Ok x) → making.Steps R old new (Ok y)
+steps_as R old new x y p = record { done = p.done; kept = p.kept; survives = p.survives }
+
 -- A step that holds for each value holds for all values.
 pub of_all : {X T : Type 0} (r : Result X Error) (A B : T → Type 0) → ((t : T) → A t → OnOk r (B t)) → OnOk r ((t : T) → A t → B t)
 of_all (Ok x) A B f = f

@@ -37,5 +37,8 @@ subscription_range_text = codes "CREATE INDEX subscription_cell_range ON subscri
 abbrev pub naming_text : List ℕ
 naming_text = codes "CREATE TABLE naming (entity INTEGER PRIMARY KEY NOT NULL REFERENCES entity (num) ON DELETE CASCADE, subscription INTEGER NOT NULL REFERENCES subscription (num) ON DELETE RESTRICT) STRICT"
 
+abbrev pub naming_index_text : List ℕ
+naming_index_text = codes "CREATE INDEX naming_subscription ON naming (subscription)"
+
 abbrev pub set_format_text : List ℕ
 set_format_text = codes "UPDATE meta SET format = 2 WHERE one = 1"

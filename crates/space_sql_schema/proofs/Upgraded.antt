@@ -1,5 +1,5 @@
 -- Proofs that an upgrade to format 2 keeps the airspace that the tables represent.
-use Rattle.std.proofs.Common.{◌≡◌, [], map, sym, subst, ◌∙◌, pos, refl, ℤ}
+use Rattle.std.proofs.Common.{◌≡◌, [], ◌∷◌, map, ap, sym, subst, ◌∙◌, pos, refl, ℤ}
 use Rattle.std.specs.Prelude.{IsPermutation}
 use Rattle.std.specs.List.{flat_map}
 use Rattle.std.specs.FinMap.{entries}
@@ -7,10 +7,11 @@ use Rattle.sqlite.specs.Tree.{Trees}
 use Rattle.sqlite.specs.Effect.{Database, IsDatabase}
 use Rattle.sqlite.specs.State.{State}
 use Rattle.entity_core.specs.Airspace.{Airspace}
-use Rattle.space_sql_schema.specs.declared.format.Format.TheVariants.{One, Two}
-use Rattle.space_sql_schema.specs.Tables.{first_schema}
-use Rattle.space_sql_schema.specs.Spelling.{SpellsAs, AreApart, SubGroup, Group, naming_rows_of, entity_values, volume_values, cell_values, availability_values, entity_columns, six_columns, three_columns, sub_values, sub_columns, sub_cell_values, five_columns, two_columns}
-use Rattle.space_sql_schema.specs.Making.{HasMeta, IsUpgraded, MayBeUpgraded, Upgrades}
+use Rattle.space_sql_schema.specs.declared.format.Format.{Format}
+use Rattle.space_sql_schema.specs.declared.format.Format.TheVariants.{One, TwoUnindexed, Two}
+use Rattle.space_sql_schema.specs.Tables.{first_schema, unindexed_schema, second_schema, schema_of, format_number}
+use Rattle.space_sql_schema.specs.Spelling.{SpellsAs, AreApart, later_rows, meta_columns, meta_values, SubGroup, Group, naming_rows_of, entity_values, volume_values, cell_values, availability_values, entity_columns, six_columns, three_columns, sub_values, sub_columns, sub_cell_values, five_columns, two_columns}
+use Rattle.space_sql_schema.specs.Making.{AddsIndex, HasMeta, HasRows, IsUpgraded, MayBeUpgraded, Upgrades}
 use Rattle.space_sql_schema.proofs.Making.{none_apart}
 
 pub spells_upgraded : (old new : Database) (a : Airspace) → SpellsAs One old a → IsUpgraded old.trees new → SpellsAs Two new a
@@ -75,3 +76,79 @@ upgraded_again old new upgrades a p =
 
 pub may_be_upgraded : (old last : State) → Upgrades old.now last.now → (db : Trees) → db ≡ last.now.trees → MayBeUpgraded old db
 may_be_upgraded old last upgrades db is a p = let it = upgraded_again old.now last.now upgrades a p in (last.now, is, it.0, it.1)
+
+-- ---- the index on `naming`
+
+-- Holds if the second database has the schema of its format, and the rows of the first one.
+pub record SameRows (own other : Format) (old new : Database) : Type 0 where
+  pub schema : new.schema ≡ schema_of other
+  pub number : format_number own ≡ format_number other
+  pub meta : new.trees 0 ≡ old.trees 0
+  pub entities : new.trees 1 ≡ old.trees 1
+  pub volumes : new.trees 3 ≡ old.trees 3
+  pub cells : new.trees 5 ≡ old.trees 5
+  pub availabilities : new.trees 8 ≡ old.trees 8
+  pub subs : later_rows other new 10 ≡ later_rows own old 10
+  pub sub_cells : later_rows other new 12 ≡ later_rows own old 12
+  pub namings : later_rows other new 15 ≡ later_rows own old 15
+
+pub respelt : (own other : Format) (old new : Database) (a : Airspace) → SameRows own other old new → SpellsAs own old a → SpellsAs other new a
+respelt own other old new a it p = record {
+  schema = it.schema;
+  meta = ap (map meta_columns) it.meta ∙ p.meta ∙ ap (λ n. meta_values n a.serial ∷ []) it.number;
+  most = p.most;
+  subs = p.subs;
+  subs_rising = p.subs_rising;
+  each_sub = p.each_sub;
+  sub_rows = subst (λ rows. IsPermutation (map (λ (s : SubGroup). sub_values s.row) p.subs) (map sub_columns rows)) (sym it.subs) p.sub_rows;
+  sub_cells = subst (λ rows. IsPermutation (flat_map (λ (s : SubGroup). map sub_cell_values s.cells) p.subs) (map five_columns rows)) (sym it.sub_cells) p.sub_cells;
+  subs_kept = p.subs_kept;
+  groups = p.groups;
+  rising = p.rising;
+  each = p.each;
+  entities = subst (λ rows. IsPermutation (map (λ (g : Group). entity_values g.row) p.groups) (map entity_columns rows)) (sym it.entities) p.entities;
+  volumes = subst (λ rows. IsPermutation (flat_map (λ (g : Group). map volume_values g.volumes) p.groups) (map six_columns rows)) (sym it.volumes) p.volumes;
+  cells = subst (λ rows. IsPermutation (flat_map (λ (g : Group). map cell_values g.cells) p.groups) (map six_columns rows)) (sym it.cells) p.cells;
+  namings = subst (λ rows. IsPermutation (flat_map naming_rows_of p.groups) (map two_columns rows)) (sym it.namings) p.namings;
+  kept = p.kept;
+  availabilities = subst (λ rows. IsPermutation (map availability_values (entries a.availabilities)) (map three_columns rows)) (sym it.availabilities) p.availabilities;
+  stated = p.stated;
+  apart = (subst AreApart (sym it.volumes) p.apart.0, subst AreApart (sym it.cells) p.apart.1, subst AreApart (sym it.availabilities) p.apart.2, subst AreApart (sym it.sub_cells) p.apart.3);
+}
+
+abbrev all_rows : (db : Database) → db.schema ≡ unindexed_schema → HasRows unindexed_schema db.trees db
+all_rows db has = (has, (refl, (refl, (refl, (refl, (refl, (refl, (refl, (refl, tt)))))))))
+
+-- The index changes no row.
+pub adds_index : (old new : Database) → AddsIndex old new → old.schema ≡ unindexed_schema → HasRows second_schema old.trees new × IsDatabase new
+adds_index old new adds has = adds old.trees (all_rows old has)
+
+-- With the index, the tables represent the same airspace.
+pub spells_indexed : (old new : Database) (a : Airspace) → HasRows second_schema old.trees new → SpellsAs TwoUnindexed old a → SpellsAs Two new a
+spells_indexed old new a has = respelt TwoUnindexed Two old new a (record {
+  schema = has.0;
+  number = refl;
+  meta = has.1.0;
+  entities = has.1.1.0;
+  volumes = has.1.1.1.0;
+  cells = has.1.1.1.1.0;
+  availabilities = has.1.1.1.1.1.0;
+  subs = has.1.1.1.1.1.1.0;
+  sub_cells = has.1.1.1.1.1.1.1.0;
+  namings = has.1.1.1.1.1.1.1.1.0;
+})
+
+-- They represented it before.
+pub spelt_unindexed : (old new : Database) (a : Airspace) → old.schema ≡ unindexed_schema → HasRows second_schema old.trees new → SpellsAs Two new a → SpellsAs TwoUnindexed old a
+spelt_unindexed old new a schema has = respelt Two TwoUnindexed new old a (record {
+  schema = schema;
+  number = refl;
+  meta = sym has.1.0;
+  entities = sym has.1.1.0;
+  volumes = sym has.1.1.1.0;
+  cells = sym has.1.1.1.1.0;
+  availabilities = sym has.1.1.1.1.1.0;
+  subs = sym has.1.1.1.1.1.1.0;
+  sub_cells = sym has.1.1.1.1.1.1.1.0;
+  namings = sym has.1.1.1.1.1.1.1.1.0;
+})

@@ -11,7 +11,7 @@ use Rattle.sqlite.specs.declared.error.Error.{Error}
 use Rattle.entity_core.specs.Airspace.{Airspace, empty_at}
 use Rattle.space_sql_schema.specs.declared.format.Format.{Format}
 use Rattle.space_sql_schema.specs.declared.format.Format.TheVariants.{One, Two}
-use Rattle.space_sql_schema.specs.Tables.{no_schema, first_schema, second_schema}
+use Rattle.space_sql_schema.specs.Tables.{no_schema, first_schema, unindexed_schema, second_schema}
 use Rattle.space_sql_schema.specs.Spelling.{SpellsAs, meta_columns}
 use Rattle.space_sql_schema.specs.Trees.{meta_tree, entity_tree, volume_tree, cell_tree, availability_tree, subscription_tree, subscription_cell_tree, naming_tree}
 
@@ -101,6 +101,13 @@ first_rows trees t = if nat_lt t subscription_tree then trees t else []
 abbrev pub AddsTables : (before after : Schema) → Database → Database → Type 0
 AddsTables before after old new =
     (trees : Trees) → HasRows before (first_rows trees) old → HasRows after (first_rows trees) new
+
+-- Holds if the statements add the index on `naming` to tables of format 2. All rows stay, whatever
+-- they are.
+abbrev pub AddsIndex : Database → Database → Type 0
+AddsIndex old new =
+    (trees : Trees) → HasRows unindexed_schema trees old
+    → HasRows second_schema trees new × IsDatabase new
 
 -- Holds if `meta` has one row, with this format and this serial.
 abbrev pub HasMeta : ℕ → ℤ → List Row → Type 0

@@ -25,7 +25,7 @@ use Rattle.space_rows.specs.declared.rows.SubCellRow.{SubCellRow}
 use Rattle.space_rows.specs.Rows.{SpellsEntity}
 use Rattle.space_rows.specs.Subs.{SpellsSub}
 use Rattle.space_sql_schema.specs.declared.format.Format.{Format}
-use Rattle.space_sql_schema.specs.declared.format.Format.TheVariants.{One, Two}
+use Rattle.space_sql_schema.specs.declared.format.Format.TheVariants.{One, TwoUnindexed, Two}
 use Rattle.space_sql_schema.specs.Tables.{schema_of, format_number}
 use Rattle.space_sql_schema.specs.Trees.{meta_tree, entity_tree, volume_tree, cell_tree, availability_tree, subscription_tree, subscription_cell_tree, naming_tree}
 
@@ -176,6 +176,7 @@ AreApart rows = (ids : List ℤ) × IsAscending (λ m n. int_cmp m n ≡ Less) i
 -- The rows of a table that format 2 added. In format 1 there are none.
 abbrev pub later_rows : Format → Database → ℕ → List Row
 later_rows One db tree = []
+later_rows TwoUnindexed db tree = db.trees tree
 later_rows Two db tree = db.trees tree
 
 -- Holds if the tables are exactly those of the format, and they represent the airspace. The table

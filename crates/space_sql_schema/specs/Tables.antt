@@ -17,7 +17,7 @@ use Rattle.sqlite_sql.specs.declared.ops.CompareOp.TheVariants.{Eq, Ge, Le}
 use Rattle.sqlite_value.specs.Keys.{plain}
 use Rattle.sqlite_catalog.specs.Listing.{automatic}
 use Rattle.space_sql_schema.specs.declared.format.Format.{Format}
-use Rattle.space_sql_schema.specs.declared.format.Format.TheVariants.{One, Two}
+use Rattle.space_sql_schema.specs.declared.format.Format.TheVariants.{One, TwoUnindexed, Two}
 use Rattle.space_sql_schema.specs.Trees.{meta_tree, entity_tree, volume_tree, cell_tree, availability_tree, subscription_tree, subscription_cell_tree, naming_tree}
 
 -- ---- columns and checks; the columns of a row count from 1
@@ -199,6 +199,18 @@ subscription_cell_range tree table = record {
   is_unique = false;
 }
 
+-- The index on `subscription` of the table `naming`. By it, the deletion of a row of `subscription`
+-- finds the rows that refer to it.
+abbrev pub naming_subscription : ℕ → ℕ → Index
+naming_subscription tree table = record {
+  name = codes "naming_subscription";
+  tree = tree;
+  table = table;
+  columns = 2 ∷ [];
+  order = plain;
+  is_unique = false;
+}
+
 -- The index that enforces the first unique constraint of a table.
 abbrev pub key_index : Table → List ℕ → ℕ → Index
 key_index table columns tree = automatic table 0 columns tree
@@ -210,7 +222,7 @@ no_schema = record { tables = []; indexes = []; views = [] }
 
 -- The schema with exactly the tables of format 1. Each table and each index has its tree, in the
 -- order of their creation: those of the tables have names, those of the indexes are 2, 4, 6, 7, 9,
--- 11, 13 and 14.
+-- 11, 13, 14 and 16.
 abbrev pub first_schema : Schema
 first_schema = record {
   tables = meta meta_tree ∷ entity entity_tree ∷ volume volume_tree ∷ cell cell_tree
@@ -228,9 +240,10 @@ abbrev pub later_tables : List Table
 later_tables = subscription subscription_tree ∷ subscription_cell subscription_cell_tree
     ∷ naming naming_tree ∷ []
 
--- The schema with exactly the tables of format 2: those of format 1, followed by three more.
-abbrev pub second_schema : Schema
-second_schema = record {
+-- The schema with exactly the tables of format 2: those of format 1, followed by three more. It
+-- lacks the index on `naming`, as earlier versions created it.
+abbrev pub unindexed_schema : Schema
+unindexed_schema = record {
   tables = meta meta_tree ∷ entity entity_tree ∷ volume volume_tree ∷ cell cell_tree
       ∷ availability availability_tree ∷ subscription subscription_tree
       ∷ subscription_cell subscription_cell_tree ∷ naming naming_tree ∷ [];
@@ -245,13 +258,33 @@ second_schema = record {
   views = [];
 }
 
+-- The schema with exactly the tables of format 2, and the index on `naming` after them.
+abbrev pub second_schema : Schema
+second_schema = record {
+  tables = meta meta_tree ∷ entity entity_tree ∷ volume volume_tree ∷ cell cell_tree
+      ∷ availability availability_tree ∷ subscription subscription_tree
+      ∷ subscription_cell subscription_cell_tree ∷ naming naming_tree ∷ [];
+  indexes =
+      key_index (entity entity_tree) (2 ∷ 3 ∷ []) 2
+      ∷ key_index (volume volume_tree) (1 ∷ 2 ∷ []) 4
+      ∷ key_index (cell cell_tree) (1 ∷ 2 ∷ 3 ∷ []) 6
+      ∷ cell_range 7 cell_tree ∷ key_index (availability availability_tree) (1 ∷ []) 9
+      ∷ key_index (subscription subscription_tree) (2 ∷ []) 11
+      ∷ key_index (subscription_cell subscription_cell_tree) (1 ∷ 2 ∷ []) 13
+      ∷ subscription_cell_range 14 subscription_cell_tree
+      ∷ naming_subscription 16 naming_tree ∷ [];
+  views = [];
+}
+
 abbrev pub schema_of : Format → Schema
 schema_of One = first_schema
+schema_of TwoUnindexed = unindexed_schema
 schema_of Two = second_schema
 
 -- The number of a format in `meta`.
 abbrev pub format_number : Format → ℕ
 format_number One = 1
+format_number TwoUnindexed = 2
 format_number Two = 2
 
 -- The schema of the current format.

@@ -1,15 +1,15 @@
 //! The presence of the tables of the formats in a database.
-ghost use Rattle.std.specs.Prelude.{◌≡◌};
+ghost use Rattle.std.specs.Prelude.{◌≡◌, codes};
 ghost use Rattle.std.specs.List.{list_any};
 ghost use Rattle.sqlite_schema.specs.Names.{same_name};
-ghost use Rattle.space_sql_schema.specs.Tables.{no_schema, first_schema, second_schema, later_tables, meta, entity, volume, cell, availability, subscription, subscription_cell, naming};
+ghost use Rattle.space_sql_schema.specs.Tables.{no_schema, first_schema, unindexed_schema, second_schema, later_tables, meta, entity, volume, cell, availability, subscription, subscription_cell, naming};
 ghost use Rattle.space_sql_schema.specs.Trees.{meta_tree, entity_tree, volume_tree, cell_tree, availability_tree, subscription_tree, subscription_cell_tree, naming_tree};
-ghost use Rattle.space_sql_schema.specs.declared.format.Format.TheVariants.{One, Two};
-ghost use Rattle.space_sql_schema.specs.Presence.{is_named, has_column, stands_for, has_all, has_some, presence_in};
+ghost use Rattle.space_sql_schema.specs.declared.format.Format.TheVariants.{One, TwoUnindexed, Two};
+ghost use Rattle.space_sql_schema.specs.Presence.{is_named, has_column, stands_for, has_all, has_some, has_naming_index, presence_among, presence_in};
 
 use crate::format::Format;
 use sqlite_schema::names::same_name;
-use sqlite_schema::schema::{Column, Schema, Table};
+use sqlite_schema::schema::{Column, Index, Schema, Table};
 
 /// The presence of the tables of the formats in a database.
 #[derive(Clone, Copy, Debug, PartialEq, Eq)]
@@ -19,7 +19,7 @@ pub enum Presence {
     /// Some tables exist, but others or some of their columns do not.
     Partial,
     /// All tables of a format exist, with their columns. For format 1, none of the later tables
-    /// exists.
+    /// exists. For format 2, the index on `naming` is looked for by its name.
     Whole(Format),
 }
 
@@ -224,12 +224,28 @@ fn has_some_later(tables: &[Table]) -> bool
     tables.iter().any(|t| is_later(t))
 }
 
-fn presence_in(tables: &[Table]) -> Presence
-    ensures { result ≡ presence_in tables.now }
+fn is_naming_index(index: &Index) -> bool
+    ensures { result ≡ same_name index.now.name (codes "naming_subscription") }
+{
+    same_name(index.name.as_slice(), b"naming_subscription")
+}
+
+fn has_naming_index(indexes: &[Index]) -> bool
+    ensures { result ≡ has_naming_index indexes.now }
+{
+    indexes.iter().any(|i| is_naming_index(i))
+}
+
+fn presence_among(tables: &[Table], indexes: &[Index]) -> Presence
+    ensures { result ≡ presence_among tables.now indexes.now }
 {
     if has_all(tables) {
         if has_all_later(tables) {
-            Presence::Whole(Format::Two)
+            if has_naming_index(indexes) {
+                Presence::Whole(Format::Two)
+            } else {
+                Presence::Whole(Format::TwoUnindexed)
+            }
         } else if has_some_later(tables) {
             Presence::Partial
         } else {
@@ -244,14 +260,17 @@ fn presence_in(tables: &[Table]) -> Presence
 
 /// Returns the presence of the tables of the formats in a schema.
 ///
-/// It ignores further tables, columns and constraints. It allocates nothing.
+/// It ignores further tables, columns, constraints and indexes. It allocates nothing.
 pub fn presence_of(schema: &Schema) -> Presence
-    ensures exact { result ≡ presence_in schema.now.tables }
+    ensures exact { result ≡ presence_in schema.now }
     ensures missing { schema.now ≡ no_schema → result ≡ Presence.Missing }
     ensures first { schema.now ≡ first_schema → result ≡ Presence.Whole One }
+    ensures unindexed { schema.now ≡ unindexed_schema → result ≡ Presence.Whole TwoUnindexed }
     ensures second { schema.now ≡ second_schema → result ≡ Presence.Whole Two }
 {
-    presence_in(schema.tables.as_slice())
+    let tables = schema.tables.as_slice();
+    let indexes = schema.indexes.as_slice();
+    presence_among(tables, indexes)
 }
 
 /// Returns true if a schema has the table `meta` with its columns. It allocates nothing.

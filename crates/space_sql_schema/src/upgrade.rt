@@ -2,8 +2,8 @@
 ghost use Rattle.std.specs.Prelude.{◌≡◌, false, OnOk, OnErr, IsTrue};
 ghost use Rattle.sqlite.specs.Held.{state};
 ghost use Rattle.sqlite.specs.State.{HasCleanDisk, Survives};
-ghost use Rattle.space_sql_schema.specs.Making.{AddsTables, AreUpgraded, IsUndone, MayBeUpgraded, SetsFormat, Steps, Upgrades};
-ghost use Rattle.space_sql_schema.specs.Tables.{first_schema, schema_7, schema_8, schema_9, second_schema};
+ghost use Rattle.space_sql_schema.specs.Making.{AddsIndex, AddsTables, AreUpgraded, IsUndone, MayBeUpgraded, SetsFormat, Steps, Upgrades};
+ghost use Rattle.space_sql_schema.specs.Tables.{first_schema, schema_7, schema_8, schema_9, unindexed_schema, second_schema};
 ghost use Rattle.space_sql_schema.specs.Within.{SameConnection, Within};
 
 use sqlite::{Alter, Connection, Error, Transaction};
@@ -52,12 +52,22 @@ fn make_subscription_range<S: Alter>(tx: &mut Transaction<'_, S>) -> Result<usiz
 fn make_naming<S: Alter>(tx: &mut Transaction<'_, S>) -> Result<usize, Error>
     ensures same_reference { SameConnection tx.old tx.new }
     ensures adds { Within S.Store tx.old tx.new
-        (Steps (AddsTables schema_9 second_schema)) result }
+        (Steps (AddsTables schema_9 unindexed_schema)) result }
 {
     tx.execute(
         "CREATE TABLE naming (\
          entity INTEGER PRIMARY KEY NOT NULL REFERENCES entity (num) ON DELETE CASCADE, \
          subscription INTEGER NOT NULL REFERENCES subscription (num) ON DELETE RESTRICT) STRICT",
+        &[],
+    )
+}
+
+fn make_naming_index<S: Alter>(tx: &mut Transaction<'_, S>) -> Result<usize, Error>
+    ensures same_reference { SameConnection tx.old tx.new }
+    ensures adds { Within S.Store tx.old tx.new (Steps AddsIndex) result }
+{
+    tx.execute(
+        "CREATE INDEX naming_subscription ON naming (subscription)",
         &[],
     )
 }
@@ -83,21 +93,41 @@ fn make_subscriptions<S: Alter>(tx: &mut Transaction<'_, S>) -> Result<(), Error
 fn make_others<S: Alter>(tx: &mut Transaction<'_, S>) -> Result<(), Error>
     ensures same_reference { SameConnection tx.old tx.new }
     ensures adds { Within S.Store tx.old tx.new
-        (Steps (AddsTables schema_8 second_schema)) result }
+        (Steps (AddsTables schema_8 unindexed_schema)) result }
 {
     make_subscription_range(tx)?;
     make_naming(tx)?;
     Ok(())
 }
 
-/// Creates the tables of format 2 that format 1 does not have.
+// Creates the tables of format 2 that format 1 does not have.
+fn make_unindexed<S: Alter>(tx: &mut Transaction<'_, S>) -> Result<(), Error>
+    ensures same_reference { SameConnection tx.old tx.new }
+    ensures adds { Within S.Store tx.old tx.new
+        (Steps (AddsTables first_schema unindexed_schema)) result }
+{
+    make_subscriptions(tx)?;
+    make_others(tx)?;
+    Ok(())
+}
+
+/// Adds the index on `naming` to tables of format 2, within an open transaction. The rows stay.
+pub fn add_index<S: Alter>(tx: &mut Transaction<'_, S>) -> Result<(), Error>
+    ensures same_reference { SameConnection tx.old tx.new }
+    ensures adds { Within S.Store tx.old tx.new (Steps AddsIndex) result }
+{
+    make_naming_index(tx)?;
+    Ok(())
+}
+
+/// Creates the tables of format 2 that format 1 does not have, and the index on `naming`.
 pub(crate) fn make_later<S: Alter>(tx: &mut Transaction<'_, S>) -> Result<(), Error>
     ensures same_reference { SameConnection tx.old tx.new }
     ensures adds { Within S.Store tx.old tx.new
         (Steps (AddsTables first_schema second_schema)) result }
 {
-    make_subscriptions(tx)?;
-    make_others(tx)?;
+    make_unindexed(tx)?;
+    add_index(tx)?;
     Ok(())
 }
 

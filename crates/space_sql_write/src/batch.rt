@@ -64,7 +64,7 @@ pub fn commit_batch<S: Alter>(
         old (state S.Store conn.new) result }
     ensures numbers { let old = state S.Store conn.old in
         HoldsAcrossChange (FitAll (first.now ∷ rest.now))
-            (KeepsNumbersThroughout (first.now ∷ rest.now))
+        (KeepsNumbersThroughout (first.now ∷ rest.now))
         old (state S.Store conn.new) result }
 {
     let mut tx = conn.transaction();

@@ -49,7 +49,7 @@ pub(crate) fn update_sub_row<S: Alter>(
     ensures updates { let num = row.now.num in
         Within S.Store tx.old tx.new
         (Runs (λ _. Relays (HasSub num) (λ l.
-            with_sub_row row.now (without_sub_row num l)))) result }
+        with_sub_row row.now (without_sub_row num l)))) result }
 {
     tx.execute(
         "UPDATE subscription SET id = ?2, manager = ?3, serial = ?4, version = ?5, notes = ?6, \

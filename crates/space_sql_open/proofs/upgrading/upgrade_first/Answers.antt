@@ -4,9 +4,10 @@ use Rattle.space_sql_schema.specs.Tables.{dss_schema, first_schema}
 use Rattle.space_sql_open.specs.FirstMeta.{SaysMeta}
 use Rattle.space_sql_open.specs.Upgrading.{Judges, Rewrites}
 use Rattle.space_sql_open.specs.Opening.{UpgradesFormat}
+use Rattle.space_sql_open.specs.declared.old_format.OldFormat.TheVariants.{One}
 use Rattle.space_sql_open.proofs.Insides.{inside_then}
 use Rattle.space_sql_open.proofs.Moves.{HasMovedOk, has_moved, moved_schema, moves, same_schema}
-use Rattle.space_sql_open.proofs.upgrading.upgrade_inside.Goals as goal
+use Rattle.space_sql_open.proofs.upgrading.upgrade_first.Goals as goal
 
 pub returns-in-Ok-rewrite-clause-moves : goal.returns-in-Ok-rewrite-clause-moves
 returns-in-Ok-rewrite-clause-moves g c =
@@ -15,4 +16,4 @@ returns-in-Ok-rewrite-clause-moves g c =
     let d = state g.S.Store c.rewrite.new.tx.conn.now in
     let e = state g.S.Store c.check_upgraded.new.tx.conn.now in
     let made = inside_then first_schema first_schema SaysMeta Rewrites HasMovedOk a b d (Ok tt) (Ok tt) (Ok tt) (λ has said. same_schema a.now b.now said has) (λ has said rewrote. has_moved a.now b.now d.now tt tt has said rewrote) c.in-Ok.ensures.says c.in-Ok-rewrite.ensures.rewrites in
-    inside_then first_schema dss_schema HasMovedOk Judges UpgradesFormat a d e (Ok tt) c.check_upgraded.result c.check_upgraded.result (λ has made. moved_schema a.now d.now made) (λ has made judged. moves a.now d.now e.now c.check_upgraded.result made judged) made c.check_upgraded.ensures.judges
+    inside_then first_schema dss_schema HasMovedOk Judges (UpgradesFormat One) a d e (Ok tt) c.check_upgraded.result c.check_upgraded.result (λ has made. moved_schema a.now d.now made) (λ has made judged. moves a.now d.now e.now c.check_upgraded.result made judged) made c.check_upgraded.ensures.judges
