@@ -74,7 +74,7 @@ class AdminService(Service):
         super().start()
         self.listening += f"dss: admin port on 127.0.0.1:{self.admin}\n".encode()
         until = time.monotonic() + self.patience
-        while (self.folder / "errors").read_bytes() != self.listening:
+        while not (self.folder / "errors").read_bytes().startswith(self.listening):
             if time.monotonic() > until:
                 raise OSError(f"what it tells: {(self.folder / 'errors').read_text()}")
             time.sleep(0.005)
@@ -249,7 +249,7 @@ def counts():
         body = text.partition(b"\r\n\r\n")[2].decode()
         found += difference("types", dict(re.findall(r"^# TYPE (\S+) (\S+)$", body, re.M)), NAMES)
         found += difference("helps", sorted(re.findall(r"^# HELP (\S+) \S", body, re.M)), sorted(NAMES))
-        lines = [it for it in body.splitlines() if not re.fullmatch(r'# (HELP|TYPE) .*|dss_\w+(\{\w+="[^"]*"(,\w+="[^"]*")*\})? \d+', it)]
+        lines = [it for it in body.splitlines() if not re.fullmatch(r'# (HELP|TYPE) .*|(dss|process)_\w+(\{\w+="[^"]*"(,\w+="[^"]*")*\})? \d+(\.\d+)?', it)]
         found += difference("lines of no form", lines, [])
         first = started.counted()
         found += difference("when it started", before - SECONDS < int(first["dss_start_time_seconds"]) <= before + 1, True)
