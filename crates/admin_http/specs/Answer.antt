@@ -7,8 +7,10 @@ use Rattle.admin_http.specs.declared.admin_route.AdminRequest.TheVariants.{Does,
 use Rattle.admin_http.specs.declared.admin_route.Health.{Health}
 use Rattle.admin_http.specs.declared.admin_route.Health.TheVariants as state
 use Rattle.admin_http.specs.declared.backup.BackupResult.{BackupResult}
+use Rattle.admin_http.specs.declared.web_page.Forbidden.{Forbidden}
 use Rattle.admin_http.specs.AdminRequest.{method_of, status_of}
 use Rattle.admin_http.specs.BackupResult as backups
+use Rattle.admin_http.specs.WebPage as pages
 use Rattle.wire_head.specs.Lines.{length_line, line, status_line}
 
 -- The media type of a body: the one that Prometheus defines for metrics, and JSON for the airspace.
@@ -18,6 +20,7 @@ type_of (Some page.Health) = codes "text/plain; charset=utf-8"
 type_of (Some page.Stop) = codes "text/plain; charset=utf-8"
 type_of (Some page.Backup) = codes "text/plain; charset=utf-8"
 type_of (Some page.Airspace) = codes "application/json"
+type_of (Some page.ResumePurges) = codes "text/plain; charset=utf-8"
 type_of None = codes "text/plain; charset=utf-8"
 
 unfoldable pub type_line : List ℕ → List ℕ
@@ -45,6 +48,8 @@ text_of status media refused body = front_of status media refused (length body) 
 -- The body that gives the health of the service.
 abbrev pub words_of : Health → List ℕ
 words_of state.Serving = codes "serving\n"
+words_of state.Degraded =
+    codes "degraded: purges are held; check the clock, then POST /purge/resume\n"
 words_of state.Failing = codes "failing: the last commit failed\n"
 words_of state.Stopped = codes "stopped: the database failed; restart the service\n"
 words_of state.Stopping = codes "stopping: a stop was requested\n"
@@ -62,6 +67,8 @@ Answers (Does page.Backup) health text =
     text ≡ text_of (status_of (Does page.Backup) health) (type_of None) None (codes "no such path\n")
 Answers (Does page.Airspace) health text =
     text ≡ text_of (status_of (Does page.Airspace) health) (type_of None) None (codes "no snapshot\n")
+Answers (Does page.ResumePurges) health text =
+    text ≡ text_of (status_of (Does page.ResumePurges) health) (type_of None) None (codes "resumed\n")
 Answers (Refuses p) health text =
     (body : List ℕ) × (text ≡ text_of (status_of (Refuses p) health) (type_of None) (Some p) body)
 Answers Unknown health text =
@@ -71,3 +78,7 @@ Answers Unknown health text =
 abbrev pub AnswersBackup : BackupResult → (text : List ℕ) → Type 0
 AnswersBackup backup text =
     text ≡ text_of (backups.status_of backup) (type_of None) None (backups.words_of backup)
+
+-- Holds if this is the response to a forbidden request, given the reason.
+abbrev pub AnswersForbidden : Forbidden → (text : List ℕ) → Type 0
+AnswersForbidden why text = text ≡ text_of 403 (type_of None) None (pages.text_of why)

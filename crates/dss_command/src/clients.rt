@@ -8,24 +8,27 @@ ghost use Rattle.dss_command.specs.Fault.{EndsServing, TellsClient};
 ghost use Rattle.dss_command.specs.Service.{ServesClients};
 
 use crate::aborted_connection::print_aborted;
+use crate::clock_lines::{print_clock_event, print_removed};
 use crate::fault::{Fault, io_fault, print_fault};
 use crate::request_log::{LogFile, RequestLog};
 use crate::store_lines::print_store_event;
-use crate::tokens::print_reload_fault;
+use crate::token_files::print_token_check;
+use crate::tokens::{has_error_lines, print_reload_fault};
 use admin_http::build::BuildInfo;
+use admin_http::web_page::OwnHosts;
 use dss_args::version::{KIT, VERSION};
 use dss_server::serve::serve_clients;
 use entity_core::salt::Salt;
 use server_base::limits::Limits;
 use server_base::server_log::{
-    AbortedConnection, LoggedRequest, ServerLog, StoreEvent, TokenReloadFault,
+    AbortedConnection, ClockEvent, LoggedRequest, ServerLog, StoreEvent, TokenReloadFault,
 };
 use server_base::sockets::Sockets;
 use server_watch::token_watch::{TokenSource, TokenWatch};
 use service_calls::service::Service;
 use space_core::purge_ended::PurgeEnded;
 use space_snapshot::snapshot::SnapshotSource;
-use std::alloc::Global;
+use std::alloc::{AllocError, Global};
 use std::io;
 use std::io::Write;
 use std::net::Ipv4Addr;
@@ -68,10 +71,12 @@ pub fn print_accept_failed<E: Write>(error: &mut E) -> io::Result<()>
     )
 }
 
-// The server log: the access log, if there is one, and a line for each fault of a client and of the
-// token file. If `verbose`, also a line for each change of the store's state.
+// The server log: the access log, if there is one, and a line for each fault of a client, of the
+// token file and of the clock. If `verbose`, also a line for each change of the store's state, and
+// for each purge that removed something.
 #[derive(Drop)]
 struct Lines<'a, E: Write, L> {
+    alloc: Global,
     error: &'a mut E,
     log: Option<RequestLog<L>>,
     verbose: bool,
@@ -98,8 +103,14 @@ impl<'a, E: Write, L: LogFile> ServerLog for Lines<'a, E, L> {
         }
     }
 
-    fn tokens_rejected(&mut self, fault: TokenReloadFault) {
+    fn tokens_rejected(&mut self, fault: TokenReloadFault, checked: &[u8]) {
         let _ = print_reload_fault(fault, self.error);
+        if self.verbose
+            && has_error_lines(fault)
+            && let Ok(text) = str::from_utf8(checked)
+        {
+            let _ = print_token_check(self.alloc, text, self.error);
+        }
     }
 
     fn accept_failed(&mut self) {
@@ -109,6 +120,16 @@ impl<'a, E: Write, L: LogFile> ServerLog for Lines<'a, E, L> {
     fn store_event(&mut self, news: StoreEvent) {
         if self.verbose {
             let _ = print_store_event(news, self.error);
+        }
+    }
+
+    fn clock_event(&mut self, news: ClockEvent) {
+        let _ = print_clock_event(news, self.error);
+    }
+
+    fn purged(&mut self, count: usize) {
+        if self.verbose {
+            let _ = print_removed(count, self.error);
         }
     }
 }
@@ -145,6 +166,9 @@ pub struct ServeConfig<'a> {
     pub limits: Limits,
     /// The retention of what has ended in seconds; nothing is purged if `None`.
     pub keep: Option<u64>,
+    /// The time of the last change of the database before the start, if it is known, in Unix
+    /// seconds.
+    pub changed: Option<u64>,
     /// The admin port, if there is one.
     pub operated: Option<AdminListener>,
     /// True if failed commits and their recovery are reported, too.
@@ -170,16 +194,28 @@ pub trait Listen {
 }
 
 // Returns the build information for the admin port.
-fn build_of(operated: Option<AdminListener>) -> Option<BuildInfo<'static>>
+fn build_of(operated: Option<AdminListener>, hosts: &Option<OwnHosts>) -> Option<BuildInfo<'_>>
     ensures { IsSome result → IsSome operated }
 {
-    match operated {
-        Some(AdminListener { port: _, started }) => Some(BuildInfo {
+    match (operated, hosts) {
+        (Some(AdminListener { port: _, started }), Some(hosts)) => Some(BuildInfo {
             started,
             version: VERSION,
             kit: KIT,
+            hosts,
         }),
-        None => None,
+        _ => None,
+    }
+}
+
+// Returns the values of the field `Host` that name the admin port.
+fn hosts_of(
+    alloc: Global,
+    operated: Option<AdminListener>,
+) -> Result<Option<OwnHosts>, AllocError> {
+    match operated {
+        Some(operated) => Ok(Some(OwnHosts::new(alloc, operated.port)?)),
+        None => Ok(None),
     }
 }
 
@@ -204,6 +240,7 @@ fn serve_sockets<
     salt: Salt,
     routes: &Routes,
     given: ServeConfig<'_>,
+    build: Option<BuildInfo<'_>>,
     watch: TokenWatch<T>,
     moments: &mut M,
     sockets: N,
@@ -212,8 +249,7 @@ fn serve_sockets<
     requires { salt ≡ salt_of given.tokens.now }
     ensures served { ServesClients S.Space S.GroupCommit.own M.Moments T.gives
         given.entry.keep given.entry.tokens.now space result.1 moments.old moments.new }
-    ensures counted { OnOk result.0 (IsSome given.entry.limits.count
-        ⊎ IsSome given.entry.operated) }
+    ensures counted { OnOk result.0 (IsSome given.entry.limits.count ⊎ IsSome build.entry) }
 {
     let mut service = Service::new(space, salt);
     let served = serve_clients(
@@ -226,7 +262,8 @@ fn serve_sockets<
         sockets,
         given.limits,
         given.keep,
-        build_of(given.operated),
+        given.changed,
+        build,
         journal,
     );
     (end_of_serving(served), service.into_space())
@@ -268,6 +305,9 @@ pub fn serve_port<
     let Ok(routes) = Routes::new(alloc) else {
         return (Err(Fault::Memory), space);
     };
+    let Ok(hosts) = hosts_of(alloc, given.operated) else {
+        return (Err(Fault::Memory), space);
+    };
     let log = listener.log();
     let sockets = match listener.listen(given.address, given.port, operators_port(given.operated)) {
         Ok(sockets) => sockets,
@@ -278,6 +318,7 @@ pub fn serve_port<
         let _ = print_admin_listening(operated.port, error);
     }
     let mut journal = Lines {
+        alloc,
         error,
         log: log.map(|file| RequestLog::new(alloc, file)),
         verbose: given.verbose,
@@ -288,6 +329,7 @@ pub fn serve_port<
         salt,
         &routes,
         given,
+        build_of(given.operated, &hosts),
         watch,
         moments,
         sockets,
