@@ -643,7 +643,7 @@ def what_changed(files, program):
             assert read(unknown)[1]["is_all"], unknown
         assert '"ovn"' not in json.dumps(all_of)
         plain = place.gateway.ask(place.viewer, "GET", "/map/ground.json")
-        assert "Content-Encoding" not in plain.headers and packed(place, "/map/ground.json")[0] < 150_000
+        assert "Content-Encoding" not in plain.headers and packed(place, "/map/ground.json")[0] < 165_000
     with over_map(files, program) as place:
         name, _ = put_intent(place, extent(MANHATTAN, 0, 100, now, now + 3600))
         settled(place, 1)
