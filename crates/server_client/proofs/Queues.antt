@@ -5,7 +5,7 @@ use Rattle.std.proofs.Math.Nat.{eq-or-lt_of_le}
 use Rattle.std.proofs.lemmas.List.{get_or-set_same, length-set}
 use Rattle.std.proofs.lemmas.List.Elements.{Contains-append_right}
 use Rattle.std.proofs.lemmas.Option.{slice_get_read, slice_get_within}
-use Rattle.server_client.specs.FairQueue.{IsNext, may_be_next}
+use Rattle.server_client.specs.FairQueue.{IsNext, IsPicked, may_be_next, waiting_in}
 use Rattle.server_client.specs.declared.fair_queue.FairQueue.{FairQueue}
 use Rattle.server_client.specs.declared.fair_queue.UssClass.{UssClass}
 
@@ -65,4 +65,14 @@ next_is queue least index h (class, at, may, is) = (
   at,
   may,
   λ other rival there ready. (let old = h other rival (slice_get_within queue.classes.items other rival there) there ready in omega (arith, old, is)),
+)
+
+-- A client that waits in the next class may be picked.
+pub picked_next : (queue : FairQueue) (index key : ℕ) (class : UssClass) → IsNext queue index → slice_get queue.classes.items index ≡ Some class → Contains (waiting_in class) key → IsPicked queue index key
+picked_next queue index key class (next, at, may, least) there waits = (
+  next,
+  at,
+  may,
+  least,
+  subst (λ (c : UssClass). Contains (waiting_in c) key) (same_class queue index next class at there) waits,
 )
