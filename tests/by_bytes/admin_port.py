@@ -29,7 +29,7 @@ IDLE = 1.2
 # The names of the metrics, with their types.
 NAMES = {
     "dss_connections_open": "gauge", "dss_connections_accepted_total": "counter", "dss_connections_refused_total": "counter",
-    "dss_connections_failed_total": "counter", "dss_requests_total": "counter", "dss_response_bytes_total": "counter",
+    "dss_accept_failures_total": "counter", "dss_connections_failed_total": "counter", "dss_requests_total": "counter", "dss_response_bytes_total": "counter",
     "dss_large_requests_waiting": "gauge", "dss_start_time_seconds": "gauge", "dss_build_info": "gauge",
     "dss_requests_denied_total": "counter", "dss_request_duration_seconds": "histogram",
     "dss_store_failures_total": "counter", "dss_memory_failures_total": "counter", "dss_clock_failures_total": "counter",

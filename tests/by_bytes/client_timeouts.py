@@ -13,10 +13,13 @@ import wire
 # Seconds that a client may take before its first request, be idle, take for a request, and take nothing of a response;
 # and those that a busy machine adds.
 FIRST, IDLE, SENDING, TAKING, MORE = 10, 60, 30, 30, 6
+# The seconds after which a request over 64 KiB has a minimum rate, and a rate above it in bytes per second.
+RATED, RATE = 5, 8_192
 # Seconds in which another client gets its response.
 AT_ONCE = 2
 READS, WRITES = b"dss: stream: fault 1 Read\n", b"dss: stream: fault 2 Write\n"
 PUT = wire.request("PUT", f"{wire.AVAILABILITY}/uss-b", "Bearer tok-v", b'{"old_version":"","availability":"Down"}')
+LARGE = wire.request("PUT", f"{wire.AVAILABILITY}/uss-b", "Bearer tok-v", b'{"old_version":"none","availability":"Down","x":"%s"}' % (b"x" * 150_000))
 # Responses about these take more than the buffers of both sides hold.
 STORED_INTENTS, FAR = 300, 4_000_000_000
 
@@ -49,6 +52,16 @@ def beside(name, sent, bound, answers=b"", faults=b"", slowly=False):
             if dripping:
                 dripping.result()
         return found + difference(f"{name}: the service", started.ended(), (0, b"", started.listening + faults))
+
+
+def steady():
+    """A large request that arrives above the minimum rate is answered."""
+    with Service() as started, started.connect() as connection:
+        connection.sendall(LARGE[:80_000])
+        for at in range(80_000, len(LARGE), RATE):
+            time.sleep(1)
+            connection.sendall(LARGE[at : at + RATE])
+        return difference("steady", connection.recv(12), b"HTTP/1.1 409")
 
 
 def stored_intents():
@@ -87,7 +100,8 @@ def taking_nothing():
 
 def impatient():
     """Clients whose connections are aborted: one that sends nothing, one that stops in a head, one that stops in a
-    body, one that stays connected after a response, one that sends a byte a second, and one that reads nothing."""
+    body, one that stays connected after a response, one that sends a byte a second, also of a large body, and one that
+    reads nothing. A large body that arrives steadily is answered."""
     asked = [
         ("silent", b"", FIRST),
         ("half a head", ASKED[:40], SENDING, b"", READS),
@@ -95,11 +109,13 @@ def impatient():
         ("kept", ASKED, IDLE, ANSWER),
         ("half a head after an answer", ASKED + ASKED[:40], SENDING, ANSWER, READS),
         ("slow", b"", SENDING, b"", READS, True),
+        ("a large body that stops", LARGE[:80_000], RATED, b"", READS),
+        ("a slow large body", LARGE[:80_000], RATED, b"", READS, True),
     ]
-    with concurrent.futures.ThreadPoolExecutor(len(asked) + 1) as side_by_side:
-        full = side_by_side.submit(taking_nothing)
+    with concurrent.futures.ThreadPoolExecutor(len(asked) + 2) as side_by_side:
+        full, rated = side_by_side.submit(taking_nothing), side_by_side.submit(steady)
         found = [it for found in side_by_side.map(lambda words: beside(*words), asked) for it in found]
-        return found + [f"taking nothing: {it}" for it in full.result()]
+        return found + rated.result() + [f"taking nothing: {it}" for it in full.result()]
 
 
 CASES = {"serve-clients-that-wait": impatient}

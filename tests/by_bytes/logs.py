@@ -66,12 +66,11 @@ def wanted(call, answer, suppliers):
 
 
 def entity_is_right(call, entity, rule):
-    """Returns whether the logged entity is right: the path's id, or none if path or body do not parse as a form that
-    names one."""
+    """Returns whether the logged entity is right: the path's id, whatever the body is, or none if the path has none."""
     method, target, *_ = call
     if entity == "-":
-        ids = "query" in target or "availability" in target or asked_by(call) == "none"
-        return ids or rule in ("P1", "P2", "P3", "P4", "P5") or not UUID.search(target)
+        none = "query" in target or "availability" in target or asked_by(call) == "none" or rule in ("P1", "P2")
+        return none or not any(UUID.fullmatch(it) for it in target.split("/"))
     return entity.lower() in target.lower()
 
 

@@ -37,6 +37,7 @@ pub struct ConnectionMetrics {
     pub waiting: usize,
     accepted: u64,
     refused: u64,
+    failed_accepts: u64,
     failed: Failed,
 }
 
@@ -48,6 +49,7 @@ impl ConnectionMetrics {
             waiting: 0,
             accepted: 0,
             refused: 0,
+            failed_accepts: 0,
             failed: Failed {
                 read: 0,
                 write: 0,
@@ -66,6 +68,11 @@ impl ConnectionMetrics {
     /// Counts a connection that was closed at once.
     pub fn refuse(&mut self) {
         self.refused = self.refused.saturating_add(1);
+    }
+
+    /// Counts an accept that failed for lack of descriptors or memory.
+    pub fn note_failed_accept(&mut self) {
+        self.failed_accepts = self.failed_accepts.saturating_add(1);
     }
 
     /// Counts an aborted connection.
@@ -127,6 +134,12 @@ impl ConnectionMetrics {
             help: "Connections closed right after accepting them, for lack of resources.",
         };
         text.one(refused, self.refused)?;
+        let failed_accepts = Metric {
+            name: "dss_accept_failures_total",
+            kind: MetricKind::Counter,
+            help: "Failed accepts, for lack of file descriptors or memory. The connection waits.",
+        };
+        text.one(failed_accepts, self.failed_accepts)?;
         self.put_failed(text)?;
         let waiting = Metric {
             name: "dss_large_requests_waiting",

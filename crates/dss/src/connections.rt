@@ -2,6 +2,7 @@
 use crate::backups::PortBackups;
 use crate::causes::Causes;
 use crate::clock::SystemClock;
+use crate::descriptors::max_clients;
 use crate::log_file::SystemLog;
 use crate::sockets::PortSockets;
 use crate::tokens::TokenFile;
@@ -23,13 +24,24 @@ use std::{fs, io};
 use token_conf::token_table::TokenTable;
 use wire_http::Moments;
 
-// Returns the limits of a command line.
-fn limits_of(given: &ServeArgs<'_>) -> Limits {
+const MEBIBYTE: usize = 1_048_576;
+
+// Returns the limits of a command line. Fewer clients are served if the system has too few
+// descriptors.
+fn limits_of(rt: &HostRuntime, given: &ServeArgs<'_>) -> Limits {
+    let clients = match usize::try_from(given.max_connections) {
+        Ok(clients) => clients,
+        Err(_) => MAX_CONNECTIONS,
+    };
     Limits {
         count: given.count,
-        clients: match usize::try_from(given.max_connections) {
-            Ok(clients) => clients,
-            Err(_) => MAX_CONNECTIONS,
+        clients: match max_clients(rt) {
+            Some(most) => clients.min(most),
+            None => clients,
+        },
+        response_memory: match usize::try_from(given.response_memory) {
+            Ok(mebibytes) => mebibytes.saturating_mul(MEBIBYTE),
+            Err(_) => usize::MAX,
         },
     }
 }
@@ -168,7 +180,7 @@ pub(crate) fn serve<F: Start, E: Write>(
         tokens: &tokens,
         address: given.listen,
         port: given.port,
-        limits: limits_of(given),
+        limits: limits_of(rt, given),
         keep: given.retention,
         operated: operated(rt, given),
         verbose: given.verbose,

@@ -7,6 +7,7 @@ mod causes;
 mod clock;
 mod connections;
 mod copying;
+mod descriptors;
 mod log_file;
 mod loopback;
 mod program;

@@ -39,6 +39,8 @@ use Rattle.dss_args.specs.declared.command_args.TheConstants.{
   MAX_TIME,
   MAX_PORT,
   MAX_CONNECTIONS,
+  MAX_RESPONSE_MEMORY,
+  RESPONSE_MEMORY,
   MAX_COUNT,
 }
 use Rattle.dss_args.specs.declared.command_args.CommandArgs.{CommandArgs}
@@ -76,11 +78,10 @@ abbrev pub HasChoice : Text → ℕ → ℕ → List Row → Option ℕ → Type
 HasChoice id least greatest rows None = first_of id rows ≡ None
 HasChoice id least greatest rows (Some n) = HasNumberIn id least greatest rows n
 
--- The maximum number of connections at once: the option's, or the default.
-abbrev pub HasClients : List Row → ℕ → Type 0
-HasClients rows n =
-    HasNumberIn (codes "max-connections") 1 MAX_CONNECTIONS rows n
-    ⊎ ((first_of (codes "max-connections") rows ≡ None) × (n ≡ MAX_CONNECTIONS))
+-- Holds if an optional argument has this number, or is absent and this is the default.
+abbrev pub HasNumberOr : Text → ℕ → ℕ → ℕ → List Row → ℕ → Type 0
+HasNumberOr id least greatest otherwise rows n =
+    HasNumberIn id least greatest rows n ⊎ ((first_of id rows ≡ None) × (n ≡ otherwise))
 
 -- The address to listen on: the option's, or 127.0.0.1 by default.
 abbrev pub HasListen : List Row → Ipv4Addr → Type 0
@@ -117,7 +118,12 @@ pub record HasServing (rows : List Row) (given : ServeArgs) : Type 0 where
   pub listen : HasListen rows given.listen
   pub port : HasNumberIn (codes "port") 1 MAX_PORT rows given.port
   pub count : HasChoice (codes "count") 1 MAX_COUNT rows given.count
-  pub max_connections : HasClients rows given.max_connections
+  pub max_connections :
+      HasNumberOr (codes "max-connections") 1 MAX_CONNECTIONS MAX_CONNECTIONS rows
+      given.max_connections
+  pub response_memory :
+      HasNumberOr (codes "response-memory") 1 MAX_RESPONSE_MEMORY RESPONSE_MEMORY rows
+      given.response_memory
   pub quota : HasChoice (codes "quota") 1 MAX_QUOTA rows given.quota
   pub retention : HasChoice (codes "retention") 1 MAX_TIME rows given.retention
   pub admin_port : HasChoice (codes "admin-port") 1 MAX_PORT rows given.admin_port

@@ -21,6 +21,7 @@ use Rattle.dss_args.specs.declared.command_args.TheConstants.{
   MAX_TIME,
   MAX_PORT,
   MAX_CONNECTIONS,
+  MAX_RESPONSE_MEMORY,
   MAX_COUNT,
 }
 
@@ -117,8 +118,10 @@ serve_bounds =
     with_rule
     (with_rule
     (with_rule
+    (with_rule
     (with_rule serve_needs (number_rule (codes "count") 1 MAX_COUNT))
     (number_rule (codes "max-connections") 1 MAX_CONNECTIONS))
+    (number_rule (codes "response-memory") 1 MAX_RESPONSE_MEMORY))
     (number_rule (codes "quota") 1 MAX_QUOTA))
     (number_rule (codes "retention") 1 MAX_TIME)
 

@@ -22,7 +22,7 @@ ghost use Rattle.dss_args.specs.CommandArgs.{
   AsksNothing,
   Explains,
   HasChoice,
-  HasClients,
+  HasNumberOr,
   HasListen,
   HasNumberIn,
   is_set,
@@ -49,6 +49,11 @@ pub const MAX_COUNT: u64 = 1_000_000;
 
 /// The maximum number of connections at once, which is also the default.
 pub const MAX_CONNECTIONS: u64 = 1_000;
+
+/// The maximum memory for unsent responses in mebibytes, and the default.
+pub const MAX_RESPONSE_MEMORY: u64 = 16_384;
+
+pub const RESPONSE_MEMORY: u64 = 64;
 
 /// The maximum quota of a USS.
 pub const MAX_QUOTA: u64 = 4_294_967_295;
@@ -192,16 +197,24 @@ fn choice_in(matches: &ArgMatches<'_>, name: &str, least: u64, greatest: u64) ->
     Some(Some(number_in(matches, name, least, greatest)?))
 }
 
-// Returns the maximum number of connections at once. Returns `None` if a number is present and out
-// of range.
-fn clients_in(matches: &ArgMatches<'_>) -> Option<u64>
-    ensures some { IfSome result (HasClients (rows_of (found_of matches.now))) }
-    ensures none { IfNone result ((n : ℕ) → HasClients (rows_of (found_of matches.now)) n → ⊥) }
+// Returns the number of an optional argument, or `otherwise` if it is absent. Returns `None` if a
+// number is present and out of range.
+fn number_or(
+    matches: &ArgMatches<'_>,
+    name: &str,
+    least: u64,
+    greatest: u64,
+    otherwise: u64,
+) -> Option<u64>
+    ensures some { IfSome result (HasNumberOr name.now least greatest otherwise
+        (rows_of (found_of matches.now))) }
+    ensures none { IfNone result ((n : ℕ) → HasNumberOr name.now least greatest otherwise
+        (rows_of (found_of matches.now)) n → ⊥) }
 {
-    if matches.get_str("max-connections").is_none() {
-        return Some(MAX_CONNECTIONS);
+    if matches.get_str(name).is_none() {
+        return Some(otherwise);
     }
-    number_in(matches, "max-connections", 1, MAX_CONNECTIONS)
+    number_in(matches, name, least, greatest)
 }
 
 // Parses an address.
@@ -282,7 +295,20 @@ fn serve_line<'a>(matches: &ArgMatches<'a>) -> Option<CommandArgs<'a>>
         listen: listen_in(matches)?,
         port: port_in(matches)?,
         count: choice_in(matches, "count", 1, MAX_COUNT)?,
-        max_connections: clients_in(matches)?,
+        max_connections: number_or(
+            matches,
+            "max-connections",
+            1,
+            MAX_CONNECTIONS,
+            MAX_CONNECTIONS,
+        )?,
+        response_memory: number_or(
+            matches,
+            "response-memory",
+            1,
+            MAX_RESPONSE_MEMORY,
+            RESPONSE_MEMORY,
+        )?,
         quota: quota_in(matches)?,
         retention: choice_in(matches, "retention", 1, MAX_TIME)?,
         admin_port: admin_in(matches)?,

@@ -30,7 +30,9 @@ ghost use Rattle.dss_args.specs.Grammar.{
   word_rule,
 };
 
-use crate::command_args::{MAX_CONNECTIONS, MAX_COUNT, MAX_PORT, MAX_QUOTA, MAX_TIME};
+use crate::command_args::{
+    MAX_CONNECTIONS, MAX_COUNT, MAX_PORT, MAX_QUOTA, MAX_RESPONSE_MEMORY, MAX_TIME,
+};
 use crate::version::VERSION_TEXT;
 use clap::builder::ValueParser;
 use clap::{Arg, ArgAction, Command};
@@ -162,6 +164,16 @@ fn clients_option<'a>(alloc: Global) -> Arg<'a>
 {
     number_option(alloc, "max-connections", "NUMBER", MAX_CONNECTIONS).help(
         "Max connections at once [1-1000; default: 1000]",
+    )
+}
+
+// Returns the option for the memory of unsent responses.
+fn memory_option<'a>(alloc: Global) -> Arg<'a>
+    ensures rule { rule_of result ≡ number_rule (codes "response-memory") 1 MAX_RESPONSE_MEMORY }
+    ensures local { result.global ≡ false }
+{
+    number_option(alloc, "response-memory", "MIB", MAX_RESPONSE_MEMORY).help(
+        "Max memory for unsent responses in MiB, half of it for one USS [1-16384; default: 64]",
     )
 }
 
@@ -361,6 +373,7 @@ fn serve_command<'a>(alloc: Global) -> Result<Command<'a>, AllocError>
         .arg(port_option(alloc))?
         .arg(count_option(alloc))?
         .arg(clients_option(alloc))?
+        .arg(memory_option(alloc))?
         .arg(quota_option(alloc))?
         .arg(retention_option(alloc))?
         .arg(admin_option(alloc))?

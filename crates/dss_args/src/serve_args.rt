@@ -16,6 +16,8 @@ pub struct ServeArgs<'a> {
     pub count: Option<u64>,
     /// The maximum number of connections at once, from 1 to a thousand.
     pub max_connections: u64,
+    /// The memory for unsent responses in mebibytes, at least 1.
+    pub response_memory: u64,
     /// The maximum number of entities and subscriptions stored per USS, at least 1; unlimited if
     /// `None`.
     pub quota: Option<u32>,

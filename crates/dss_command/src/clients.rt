@@ -57,6 +57,17 @@ pub fn print_client_fault<E: Write>(fault: StreamFault, error: &mut E) -> io::Re
     print_fault(&Fault::from(fault), error)
 }
 
+/// Prints one line that says that no connection could be accepted.
+pub fn print_accept_failed<E: Write>(error: &mut E) -> io::Result<()>
+    ensures { OnOk result (Appends (E.contents error.old) (E.contents error.new)
+        (codes "dss: accept: no file descriptor or memory for a connection; raise LimitNOFILE\n")) }
+{
+    writeln!(
+        error,
+        "dss: accept: no file descriptor or memory for a connection; raise LimitNOFILE"
+    )
+}
+
 // The server log: the access log, if there is one, and a line for each fault of a client and of the
 // token file. If `verbose`, also a line for each change of the store's state.
 #[derive(Drop)]
@@ -89,6 +100,10 @@ impl<'a, E: Write, L: LogFile> ServerLog for Lines<'a, E, L> {
 
     fn tokens_rejected(&mut self, fault: TokenReloadFault) {
         let _ = print_reload_fault(fault, self.error);
+    }
+
+    fn accept_failed(&mut self) {
+        let _ = print_accept_failed(self.error);
     }
 
     fn store_event(&mut self, news: StoreEvent) {

@@ -7,6 +7,7 @@ ghost use Rattle.dss_server.specs.Serve.{ServesBy, ServesSoFar};
 ghost use Rattle.server_base.specs.Calls.{GoesOn};
 ghost use Rattle.server_watch.specs.Purger.{MayPurge};
 
+use crate::acceptance::Acceptance;
 use crate::deferred_clients::DeferredClients;
 use crate::response_record::{failure_of, record_response};
 use admin_http::build::BuildInfo;
@@ -15,9 +16,7 @@ use admin_http::store_metrics::StoreMetrics;
 use admin_http::tokens::TokenMetrics;
 use server_admin::admin_connections::AdminConnections;
 use server_admin::admin_context::AdminContext;
-use server_base::limits::{
-    FULL, LARGE_BUFFERS, LOOKS, LOOKS_SOON, Limits, MAX_CONNECTIONS, STOPPING,
-};
+use server_base::limits::{LARGE_BUFFERS, LOOKS, LOOKS_SOON, Limits, MAX_CONNECTIONS, STOPPING};
 use server_base::server_log::ServerLog;
 use server_base::sockets::{AcceptFault, EventSource, SocketEvent, Sockets};
 use server_client::client_connection::{ClientConnection, TurnOutcome};
@@ -40,7 +39,7 @@ use std::collections::VecDeque;
 use std::time::Duration;
 use std::{io, mem};
 use token_conf::token_table::TokenTable;
-use wire_http::{Moments, Peeked, StreamFault};
+use wire_http::{Moments, StreamFault};
 
 /// All clients of a port.
 #[derive(Drop)]
@@ -60,12 +59,7 @@ pub(crate) struct EventLoop<N: Sockets> {
     clock: Option<Duration>,
     // The clients whose responses are deferred in a batch. Empty after it.
     deferred: DeferredClients,
-    // How many connections may still be accepted (if limited), how many were accepted, whether one
-    // may wait, and until when the system has no room for it.
-    left: Option<u64>,
-    accepted: u64,
-    waiting: bool,
-    full_until: Duration,
+    acceptance: Acceptance,
     // How many clients have their last response, and when late clients were last looked for.
     ending: usize,
     looked: Duration,
@@ -93,7 +87,7 @@ impl<N: Sockets + Drop> EventLoop<N> {
         let spare = Vec::with_capacity(alloc, clients)?;
         let wanting = VecDeque::with_capacity(alloc, clients)?;
         let deferred = DeferredClients::new(alloc)?;
-        let fair = FairQueue::new(alloc)?;
+        let fair = FairQueue::new(alloc, limits.response_memory)?;
         let operators = AdminConnections::new(alloc, is_operated)?;
         Ok(EventLoop {
             alloc,
@@ -107,10 +101,7 @@ impl<N: Sockets + Drop> EventLoop<N> {
             fair,
             clock: None,
             deferred,
-            left: limits.count,
-            accepted: 0,
-            waiting: true,
-            full_until: Duration::from_millis(0),
+            acceptance: Acceptance::new(limits.count),
             ending: 0,
             looked: Duration::from_millis(0),
             metrics: ServiceMetrics::new(),
@@ -123,7 +114,7 @@ impl<N: Sockets + Drop> EventLoop<N> {
 
     /// Returns true if no connection may come and none is left.
     pub(crate) fn is_done(&self) -> bool {
-        self.left == Some(0) && self.peers.is_empty()
+        self.acceptance.is_over() && self.peers.is_empty()
     }
 
     /// Returns the monotonic time.
@@ -133,10 +124,7 @@ impl<N: Sockets + Drop> EventLoop<N> {
 
     // Returns true if a client can be accepted, if the system has room for it.
     fn has_room(&self) -> bool {
-        self.waiting
-            && self.stopping.is_none()
-            && self.left != Some(0)
-            && self.peers.len() < self.clients
+        self.acceptance.may_come() && self.stopping.is_none() && self.peers.len() < self.clients
     }
 
     // Returns how long the system may wait for events: at most until the token file is checked, and
@@ -158,7 +146,7 @@ impl<N: Sockets + Drop> EventLoop<N> {
             return Duration::from_millis(0);
         }
         if self.has_room() {
-            return self.full_until.saturating_sub(now);
+            return self.acceptance.pause(now);
         }
         Duration::from_millis(if self.ending > 0 || self.stopping.is_some() {
             LOOKS_SOON
@@ -179,7 +167,7 @@ impl<N: Sockets + Drop> EventLoop<N> {
     // Records a socket event.
     fn note(&mut self, told: SocketEvent) {
         match told.which {
-            EventSource::Port => self.waiting = true,
+            EventSource::Port => self.acceptance.set_waiting(true),
             EventSource::OperatorsPort => self.operators.note_waiting(),
             EventSource::Operator(key) => self.operators.note(key, told),
             EventSource::Client(key) => {
@@ -206,17 +194,14 @@ impl<N: Sockets + Drop> EventLoop<N> {
 
     // Adds a client. Closes it if it cannot be watched, or if memory runs out.
     fn take_in(&mut self, mut socket: N::Client, now: Duration) {
-        if let Some(left) = self.left {
-            self.left = Some(left.saturating_sub(1));
-        }
-        self.accepted = self.accepted.saturating_add(1);
+        let number = self.acceptance.count();
         self.metrics.connections.accept();
         let key = self.peers.vacant_key();
         let watched = self.sockets.watch(&mut socket, EventSource::Client(key));
         if watched.is_err()
             || self
                 .peers
-                .insert(ClientConnection::new(self.alloc, socket, self.accepted, now))
+                .insert(ClientConnection::new(self.alloc, socket, number, now))
                 .is_err()
         {
             self.metrics.connections.refuse();
@@ -226,20 +211,35 @@ impl<N: Sockets + Drop> EventLoop<N> {
         }
     }
 
+    // Counts an accept for which the system had no room, and logs it once a minute.
+    fn fail_accept<J: ServerLog>(&mut self, now: Duration, journal: &mut J) {
+        self.metrics.connections.note_failed_accept();
+        if self.acceptance.is_reported(now) {
+            journal.accept_failed();
+        }
+    }
+
     /// Accepts waiting connections, as far as there is room. If the system has none, it tries again
     /// a little later.
-    pub(crate) fn accept(&mut self, now: Duration) -> io::Result<()> {
-        self.operators.accept(&mut self.sockets, now);
+    pub(crate) fn accept<J: ServerLog>(
+        &mut self,
+        now: Duration,
+        journal: &mut J,
+    ) -> io::Result<()> {
+        if self.operators.accept(&mut self.sockets, now) {
+            self.fail_accept(now, journal);
+        }
         for _ in 0..MAX_CONNECTIONS {
-            if !self.has_room() || now < self.full_until {
+            if !self.has_room() || self.acceptance.is_paused(now) {
                 return Ok(());
             }
             match self.sockets.accept() {
                 Ok(socket) => self.take_in(socket, now),
-                Err(AcceptFault::NoneWaits) => self.waiting = false,
+                Err(AcceptFault::NoneWaits) => self.acceptance.set_waiting(false),
                 Err(AcceptFault::Gone) => {}
                 Err(AcceptFault::Full) => {
-                    self.full_until = now.saturating_add(Duration::from_millis(FULL));
+                    self.acceptance.begin_pause(now);
+                    self.fail_accept(now, journal);
                 }
                 Err(AcceptFault::Failed(cause)) => return Err(cause),
             }
@@ -415,26 +415,9 @@ impl<N: Sockets + Drop> EventLoop<N> {
     // Determines the class of a client's next request, and queues the client there if the request
     // is complete or the stream ends.
     fn classify(&mut self, key: usize, tokens: &TokenTable) -> TurnOutcome {
-        let Some(peer) = self.peers.get_mut(key) else {
-            return TurnOutcome::Gone;
-        };
-        if peer.member.waits {
-            return TurnOutcome::Ready;
-        }
-        match peer.peek(tokens) {
-            Peeked::NeedsInput => return peer.needs_input(),
-            Peeked::Head(caller) => {
-                self.fair.set_class(&mut peer.member, caller);
-                return peer.needs_input();
-            }
-            Peeked::Request(caller) => self.fair.set_class(&mut peer.member, caller),
-            Peeked::Ends => {}
-        }
-        if self.fair.push(peer.member.class, key, peer.has_ended()) {
-            peer.member.waits = true;
-            TurnOutcome::Ready
-        } else {
-            TurnOutcome::Failed(StreamFault::Memory)
+        match self.peers.get_mut(key) {
+            Some(peer) => peer.classify(&mut self.fair, key, tokens),
+            None => TurnOutcome::Gone,
         }
     }
 

@@ -2,6 +2,7 @@
 //! thread.
 #![tactic(auto)]
 
+mod acceptance;
 mod deferred_clients;
 mod event_loop;
 mod response_record;

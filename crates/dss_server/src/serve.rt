@@ -93,7 +93,7 @@ pub fn serve_clients<
         }
         port.wait(now)?;
         now = port.time()?;
-        port.accept(now)?;
+        port.accept(now, journal)?;
         newer = watch.look(alloc, tokens, now, journal).or(newer);
         port.show_tokens(watch.tokens());
         let context = RequestContext {

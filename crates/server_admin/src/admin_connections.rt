@@ -149,14 +149,15 @@ impl<N: Sockets + Drop> AdminConnections<N> {
     }
 
     /// Accepts waiting connections, as far as there is room: one more than the maximum, so that
-    /// stalled connections do not keep a new one out. Idle connections make room for them.
-    pub fn accept(&mut self, sockets: &mut N, now: Duration) {
+    /// stalled connections do not keep a new one out. Idle connections make room for them. Returns
+    /// true if the system had no room.
+    pub fn accept(&mut self, sockets: &mut N, now: Duration) -> bool {
         for _ in 0..ADMIN_SLOTS {
             if self.waiting && self.all.len() > MAX_ADMIN_CONNECTIONS {
                 self.close_oldest_idle(0, now);
             }
             if !self.has_room() || now < self.full_until {
-                return;
+                return false;
             }
             match sockets.accept_operator() {
                 Ok(socket) => {
@@ -167,9 +168,11 @@ impl<N: Sockets + Drop> AdminConnections<N> {
                 Err(AcceptFault::Gone) => {}
                 Err(AcceptFault::Full | AcceptFault::Failed(_)) => {
                     self.full_until = now.saturating_add(Duration::from_millis(FULL));
+                    return true;
                 }
             }
         }
+        false
     }
 
     // Runs the turn of one connection, and closes the connection if it has ended.

@@ -48,13 +48,6 @@ pub const ROUND_TIME: u64 = 5;
 /// The maximum number of bytes that one write offers.
 pub const SEND_CHUNK: usize = 131_072;
 
-/// The budget for unsent bytes of responses of all classes together. While it is used up, a class
-/// that has unsent bytes waits.
-pub const RESPONSE_MEMORY: usize = 67_108_864;
-
-/// The budget for unsent bytes of responses of one class.
-pub const RESPONSE_MEMORY_OF_USS: usize = 33_554_432;
-
 /// How many of the large buffers requests without a valid token may have.
 pub const LARGE_BUFFERS_WITHOUT_TOKEN: usize = 8;
 
@@ -72,6 +65,9 @@ pub const REQUEST_RATE_GRACE: u64 = 5_000;
 
 /// The pause in milliseconds before the next accept, after the system had no room for a connection.
 pub const FULL: u64 = 100;
+
+/// How long further failed accepts are not logged, in milliseconds.
+pub const ACCEPT_SILENCE: u64 = 60_000;
 
 /// The maximum number of connections to the admin port at once.
 pub const MAX_ADMIN_CONNECTIONS: usize = 16;
@@ -98,11 +94,15 @@ pub const OPERATOR_STEPS: u32 = 8;
 /// How long a stopping service waits for its clients, in milliseconds.
 pub const STOPPING: u64 = 3_000;
 
-/// Limits on the connections that are accepted and on the clients served at once.
+/// Limits on the connections that are accepted, on the clients served at once, and on the memory of
+/// responses.
 #[derive(Clone, Copy, Debug, PartialEq, Eq)]
 pub struct Limits {
     /// The total number of connections to accept; unlimited if `None`.
     pub count: Option<u64>,
     /// The maximum number of connections open at once.
     pub clients: usize,
+    /// The budget for unsent bytes of responses of all classes together; that of one class is half
+    /// of it. While it is used up, a class that has unsent bytes waits.
+    pub response_memory: usize,
 }

@@ -66,6 +66,10 @@ pub trait ServerLog {
     /// active.
     fn tokens_rejected(&mut self, fault: TokenReloadFault);
 
+    /// Logs that no connection could be accepted, for lack of descriptors or memory. The default
+    /// logs nothing.
+    fn accept_failed(&mut self) {}
+
     /// Logs a change of the store's state. The default logs nothing.
     fn store_event(&mut self, _news: StoreEvent) {}
 

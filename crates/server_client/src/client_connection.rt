@@ -3,7 +3,7 @@ ghost use Rattle.token_conf.specs.TokenFile.{callers_of};
 ghost use Rattle.server_base.specs.Calls.{GoesOn};
 
 use crate::client_io::{ClientIo, ReadOutcome, WriteOutcome};
-use crate::fair_queue::ClassMember;
+use crate::fair_queue::{ClassMember, FairQueue};
 use crate::request_context::RequestContext;
 use server_base::limits::{
     CHUNK, FIRST_REQUEST_TIMEOUT, LAST_CHUNKS, MIN_REQUEST_RATE, REQUEST_RATE_GRACE, SMALL,
@@ -171,26 +171,44 @@ impl<T: Socket> ClientConnection<T> {
             && count.saturating_mul(1_000) < millis.saturating_mul(MIN_REQUEST_RATE)
     }
 
-    /// Returns true if the client sends nothing more.
-    pub fn has_ended(&self) -> bool {
-        self.ended
-    }
-
     /// Returns the number of unsent bytes of its responses, with a deferred one.
     pub fn unsent(&self) -> usize {
         self.link.unsent()
     }
 
-    /// Returns what the buffered bytes give next, with the caller of the next request.
-    pub fn peek<'t>(&mut self, tokens: &'t TokenTable) -> Peeked<'t> {
+    // Returns what the buffered bytes give next, with the caller of the next request.
+    fn peek<'t>(&mut self, tokens: &'t TokenTable) -> Peeked<'t> {
         let peeked = self.link.peek(tokens);
         self.lacks = matches!(peeked, Peeked::NeedsInput | Peeked::Head(_));
         peeked
     }
 
-    /// Returns its outcome if no complete request is buffered.
-    pub fn needs_input(&self) -> TurnOutcome {
-        again_if(self.readable)
+    /// Determines the class of its next request. Queues it there under that key, if the request is
+    /// complete or the stream ends.
+    pub fn classify(
+        &mut self,
+        fair: &mut FairQueue,
+        key: usize,
+        tokens: &TokenTable,
+    ) -> TurnOutcome {
+        if self.member.waits {
+            return TurnOutcome::Ready;
+        }
+        match self.peek(tokens) {
+            Peeked::NeedsInput => return again_if(self.readable),
+            Peeked::Head(caller) => {
+                fair.set_class(&mut self.member, caller);
+                return again_if(self.readable);
+            }
+            Peeked::Request(caller) => fair.set_class(&mut self.member, caller),
+            Peeked::Ends => {}
+        }
+        if fair.push(self.member.class, key, self.ended) {
+            self.member.waits = true;
+            TurnOutcome::Ready
+        } else {
+            TurnOutcome::Failed(StreamFault::Memory)
+        }
     }
 
     /// Returns true if it waits for the client to close, after its last response.

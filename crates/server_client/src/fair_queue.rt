@@ -5,13 +5,12 @@
 //! the class with the smallest virtual time. Within a class, clients take turns.
 ghost use Rattle.std.specs.Prelude.{◌≡◌, IfSome, IsTrue};
 ghost use Rattle.std.specs.List.{Contains};
-ghost use Rattle.server_client.specs.FairQueue.{IsPicked, WaitsIn, is_held_up, waiting_in};
+ghost use Rattle.server_client.specs.FairQueue.{IsNext, IsPicked, WaitsIn, has_waiting, is_held_up, may_be_next, waiting_in};
 
 use entity_core::uss_id::UssId;
 use policy_core::scope::Caller;
 use server_base::limits::{
-    LARGE_BUFFERS_OF_USS, LARGE_BUFFERS_WITHOUT_TOKEN, MAX_CONNECTIONS, RESPONSE_MEMORY,
-    RESPONSE_MEMORY_OF_USS, ROUND_TIME,
+    LARGE_BUFFERS_OF_USS, LARGE_BUFFERS_WITHOUT_TOKEN, MAX_CONNECTIONS, ROUND_TIME,
 };
 use std::alloc::{AllocError, Global};
 use std::collections::VecDeque;
@@ -102,16 +101,25 @@ impl UssClass {
     }
 
     // Returns true if a client waits.
-    fn has_waiting(&self) -> bool {
+    fn has_waiting(&self) -> bool
+        ensures { result ≡ has_waiting self.now }
+    {
         !self.open.is_empty() || !self.ended.is_empty()
     }
 
     // Returns true if no request of the class is answered until more of its responses are sent.
-    // `total` is the number of unsent bytes of all classes.
-    fn is_held_up(&self, total: usize) -> bool
-        ensures { result ≡ is_held_up total self.now }
+    // `total` is the number of unsent bytes of all classes, and `memory` the budget.
+    fn is_held_up(&self, memory: usize, total: usize) -> bool
+        ensures { result ≡ is_held_up memory total self.now }
     {
-        self.unsent >= RESPONSE_MEMORY_OF_USS || (self.unsent > 0 && total >= RESPONSE_MEMORY)
+        self.unsent > 0 && (self.unsent >= memory / 2 || total >= memory)
+    }
+
+    // Returns true if a client waits and the class is not held up.
+    fn may_be_next(&self, memory: usize, total: usize) -> bool
+        ensures { result ≡ may_be_next memory total self.now }
+    {
+        self.has_waiting() && !self.is_held_up(memory, total)
     }
 
     // Appends a client. Returns false if memory runs out.
@@ -143,19 +151,21 @@ pub struct FairQueue {
     classes: Vec<UssClass>,
     // The virtual time of the request that was taken last.
     virtual_time: u64,
-    // The unsent bytes of responses of all classes.
+    // The budget for unsent bytes of responses, and the unsent bytes of all classes.
+    memory: usize,
     unsent: usize,
 }
 
 impl FairQueue {
-    /// Creates a queue in which no client waits.
-    pub fn new(alloc: Global) -> Result<FairQueue, AllocError> {
+    /// Creates a queue in which no client waits, with that budget for unsent bytes of responses.
+    pub fn new(alloc: Global, memory: usize) -> Result<FairQueue, AllocError> {
         let mut classes = Vec::new(alloc);
         classes.push(UssClass::new(alloc, None)?)?;
         Ok(FairQueue {
             alloc,
             classes,
             virtual_time: 0,
+            memory,
             unsent: 0,
         })
     }
@@ -205,11 +215,14 @@ impl FairQueue {
     }
 
     // Returns the class whose request is next.
-    fn next_class(&self) -> Option<usize> {
+    fn next_class(&self) -> Option<usize>
+        ensures { IfSome result (IsNext self.now) }
+    {
         let mut found = None;
         let mut least = u64::MAX;
-        for (index, class) in self.classes.iter().enumerate() {
-            if class.has_waiting() && !class.is_held_up(self.unsent) && class.virtual_time < least {
+        for index in 0..self.classes.len() {
+            let class = &self.classes[index];
+            if class.may_be_next(self.memory, self.unsent) && class.virtual_time < least {
                 least = class.virtual_time;
                 found = Some(index);
             }
@@ -223,16 +236,13 @@ impl FairQueue {
     }
 
     /// Removes and returns the client whose request is next, after the index of its class. The
-    /// client waited in that class, and the class is not held up.
+    /// client waited in that class, and the class is not held up. No other such class has a smaller
+    /// virtual time.
     pub fn pick(&mut self) -> Option<(usize, usize)>
         ensures { IfSome result (λ picked. IsPicked self.old picked.0 picked.1) }
     {
         let index = self.next_class()?;
-        let unsent = self.unsent;
         let class = self.classes.get_mut(index)?;
-        if class.is_held_up(unsent) {
-            return None;
-        }
         self.virtual_time = class.virtual_time;
         let key = class.pop()?;
         Some((index, key))

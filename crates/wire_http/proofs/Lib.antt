@@ -14,4 +14,5 @@ pub mod StreamUnique
 pub mod Told
 pub mod TurnLaws
 pub mod TurnsLaws
+pub mod Unread
 pub mod Written

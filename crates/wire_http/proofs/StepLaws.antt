@@ -1,10 +1,12 @@
 -- Lemmas: from what was found, called and replied to what one step of a connection does.
 use Rattle.std.proofs.Common.{◌≡◌, ℕ, zero, suc, ◌<◌, ◌≤◌, List, [], ◌++◌, length, drop, Bool, refl, sym, ap, subst, ◌∙◌, Option, Some, arith}
+use Rattle.std.specs.Prelude.{option_map}
 use Rattle.std.proofs.lemmas.List.{append-nil, drop-append-le}
 use Rattle.httparse.specs.declared.spans.HeaderSpan.{HeaderSpan}
 use Rattle.httparse.specs.declared.spans.RequestSpans.{RequestSpans}
 use Rattle.policy_core.specs.declared.call.Call.{Call}
 use Rattle.policy_core.specs.declared.call.OpKind.{OpKind}
+use Rattle.policy_core.specs.declared.scope.Caller.{Caller}
 use Rattle.space_core.specs.declared.space.Space.{Ghosts}
 use Rattle.service_calls.specs.declared.service.Service.{Service}
 use Rattle.service_step.specs.declared.reply.Reply.{Reply}
@@ -24,7 +26,9 @@ use Rattle.wire_http.specs.BufferState.{IsHeld, MayCome}
 use Rattle.wire_http.specs.DeferredResponse.{Slot}
 use Rattle.wire_http.specs.Input.{BufferGrew}
 use Rattle.wire_http.specs.Next.{IsNext}
-use Rattle.wire_http.specs.RequestInfo.{requested_kind, info_for, noted_for, outcome_of}
+use Rattle.wire_http.specs.RequestInfo.{IsEntityNamed, IsNotedFor, requested_kind, info_for, outcome_of}
+use Rattle.wire_http.specs.declared.request_info.RequestInfo.{RequestInfo}
+use Rattle.wire_head.specs.Target.{path_of}
 use Rattle.wire_http.specs.Reply.{Replies, RepliesPart}
 use Rattle.wire_http.specs.Stop.{StopsAs}
 use Rattle.wire_http.specs.Wire.{RequestCall, Finishes}
@@ -75,15 +79,29 @@ pub slot_is : (asked : RequestCall) (endpoint : Option Endpoint) (closing : Bool
     → Some (slot endpoint closing) ≡ Some (slot_for asked)
 slot_is asked endpoint closing e f = ap (λ v. Some (slot v closing)) (sym e) ∙ ap (λ v. Some (slot asked.endpoint v)) (sym f)
 
+abbrev info : Option OpKind → Option Caller → Option ℕ → Outcome → Option RequestInfo
+info kind caller entity outcome = Some (record {
+  operation = kind;
+  supplier = option_map (λ v. v.uss) caller;
+  entity = entity;
+  outcome = outcome;
+})
+
 -- The recorded information is about that request and its reply.
-pub noted_is : (asked : RequestCall) (reply made : Reply) (endpoint : Option Endpoint) (kind : Option OpKind) (method : List ℕ) (call : Call) (outcome : Outcome)
-    → asked.endpoint ≡ endpoint → asked.call ≡ call → reply ≡ made → kind ≡ requested_kind endpoint method → method ≡ asked.head.method → outcome ≡ outcome_of made
-    → Some (info_for kind call outcome) ≡ Some (noted_for asked reply)
-noted_is asked reply made endpoint kind method call outcome p c r k m o =
-    let kinds : kind ≡ requested_kind asked.endpoint asked.head.method = k ∙ ap (λ v. requested_kind v method) (sym p) ∙ ap (λ v. requested_kind asked.endpoint v) m in
-    ap (λ v. Some (info_for v call outcome)) kinds
-    ∙ ap (λ v. Some (info_for (requested_kind asked.endpoint asked.head.method) v outcome)) (sym c)
-    ∙ ap (λ v. Some (info_for (requested_kind asked.endpoint asked.head.method) asked.call v)) (o ∙ ap outcome_of (sym r))
+pub noted_is : (asked : RequestCall) (reply told : Reply) (endpoint : Option Endpoint) (kind : Option OpKind) (path method : List ℕ) (entity : Option ℕ) (made : Call) (outcome : Outcome)
+    → asked.endpoint ≡ endpoint → made.caller ≡ asked.call.caller → reply ≡ told → kind ≡ requested_kind endpoint method → IsEntityNamed path method endpoint entity
+    → path ≡ path_of asked.head.target → method ≡ asked.head.method → outcome ≡ outcome_of told
+    → IsNotedFor asked reply (Some (info_for kind made entity outcome))
+noted_is asked reply told endpoint kind path method entity made outcome p c r k n t m o =
+    let kinds : kind ≡ requested_kind asked.endpoint asked.head.method = k ∙ ap (λ v. requested_kind v method) (sym p) ∙ ap (λ v. requested_kind asked.endpoint v) m in (
+      entity,
+      subst (λ (v : List ℕ). IsEntityNamed v asked.head.method asked.endpoint entity) t
+          (subst (λ (v : List ℕ). IsEntityNamed path v asked.endpoint entity) m
+          (subst (λ (v : Option Endpoint). IsEntityNamed path method v entity) (sym p) n)),
+      ap (λ v. info v made.caller entity outcome) kinds
+          ∙ ap (λ v. info (requested_kind asked.endpoint asked.head.method) v entity outcome) c
+          ∙ ap (λ v. info (requested_kind asked.endpoint asked.head.method) asked.call.caller entity v) (o ∙ ap outcome_of (sym r)),
+    )
 
 -- A clock that failed did so once.
 pub clock_failed : (fault : StreamFault) (failures failures' : ℕ) → AbortedCall fault failures failures'

@@ -11,7 +11,7 @@ use Rattle.wire_http.specs.declared.fault.StreamFault.{StreamFault}
 use Rattle.wire_http.specs.declared.serve.Turn.TheVariants as turns
 use Rattle.wire_http.specs.BufferState.{HasNoRequest, MayCome, max_buffered}
 use Rattle.wire_http.specs.declared.request_info.RequestInfo.{RequestInfo}
-use Rattle.wire_http.specs.RequestInfo.{noted_after, noted_for}
+use Rattle.wire_http.specs.RequestInfo.{IsNotedFor, noted_after}
 use Rattle.wire_http.specs.DeferredResponse.{Slot, before_last, last_alone, slot_at}
 use Rattle.wire_http.specs.Text.{end_texts}
 use Rattle.wire_http.specs.Turn.{IsTurn, IsTurnPart}
@@ -104,7 +104,7 @@ module _ {S M : Type 0} (g : Ghosts S) (Gives : M → ℕ → M → Type 0) (cal
   -- rule that ended the stream.
   abbrev pub IsNotedAs : (step : Step) → IsStep step → Type 0
   IsNotedAs steps.NeedsInput is = noted_of c' ≡ noted_of c
-  IsNotedAs (steps.Answered n) is = noted_of c' ≡ Some (noted_for is.1.0 is.1.1)
+  IsNotedAs (steps.Answered n) is = IsNotedFor is.1.0 is.1.1 (noted_of c')
   IsNotedAs (steps.Ended end) is = noted_of c' ≡ noted_after end (noted_of c)
 
   -- Holds for a step with its recorded information.

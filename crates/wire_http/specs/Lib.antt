@@ -19,5 +19,6 @@ pub mod Stream
 pub mod Text
 pub mod Turn
 pub mod Turns
+pub mod Unread
 pub mod Laws
 pub mod Wire

@@ -1,5 +1,5 @@
 -- A received request, and the call that it makes.
-use Rattle.std.specs.Prelude.{◌≡◌, ◌≤◌, ◌+◌, length, Option, IsUtf8}
+use Rattle.std.specs.Prelude.{◌≡◌, ◌≤◌, ◌+◌, ℕ, length, Option, IsUtf8}
 use Rattle.httparse.specs.Grammar.{RequestHead}
 use Rattle.httparse.specs.Spans.{IsRequestWithin, span_bytes}
 use Rattle.policy_core.specs.declared.call.Call.{Call}
@@ -10,7 +10,9 @@ use Rattle.wire_route.specs.declared.endpoint.Endpoint.{Endpoint}
 use Rattle.wire_head.specs.FinalHead.{Covers}
 use Rattle.wire_http.specs.Next.{body_at}
 use Rattle.wire_http.specs.Asked.{IsCallOf}
-use Rattle.wire_http.specs.RequestInfo.{requested_kind}
+use Rattle.wire_head.specs.Target.{path_of}
+use Rattle.wire_http.specs.RequestInfo.{IsEntityNamed, requested_kind}
+use Rattle.wire_http.specs.Unread.{IsMadeFor}
 
 -- Holds if the request is within the bytes, and its target is UTF-8.
 abbrev pub IsReceived : Received → Type 0
@@ -24,6 +26,16 @@ abbrev pub IsMadeBy : Callers → Received → Option Endpoint → Call → Type
 IsMadeBy callers r endpoint call =
     (h : RequestHead) → Covers r.buffer.now r.fields.now r.spans h
     → IsCallOf callers h (body_at r.buffer.now r.spans.len r.size) endpoint call
+
+-- Holds if this call is made for that of the head under the spans.
+abbrev pub IsMadeForOne : Callers → Received → Option Endpoint → Call → Type 0
+IsMadeForOne callers r endpoint made =
+    (call : Call) × IsMadeBy callers r endpoint call × IsMadeFor made call
+
+-- Holds if path and method name this entity or subscription, or none.
+abbrev pub IsNamedIn : Received → Option Endpoint → Option ℕ → Type 0
+IsNamedIn r endpoint entity = IsEntityNamed (path_of (span_bytes r.buffer.now r.spans.path))
+    (span_bytes r.buffer.now r.spans.method) endpoint entity
 
 -- Holds if this is the kind of operation of the method at the endpoint.
 abbrev pub IsKindIn : Received → Option Endpoint → Option OpKind → Type 0

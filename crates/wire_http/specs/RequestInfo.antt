@@ -1,9 +1,9 @@
 -- The information about a response.
-use Rattle.std.specs.Prelude.{ℕ, List, Option, Some, None, option_and_then, option_map}
+use Rattle.std.specs.Prelude.{◌≡◌, ℕ, List, Option, Some, None, option_and_then, option_map}
 use Rattle.policy_core.specs.declared.call.Call.{Call}
+use Rattle.entity_core.specs.EntityId.{spelled}
 use Rattle.policy_core.specs.declared.call.OpKind.{OpKind}
-use Rattle.policy_core.specs.declared.call.Operation.{Operation}
-use Rattle.policy_core.specs.declared.call.Operation.TheVariants.{Read, Create, Update, Delete, ReadSub, CreateSub, UpdateSub, DeleteSub}
+use Rattle.policy_core.specs.declared.call.OpKind.TheVariants as kinds
 use Rattle.service_step.specs.declared.reply.Reply.{Reply}
 use Rattle.service_step.specs.declared.reply.Reply.TheVariants as replies
 use Rattle.wire_http.specs.DeferredResponse.{Slot}
@@ -15,6 +15,9 @@ use Rattle.wire_http.specs.declared.request_info.Outcome.TheVariants as outcomes
 use Rattle.wire_http.specs.Wire.{RequestCall}
 use Rattle.wire_route.specs.declared.endpoint.Endpoint.{Endpoint}
 use Rattle.wire_route.specs.Endpoint.{kind_at}
+use Rattle.wire_route.specs.Route.{IsRoute}
+use Rattle.wire_body.specs.Body.{Words}
+use Rattle.wire_head.specs.Target.{path_of}
 
 abbrev pub outcome_of : Reply → Outcome
 outcome_of (replies.Done answer) = outcomes.Done
@@ -22,17 +25,24 @@ outcome_of (replies.Denied rule missing) = outcomes.Denied rule
 outcome_of replies.Fault = outcomes.Fault
 outcome_of replies.Stopped = outcomes.Stopped
 
--- The id of the entity or subscription in an operation.
-abbrev pub entity_of : Operation → Option ℕ
-entity_of (Read kind id) = Some id
-entity_of (Create id put) = Some id
-entity_of (Update id ovn put) = Some id
-entity_of (Delete kind id ovn) = Some id
-entity_of (ReadSub id) = Some id
-entity_of (CreateSub id put) = Some id
-entity_of (UpdateSub id version put) = Some id
-entity_of (DeleteSub id version) = Some id
-entity_of op = None
+-- The id of an entity or a subscription that the first path parameter represents. Operations of
+-- some kinds have none.
+abbrev pub entity_named : OpKind → Words → Option ℕ
+entity_named (kinds.Read kind) words = spelled words.first
+entity_named (kinds.Create kind) words = spelled words.first
+entity_named (kinds.Update kind) words = spelled words.first
+entity_named (kinds.Delete kind) words = spelled words.first
+entity_named kinds.ReadSub words = spelled words.first
+entity_named kinds.CreateSub words = spelled words.first
+entity_named kinds.UpdateSub words = spelled words.first
+entity_named kinds.DeleteSub words = spelled words.first
+entity_named kind words = None
+
+-- Holds if path and method name this entity or subscription, or none.
+abbrev pub IsEntityNamed : List ℕ → List ℕ → Option Endpoint → Option ℕ → Type 0
+IsEntityNamed path method None entity = entity ≡ None
+IsEntityNamed path method (Some endpoint) entity = (words : Words) × IsRoute path endpoint words
+    × (entity ≡ option_and_then (λ kind. entity_named kind words) (kind_at endpoint method))
 
 abbrev pub supplier_of : Call → Option (List ℕ)
 supplier_of call = option_map (λ caller. caller.uss) call.caller
@@ -41,18 +51,24 @@ supplier_of call = option_map (λ caller. caller.uss) call.caller
 abbrev pub requested_kind : Option Endpoint → List ℕ → Option OpKind
 requested_kind endpoint method = option_and_then (λ there. kind_at there method) endpoint
 
-abbrev pub info_for : Option OpKind → Call → Outcome → RequestInfo
-info_for kind call outcome = record {
+abbrev pub info_for : Option OpKind → Call → Option ℕ → Outcome → RequestInfo
+info_for kind call entity outcome = record {
   operation = kind;
   supplier = supplier_of call;
-  entity = entity_of call.op;
+  entity = entity;
   outcome = outcome;
 }
 
--- The information about a request with this reply.
-abbrev pub noted_for : RequestCall → Reply → RequestInfo
-noted_for asked reply =
-    info_for (requested_kind asked.endpoint asked.head.method) asked.call (outcome_of reply)
+-- The information about a request that names this entity, with this reply.
+abbrev pub noted_for : RequestCall → Option ℕ → Reply → RequestInfo
+noted_for asked entity reply =
+    info_for (requested_kind asked.endpoint asked.head.method) asked.call entity (outcome_of reply)
+
+-- Holds if this is the information about a request with this reply.
+abbrev pub IsNotedFor : RequestCall → Reply → Option RequestInfo → Type 0
+IsNotedFor asked reply noted = (entity : Option ℕ)
+    × IsEntityNamed (path_of asked.head.target) asked.head.method asked.endpoint entity
+    × (noted ≡ Some (noted_for asked entity reply))
 
 -- The information after the end of a stream: the protocol rule that a request broke, otherwise what
 -- was recorded before.

@@ -5,20 +5,25 @@ ghost use Rattle.httparse.specs.Spans.{IsHeaderWithin, header_bytes};
 ghost use Rattle.token_conf.specs.TokenFile.{callers_of};
 ghost use Rattle.wire_body.specs.Body.{words_of};
 ghost use Rattle.wire_http.specs.Fault.{AbortedCall};
-ghost use Rattle.wire_http.specs.Received.{IsKindIn, IsMadeBy, IsReceived};
-ghost use Rattle.wire_http.specs.RequestInfo.{requested_kind};
+ghost use Rattle.wire_http.specs.Received.{IsKindIn, IsMadeForOne, IsNamedIn, IsReceived};
+ghost use Rattle.wire_http.specs.RequestInfo.{IsEntityNamed, entity_named, requested_kind};
+ghost use Rattle.wire_http.specs.Unread.{IsMadeAs, IsMadeFor};
 ghost use Rattle.wire_head.specs.Close.{closes_by};
 ghost use Rattle.wire_http.specs.Asked.{caller_of, IsReadAs, IsAsked};
 
 use crate::fault::StreamFault;
 use crate::moments::Moments;
+use entity_core::entity_id::EntityId;
 use httparse::spans::{HeaderSpan, RequestSpans};
 use policy_core::call::{Call, OpKind, Operation};
+use policy_core::early::early;
+use policy_core::rule::Rule;
 use policy_core::scope::Caller;
 use std::alloc::{AllocError, Global};
 use token_conf::token_table::TokenTable;
 use wire_body::body::{PathWords, read_body};
 use wire_body::body_fault::BodyFault;
+use wire_body::laws::keeps_kind;
 use wire_head::bearer::bearer_token;
 use wire_head::close::closes_connection;
 use wire_head::target::path_of;
@@ -41,45 +46,105 @@ fn read_as(
     }
 }
 
+// Returns the call of a kind. If P3 or P4 denies it whatever the body is, does not read the body.
+fn call_as(
+    alloc: Global,
+    kind: OpKind,
+    words: &PathWords<'_>,
+    body: &[u8],
+    caller: Option<Caller>,
+) -> Result<Call, AllocError>
+    ensures { IfOk result (IsMadeAs caller kind (words_of words.now) body.now) }
+{
+    keeps_kind();
+    let unread = Call {
+        caller,
+        op: Operation::Malformed(kind),
+    };
+    match early(&unread) {
+        Some(Rule::Token) => return Ok(unread),
+        Some(Rule::Scope) => return Ok(unread),
+        _ => {}
+    }
+    let Call { caller, op: _ } = unread;
+    let op = read_as(alloc, kind, words, body)?;
+    Ok(Call { caller, op })
+}
+
+// Returns the id that the first path parameter represents, if operations of the kind have one.
+fn entity_named(kind: OpKind, words: &PathWords<'_>) -> Option<EntityId>
+    ensures { result ≡ entity_named kind (words_of words.now) }
+{
+    match kind {
+        OpKind::Read(_)
+        | OpKind::Create(_)
+        | OpKind::Update(_)
+        | OpKind::Delete(_)
+        | OpKind::ReadSub
+        | OpKind::CreateSub
+        | OpKind::UpdateSub
+        | OpKind::DeleteSub => match EntityId::read(words.first) {
+            Ok(id) => Some(id),
+            Err(_) => None,
+        },
+        OpKind::Query(_) | OpKind::ReadAvail | OpKind::SetAvail | OpKind::QuerySub => None,
+    }
+}
+
 // What a path, a method and a body give: the endpoint of the path, the kind of operation of the
-// method there, and the operation.
+// method there, the entity or subscription that they name, and the call.
 #[derive(Drop)]
 struct RoutedOperation {
     endpoint: Option<Endpoint>,
     kind: Option<OpKind>,
-    op: Operation,
+    entity: Option<EntityId>,
+    call: Call,
 }
 
-// Returns what path, method and body give.
+// Returns what path, method and body of a caller's request give.
 fn seek(
     alloc: Global,
     routes: &Routes,
     path: &str,
     method: &[u8],
     body: &[u8],
+    caller: Option<Caller>,
 ) -> Result<RoutedOperation, AllocError>
-    ensures asked { IfOk result (λ s. IsAsked path.now method.now body.now s.endpoint s.op) }
+    ensures asked { IfOk result (λ s. (op : Operation)
+        × IsAsked path.now method.now body.now s.endpoint op
+        × IsMadeFor s.call (record { caller = caller; op = op })) }
     ensures kind { IfOk result (λ s. s.kind ≡ requested_kind s.endpoint method.now) }
+    ensures entity { IfOk result (λ s.
+        IsEntityNamed path.now method.now s.endpoint s.entity) }
 {
     let Some(Route { endpoint, words }) = routes.find(path) else {
         return Ok(RoutedOperation {
             endpoint: None,
             kind: None,
-            op: Operation::NoRoute,
+            entity: None,
+            call: Call {
+                caller,
+                op: Operation::NoRoute,
+            },
         });
     };
     let Some(kind) = endpoint.kind(method) else {
         return Ok(RoutedOperation {
             endpoint: Some(endpoint),
             kind: None,
-            op: Operation::NoMethod,
+            entity: None,
+            call: Call {
+                caller,
+                op: Operation::NoMethod,
+            },
         });
     };
-    let op = read_as(alloc, kind, &words, body)?;
+    let call = call_as(alloc, kind, &words, body, caller)?;
     Ok(RoutedOperation {
         endpoint: Some(endpoint),
         kind: Some(kind),
-        op,
+        entity: entity_named(kind, &words),
+        call,
     })
 }
 
@@ -129,17 +194,21 @@ pub(crate) struct Received<'b> {
     pub(crate) size: usize,
 }
 
-/// The call that a request makes, with the endpoint of its path, the kind of operation of its
-/// method there, and its time.
+/// The call that is made for a request, with the endpoint of its path, the kind of operation of its
+/// method there, the entity or subscription that it names, and its time.
+///
+/// The call is that of the request, or one with the same caller that is denied alike: the body is
+/// not read if P3 or P4 denies the request.
 #[derive(Drop)]
 pub(crate) struct RoutedCall {
     pub(crate) endpoint: Option<Endpoint>,
     pub(crate) kind: Option<OpKind>,
+    pub(crate) entity: Option<EntityId>,
     pub(crate) moment: u64,
     pub(crate) call: Call,
 }
 
-// Returns the call that a request makes at a time.
+// Returns the call that is made for a request at a time.
 fn call_of(
     alloc: Global,
     routes: &Routes,
@@ -149,8 +218,9 @@ fn call_of(
 ) -> Result<RoutedCall, AllocError>
     requires { IsReceived received }
     ensures made { IfOk result (λ p.
-        IsMadeBy (callers_of tokens.now) received.entry p.endpoint p.call) }
+        IsMadeForOne (callers_of tokens.now) received.entry p.endpoint p.call) }
     ensures kind { IfOk result (λ p. IsKindIn received.entry p.endpoint p.kind) }
+    ensures entity { IfOk result (λ p. IsNamedIn received.entry p.endpoint p.entity) }
     ensures moment { IfOk result (λ p. p.moment ≡ moment) }
 {
     let Received {
@@ -164,19 +234,19 @@ fn call_of(
     };
     let path = path_of(target);
     let body = &buffer[spans.len..spans.len + size];
-    let RoutedOperation { endpoint, kind, op } = seek(
-        alloc,
-        routes,
-        path,
-        spans.method.of(buffer),
-        body,
-    )?;
     let caller = caller_of(tokens, buffer, &fields[..spans.headers])?;
+    let RoutedOperation {
+        endpoint,
+        kind,
+        entity,
+        call,
+    } = seek(alloc, routes, path, spans.method.of(buffer), body, caller)?;
     Ok(RoutedCall {
         endpoint,
         kind,
+        entity,
         moment,
-        call: Call { caller, op },
+        call,
     })
 }
 
@@ -202,7 +272,7 @@ pub(crate) fn left_after(received: Received<'_>, count: u32) -> u32
     }
 }
 
-/// Returns the call that a request makes, at the next time of the clock.
+/// Returns the call that is made for a request, at the next time of the clock.
 pub(crate) fn ask<M: Moments>(
     alloc: Global,
     routes: &Routes,
@@ -212,8 +282,9 @@ pub(crate) fn ask<M: Moments>(
 ) -> Result<RoutedCall, StreamFault>
     requires { IsReceived received }
     ensures made { IfOk result (λ p.
-        IsMadeBy (callers_of tokens.now) received.entry p.endpoint p.call) }
+        IsMadeForOne (callers_of tokens.now) received.entry p.endpoint p.call) }
     ensures kind { IfOk result (λ p. IsKindIn received.entry p.endpoint p.kind) }
+    ensures entity { IfOk result (λ p. IsNamedIn received.entry p.endpoint p.entity) }
     ensures moment { IfOk result (λ p. M.gives moments.old p.moment moments.new) }
     ensures good { OnOk result (M.failures moments.new ≡ M.failures moments.old) }
     ensures taken { result ≡ Err StreamFault.Memory

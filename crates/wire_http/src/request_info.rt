@@ -1,12 +1,12 @@
 //! Information about a response, for metrics and logs.
 ghost use Rattle.std.specs.Prelude.{◌≡◌, Some};
-ghost use Rattle.wire_http.specs.RequestInfo.{entity_of, noted_after, info_for, outcome_of, told_as};
+ghost use Rattle.wire_http.specs.RequestInfo.{noted_after, info_for, outcome_of, told_as};
 
 use crate::call::RoutedCall;
 use crate::end::End;
 use entity_core::entity_id::EntityId;
 use entity_core::uss_id::UssId;
-use policy_core::call::{Call, OpKind, Operation};
+use policy_core::call::{Call, OpKind};
 use policy_core::rule::Rule;
 use policy_core::scope::Caller;
 use service_step::reply::Reply;
@@ -35,8 +35,7 @@ pub struct RequestInfo {
     pub operation: Option<OpKind>,
     /// The USS that made the call, if a token identifies it.
     pub supplier: Option<UssId>,
-    /// The id of the entity or subscription in the operation, if path parameters and body have the
-    /// form of one with an id.
+    /// The id of the entity or subscription in the path, if it has the form of one.
     pub entity: Option<EntityId>,
     /// The outcome of the request.
     pub outcome: Outcome,
@@ -54,33 +53,18 @@ pub(crate) fn outcome_of(reply: &Reply) -> Outcome
     }
 }
 
-// Returns the id of the entity or subscription in an operation.
-fn entity_of(op: &Operation) -> Option<EntityId>
-    ensures { result ≡ entity_of op.now }
-{
-    match op {
-        Operation::Read(_, id)
-        | Operation::Create(id, _)
-        | Operation::Update(id, _, _)
-        | Operation::Delete(_, id, _)
-        | Operation::ReadSub(id)
-        | Operation::CreateSub(id, _)
-        | Operation::UpdateSub(id, _, _)
-        | Operation::DeleteSub(id, _) => Some(*id),
-        _ => None,
-    }
-}
-
 /// Returns the information about a call with this outcome.
 pub(crate) fn info_for(pending: RoutedCall, outcome: Outcome) -> RequestInfo
-    ensures { result ≡ info_for pending.kind pending.call outcome }
+    ensures { result ≡ info_for pending.kind pending.call pending.entity outcome }
 {
     let RoutedCall {
         endpoint: _,
         kind,
+        entity,
         moment: _,
-        call: Call { caller, op },
+        call,
     } = pending;
+    let Call { caller, op: _ } = call;
     let supplier = match caller {
         Some(Caller { uss, scopes: _ }) => Some(uss),
         None => None,
@@ -88,7 +72,7 @@ pub(crate) fn info_for(pending: RoutedCall, outcome: Outcome) -> RequestInfo
     RequestInfo {
         operation: kind,
         supplier,
-        entity: entity_of(&op),
+        entity,
         outcome,
     }
 }

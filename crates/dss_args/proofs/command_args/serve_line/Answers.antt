@@ -14,7 +14,8 @@ returns-clause-some c =
         listen = c.in_ok-listen_in.ensures.some;
         port = c.in_ok-port_in.ensures.some;
         count = c.in_ok-choice_in.ensures.some;
-        max_connections = c.in_ok-clients_in.ensures.some;
+        max_connections = c.in_ok-number_or.ensures.some;
+        response_memory = c.in_ok-number_or-2.ensures.some;
         quota = c.in_ok-quota_in.ensures.some;
         retention = c.in_ok-choice_in-2.ensures.some;
         admin_port = c.in_ok-admin_in.ensures.some;
@@ -57,10 +58,15 @@ returns-in_err-choice_in-2-clause-none c =
     let f = found_of c.args.matches.now in
     anyway _ _ (nothing_of_serve (rows_of f) (λ given has. c.in_err-choice_in-2.ensures.none given.retention has.retention))
 
-pub returns-in_err-clients_in-clause-none : goal.returns-in_err-clients_in-clause-none
-returns-in_err-clients_in-clause-none c =
+pub returns-in_err-number_or-clause-none : goal.returns-in_err-number_or-clause-none
+returns-in_err-number_or-clause-none c =
     let f = found_of c.args.matches.now in
-    anyway _ _ (nothing_of_serve (rows_of f) (λ given has. c.in_err-clients_in.ensures.none given.max_connections has.max_connections))
+    anyway _ _ (nothing_of_serve (rows_of f) (λ given has. c.in_err-number_or.ensures.none given.max_connections has.max_connections))
+
+pub returns-in_err-number_or-2-clause-none : goal.returns-in_err-number_or-2-clause-none
+returns-in_err-number_or-2-clause-none c =
+    let f = found_of c.args.matches.now in
+    anyway _ _ (nothing_of_serve (rows_of f) (λ given has. c.in_err-number_or-2.ensures.none given.response_memory has.response_memory))
 
 pub returns-in_err-admin_in-clause-none : goal.returns-in_err-admin_in-clause-none
 returns-in_err-admin_in-clause-none c =

@@ -19,13 +19,14 @@ returns c =
     let with_3 = arg_more with_2 c.port_option.ensures.rule c.port_option.ensures.local c.in_ok-arg-3.ensures in
     let with_4 = arg_more with_3 c.count_option.ensures.rule c.count_option.ensures.local c.in_ok-arg-4.ensures in
     let with_5 = arg_more with_4 c.clients_option.ensures.rule c.clients_option.ensures.local c.in_ok-arg-5.ensures in
-    let with_6 = arg_more with_5 c.quota_option.ensures.rule c.quota_option.ensures.local c.in_ok-arg-6.ensures in
-    let with_7 = arg_more with_6 c.retention_option.ensures.rule c.retention_option.ensures.local c.in_ok-arg-7.ensures in
-    let with_8 = arg_more with_7 c.admin_option.ensures.rule c.admin_option.ensures.local c.in_ok-arg-8.ensures in
-    let with_9 = arg_more with_8 c.backups_option.ensures.rule c.backups_option.ensures.local c.in_ok-arg-9.ensures in
-    let with_10 = arg_more with_9 c.listen_option.ensures.rule c.listen_option.ensures.local c.in_ok-arg-10.ensures in
-    let with_11 = arg_more with_10 c.log_option.ensures.rule c.log_option.ensures.local c.in_ok-arg-11.ensures in
-    let with_12 = arg_more with_11 c.double_sync_flag.ensures.rule c.double_sync_flag.ensures.local c.in_ok-arg-12.ensures in
-    IfOk-weaker c.arg-13.result _ _
-    (λ command adds. arg_more with_12 c.verbose_flag.ensures.rule c.verbose_flag.ensures.local adds)
-    c.arg-13.ensures
+    let with_6 = arg_more with_5 c.memory_option.ensures.rule c.memory_option.ensures.local c.in_ok-arg-6.ensures in
+    let with_7 = arg_more with_6 c.quota_option.ensures.rule c.quota_option.ensures.local c.in_ok-arg-7.ensures in
+    let with_8 = arg_more with_7 c.retention_option.ensures.rule c.retention_option.ensures.local c.in_ok-arg-8.ensures in
+    let with_9 = arg_more with_8 c.admin_option.ensures.rule c.admin_option.ensures.local c.in_ok-arg-9.ensures in
+    let with_10 = arg_more with_9 c.backups_option.ensures.rule c.backups_option.ensures.local c.in_ok-arg-10.ensures in
+    let with_11 = arg_more with_10 c.listen_option.ensures.rule c.listen_option.ensures.local c.in_ok-arg-11.ensures in
+    let with_12 = arg_more with_11 c.log_option.ensures.rule c.log_option.ensures.local c.in_ok-arg-12.ensures in
+    let with_13 = arg_more with_12 c.double_sync_flag.ensures.rule c.double_sync_flag.ensures.local c.in_ok-arg-13.ensures in
+    IfOk-weaker c.arg-14.result _ _
+    (λ command adds. arg_more with_13 c.verbose_flag.ensures.rule c.verbose_flag.ensures.local adds)
+    c.arg-14.ensures
