@@ -16,6 +16,8 @@ from program import run
 
 STOPPED = 99
 KEPT = ("all", "synced", "half")
+# Changes that are also tried over a database that SQLite's `VACUUM` made.
+AFTER_VACUUM = "a creation that names and notifies", "a deletion of a subscription"
 # Ids that nothing has yet.
 OTHER, ANOTHER = (f"00000000-0000-4000-8000-0000000000{end}" for end in ("b2", "d3"))
 
@@ -106,11 +108,14 @@ class Machine:
         return tables.wrong_in(database) or got
 
 
-def of_change(name, made, change):
-    """Returns what is wrong after a stop at any call of one change, and the number of stops."""
+def of_change(name, made, change, *rewrites):
+    """Returns what is wrong after a stop at any call of one change, and the number of stops. What was made before is
+    rewritten first."""
     found, stops = [], 0
     with Room() as room:
         machine = Machine(room, made)
+        for rewrite in rewrites:
+            rewrite(machine.saved / "dss.db")
         before = machine.seen(machine.again())
         database = machine.again()
         status, answer, calls = machine.serve(database, [change])
@@ -133,6 +138,9 @@ def each_call():
     found, stops = [], 0
     for name, (made, change) in changes().items():
         wrong, count = of_change(name, made, change)
+        found, stops = found + wrong, stops + count
+    for name in AFTER_VACUUM:
+        wrong, count = of_change(f"{name} after VACUUM", *changes()[name], vacuumed)
         found, stops = found + wrong, stops + count
     print(f"the machine stopped {stops} times among the calls that change the files")
     return found
