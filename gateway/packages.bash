@@ -1,5 +1,7 @@
 # Debian 12's packages of the gateway, for scripts that set `top` to the directory of the repository.
 
+# What a built gateway and gateway/run need, and what builds and tests it.
+libraries=(libs2-0 libabsl20220623 libssl3 zlib1g openssl curl)
 packages=(g++ make libs2-dev libboost-dev nlohmann-json3-dev libtoml11-dev libssl-dev zlib1g-dev openssl curl)
 
 # Installs the given packages that are missing.

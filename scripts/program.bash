@@ -2,12 +2,16 @@
 #
 # They are for scripts that set `top` to the directory of the repository, and call `forget` when they exit. A program
 # matches these sources according to its record, which has SHA-256 of the sources and of itself. File times do not count,
-# and the kit is not needed.
+# and the kit is not needed. gateway/program.bash uses the same functions for the gateway.
 
-# The directory of a program that was built or unpacked here.
+# The name of the program, and the directory of one that was built or unpacked here.
+program_name=dss
 built=$top/.dss
 release=$top/release
 packed=$release/dss-x86_64-linux.gz
+record=$release/made-of
+# The system that the release needs.
+needs='glibc 2.34 or later'
 # What an aborted run leaves: its own directories, and the job that proves.
 room='' place='' job=''
 
@@ -51,18 +55,18 @@ read_made() {
 # Succeeds if the program in a directory matches these sources and is undamaged. The caller can give its sum. Otherwise
 # `other` says why.
 is_current() {
-    local is_damaged='the program in .dss is damaged'
+    local is_damaged="the program in ${built#"$top/"} is damaged"
     other=
-    [ -e "$1/dss" ] || return 1
-    other='the program in .dss was built from other sources'
+    [ -e "$1/$program_name" ] || return 1
+    other="the program in ${built#"$top/"} was built from other sources"
     read_made "$1/made-of" && [ "${made[sources]-}" = "$sources" ] || return 1
     if [ "${DSS_BUILD-}" = source ] && [ "${made[by]-}" != build ]; then
         other='DSS_BUILD asks for a build'
         return 1
     fi
     # Another run may have put it there since its sum was computed.
-    [ "${made[program]-}" = "${2-}" ] || [ "${made[program]-}" = "$(sum_of "$1/dss")" ] || { other=$is_damaged && return 1; }
-    [ -x "$1/dss" ] || { other=$is_damaged && return 1; }
+    [ "${made[program]-}" = "${2-}" ] || [ "${made[program]-}" = "$(sum_of "$1/$program_name")" ] || { other=$is_damaged && return 1; }
+    [ -x "$1/$program_name" ] || { other=$is_damaged && return 1; }
 }
 
 # Sets `place` to a new directory in the first of the given directories that is writable.
@@ -77,22 +81,22 @@ make_place() {
 # Moves the files in `place` into its parent directory. Another run that does so has the same files. A run in between
 # finds no program, or one that does not match its record.
 put_in_place() {
-    program=${place%/*}/dss
-    mv -f -- "$place/made-of" "${place%/*}/made-of" && mv -f -- "$place/dss" "$program" && rmdir -- "$place" && place=
+    program=${place%/*}/$program_name
+    mv -f -- "$place/made-of" "${place%/*}/made-of" && mv -f -- "$place/$program_name" "$program" && rmdir -- "$place" && place=
 }
 
 # Unpacks the release to a file, if it matches these sources and this processor and is undamaged. Otherwise `why` says
 # what is wrong.
 unpack() {
     why='there is no release'
-    read_made "$release/made-of" || return 1
+    read_made "$record" || return 1
     why='the release was made from other sources'
     [ "${made[sources]-}" = "$sources" ] || return 1
     why="the release is for ${made[processor]-}, and this processor is $(uname -m)"
     [ "${made[processor]-}" = "$(uname -m)" ] || return 1
     why='the release is damaged'
     gzip -dc -- "$packed" >"$1" 2>/dev/null && [ "$(sum_of "$1")" = "${made[program]-}" ] || return 1
-    why='the release does not start on this system; it needs glibc 2.34 or later'
+    why="the release does not start on this system; it needs $needs"
     chmod 755 -- "$1" && "$1" --help </dev/null >/dev/null 2>&1
 }
 
@@ -100,7 +104,7 @@ unpack() {
 # `program`.
 take_release() {
     make_place "$built" "$cache" || { why="cannot write in $built or $cache" && return 1; }
-    unpack "$place/dss" && { cat -- "$release/made-of" && printf 'by release\n'; } >"$place/made-of" && put_in_place && return
+    unpack "$place/$program_name" && { cat -- "$record" && printf 'by release\n'; } >"$place/made-of" && put_in_place && return
     forget
     return 1
 }

@@ -1,8 +1,10 @@
 // What the page knows: items of the gateway, where they are at a moment, and what meets there.
-import { cellOf, outlineOf } from "./cells.js";
+import { around, cellsOf, outlineOf } from "./cells.js";
 
 const MOST_PAIRS = 500, MOST_TRIES = 300000;
 const ALWAYS = 1e15;
+const BINS = 240; // on a side of the plane, by which references are near each other
+let marks = 0; // of the lists of cells that were made
 
 // Most urgent first: the one that a cell has its colour of.
 export const STATES = ["Contingent", "Nonconforming", "constraint", "Activated", "Accepted"];
@@ -42,35 +44,50 @@ export class Airspace {
     this.suppliers = [...new Set(all.map((it) => it.kind === "supplier" ? it.id : it.manager))].sort();
     this.indexOf = new Map(this.references.map((it, k) => [nameOf(it), k]));
     this.rank = Uint8Array.from(this.references, (it) => STATES.indexOf(stateOf(it)));
-    const volumes = [], tokens = new Set();
+    this.madeGroups = null;
+    const volumes = [], cells = [], mark = ++marks;
+    this.firstVolume = new Int32Array(this.references.length + 1);
     this.waiting = 0;
     this.references.forEach((it, reference) => {
       for (const one of volumesOf(it)) {
-        volumes.push({ reference, ...one });
-        for (const token of one.tokens) tokens.add(token);
-        if (one.isPerhaps) this.waiting += one.tokens.length;
+        volumes.push(one);
+        for (const cell of one.cells) {
+          if (cell.mark === mark) continue;
+          cell.mark = mark;
+          cells.push(cell);
+        }
+        if (one.isPerhaps) this.waiting += one.cells.length;
       }
+      this.firstVolume[reference + 1] = volumes.length;
     });
     this.volumes = volumes;
-    this.firstVolume = new Int32Array(this.references.length + 1);
-    for (const it of volumes) this.firstVolume[it.reference + 1]++;
-    for (let k = 0; k < this.references.length; k++) this.firstVolume[k + 1] += this.firstVolume[k];
-    this.cells = [...tokens].map(cellOf).sort((a, b) => a.level - b.level);
-    const index = new Map(this.cells.map((it, k) => [it.token, k]));
-    this.parent = Int32Array.from(this.cells, (it) => index.get(it.around.find((one) => index.has(one))) ?? -1);
+    this.buildCells(cells);
     this.from = new Int32Array(volumes.length + 1);
-    volumes.forEach((it, k) => { this.from[k + 1] = this.from[k] + it.tokens.length; });
+    volumes.forEach((it, k) => { this.from[k + 1] = this.from[k] + it.cells.length; });
     this.held = new Int32Array(this.from[volumes.length]);
     let at = 0;
-    for (const it of volumes) for (const token of it.tokens) this.held[at++] = index.get(token);
-    this.referenceOf = Int32Array.from(volumes, (it) => it.reference);
+    for (const it of volumes) for (const cell of it.cells) this.held[at++] = cell.index;
+    this.referenceOf = new Int32Array(volumes.length);
+    this.references.forEach((_, k) => this.referenceOf.fill(k, this.firstVolume[k], this.firstVolume[k + 1]));
     this.perhaps = Uint8Array.from(volumes, (it) => it.isPerhaps ? 1 : 0);
     this.isIntent = Uint8Array.from(this.references, (it) => it.kind === "intent" ? 1 : 0);
-    this.numbers = Float64Array.from(volumes.flatMap((it) => [it.start, it.end, it.lower, it.upper]));
+    this.numbers = new Float64Array(4 * volumes.length);
+    volumes.forEach((it, k) => this.numbers.set([it.start, it.end, it.lower, it.upper], 4 * k));
     const count = this.cells.length;
     Object.assign(this, { top: new Int32Array(count), isSure: new Uint8Array(count), count: new Uint16Array(count), shared: new Uint8Array(count),
       intents: new Uint16Array(count), last: new Int32Array(count), there: new Uint8Array(this.references.length), active: new Uint8Array(volumes.length) });
     this.lastEnd = this.references.reduce((last, it) => Math.max(last, it.time_end), 0);
+  }
+
+  // The cells, coarse ones first, and for each the finest one of them that is around it.
+  buildCells(cells) {
+    this.cells = cells.sort((a, b) => a.level - b.level);
+    this.cells.forEach((it, k) => { it.index = k; });
+    const deepest = this.cells.at(-1)?.level ?? 0, coarse = new Map();
+    for (const it of this.cells) if (it.level < deepest) coarse.set(it.number, it.index);
+    this.parent = new Int32Array(this.cells.length).fill(-1);
+    if (coarse.size)
+      this.cells.forEach((it, k) => { this.parent[k] = coarse.get(around(it).find((one) => coarse.has(one))) ?? -1; });
   }
 
   // Where the references are at a second and an altitude in metres or null: the most urgent reference of each cell, and what is shared.
@@ -128,7 +145,7 @@ export class Airspace {
     for (let it = cell; it >= 0; it = this.parent[it]) cells.add(it);
     for (let v = 0; v < this.volumes.length; v++) {
       if (!this.active[v]) continue;
-      for (let n = this.from[v]; n < this.from[v + 1]; n++) if (cells.has(this.held[n])) found.add(this.volumes[v].reference);
+      for (let n = this.from[v]; n < this.from[v + 1]; n++) if (cells.has(this.held[n])) found.add(this.referenceOf[v]);
     }
     return [...found].sort((a, b) => this.rank[a] - this.rank[b]).map((it) => this.references[it]);
   }
@@ -141,7 +158,7 @@ export class Airspace {
     const shown = volumes.filter((_, k) => !isThere || this.active[this.firstVolume[reference] + k]);
     const key = isThere && shown.length !== volumes.length ? shown.map((it) => volumes.indexOf(it)).join() : "";
     const made = outlines.get(item) ?? outlines.set(item, new Map()).get(item);
-    if (!made.has(key)) made.set(key, outlineOf([...new Set(shown.flatMap((it) => it.tokens))]));
+    if (!made.has(key)) made.set(key, outlineOf([...new Set(shown.flatMap((it) => it.cells))]));
     return made.get(key);
   }
 
@@ -158,7 +175,7 @@ export class Airspace {
   pairs() {
     const inCell = new Map();
     for (let v = 0; v < this.volumes.length; v++) {
-      if (!this.active[v] || this.volumes[v].isPerhaps) continue;
+      if (!this.active[v] || this.perhaps[v]) continue;
       for (let n = this.from[v]; n < this.from[v + 1]; n++) {
         const list = inCell.get(this.held[n]);
         if (list) list.push(v);
@@ -174,11 +191,10 @@ export class Airspace {
       for (let a = 0; a < own.length; a++)
         for (let b = a + 1; b < all.length; b++) {
           if (++tries > MOST_TRIES || found.size >= MOST_PAIRS) return { pairs: [...found.values()], hasMore: true };
-          const [one, other] = [this.volumes[own[a]], this.volumes[all[b]]];
-          if (one.reference === other.reference || one.lower > other.upper || other.lower > one.upper) continue;
-          const pair = [this.references[one.reference], this.references[other.reference]];
-          if (pair.every((it) => it.kind === "constraint")) continue;
-          const key = Math.min(one.reference, other.reference) * 1e6 + Math.max(one.reference, other.reference);
+          const [v, w] = [own[a], all[b]], one = this.referenceOf[v], other = this.referenceOf[w];
+          if (one === other || this.numbers[4 * v + 2] > this.numbers[4 * w + 3] || this.numbers[4 * w + 2] > this.numbers[4 * v + 3]) continue;
+          if (!this.isIntent[one] && !this.isIntent[other]) continue;
+          const pair = [this.references[one], this.references[other]], key = Math.min(one, other) * 1e6 + Math.max(one, other);
           if (!found.has(key)) found.set(key, { pair, cell });
         }
     }
@@ -187,48 +203,65 @@ export class Airspace {
 
   // Groups of references that are near each other, the largest first: each with the box around its cells on the plane.
   groups() {
-    const width = 1 / 240, bins = new Map();
-    this.references.forEach((it, k) => {
-      const v = this.firstVolume[k];
-      if (this.from[v] === this.from[this.firstVolume[k + 1]]) return;
-      const { corners } = this.cells[this.held[this.from[v]]];
-      const key = `${Math.floor(corners[0] / width)},${Math.floor(corners[1] / width)}`;
-      if (!bins.has(key)) bins.set(key, []);
-      bins.get(key).push(k);
-    });
-    const groups = [];
-    for (const [key, list] of bins) {
-      if (!list.length) continue;
-      const group = { references: [], box: [Infinity, Infinity, -Infinity, -Infinity] }, open = [key];
-      while (open.length) {
-        const at = open.pop(), held = bins.get(at);
-        if (!held?.length) continue;
-        group.references.push(...held);
-        bins.set(at, []);
-        const [x, y] = at.split(",").map(Number);
-        for (let a = -1; a <= 1; a++) for (let b = -1; b <= 1; b++) open.push(`${x + a},${y + b}`);
-      }
-      for (const k of group.references)
-        for (let n = this.from[this.firstVolume[k]]; n < this.from[this.firstVolume[k + 1]]; n++) {
-          const { corners } = this.cells[this.held[n]];
-          for (let c = 0; c < 8; c++) {
-            group.box[c % 2] = Math.min(group.box[c % 2], corners[c]);
-            group.box[2 + c % 2] = Math.max(group.box[2 + c % 2], corners[c]);
-          }
-        }
-      groups.push(group);
+    if (this.madeGroups) return this.madeGroups;
+    // squares of the plane by their numbers, and the references in each
+    const bins = new Map(), across = 1024;
+    for (let k = 0; k < this.references.length; k++) {
+      const first = this.from[this.firstVolume[k]];
+      if (first === this.from[this.firstVolume[k + 1]]) continue;
+      const { corners } = this.cells[this.held[first]];
+      const bin = Math.floor(corners[1] * BINS) * across + Math.floor(corners[0] * BINS);
+      if (!bins.has(bin)) bins.set(bin, []);
+      bins.get(bin).push(k);
     }
-    return groups.sort((a, b) => b.references.length - a.references.length);
+    const groups = [], seen = new Int32Array(this.cells.length); // by cells, the last group that had them
+    for (const bin of bins.keys()) {
+      const group = { references: [], box: [Infinity, Infinity, -Infinity, -Infinity] }, open = [bin];
+      while (open.length) {
+        const at = open.pop(), list = bins.get(at);
+        if (!list?.length) continue;
+        for (const k of list) group.references.push(k);
+        bins.set(at, []);
+        for (const step of [-across, 0, across]) open.push(at + step - 1, at + step, at + step + 1);
+      }
+      if (!group.references.length) continue;
+      groups.push(group);
+      this.surround(group, seen, groups.length);
+    }
+    return this.madeGroups = groups.sort((a, b) => b.references.length - a.references.length);
+  }
+
+  // Sets the box around the cells of a group.
+  surround({ references, box }, seen, number) {
+    for (const k of references)
+      for (let n = this.from[this.firstVolume[k]]; n < this.from[this.firstVolume[k + 1]]; n++) {
+        const cell = this.held[n];
+        if (seen[cell] === number) continue;
+        seen[cell] = number;
+        const { corners } = this.cells[cell];
+        for (let c = 0; c < 8; c += 2) {
+          box[0] = Math.min(box[0], corners[c]);
+          box[1] = Math.min(box[1], corners[c + 1]);
+          box[2] = Math.max(box[2], corners[c]);
+          box[3] = Math.max(box[3], corners[c + 1]);
+        }
+      }
   }
 }
 
 const outlines = new WeakMap();
 
-// The volumes of an item; of one whose volumes are not known, where it is and where it may be.
+const volumesOfItems = new WeakMap();
+
+// The volumes of an item; of one whose volumes are not known, where it is and where it may be. No item ever changes.
 export function volumesOf(item) {
-  const words = (text) => text ? text.split(" ") : [];
+  if (!volumesOfItems.has(item)) volumesOfItems.set(item, madeVolumes(item));
+  return volumesOfItems.get(item);
+}
+
+function madeVolumes(item) {
   if (item.volumes)
-    return item.volumes.map((it) => ({ tokens: words(it.cells), start: it.start, end: it.end, lower: it.lower, upper: it.upper, isPerhaps: false }));
+    return item.volumes.map((it) => ({ cells: cellsOf(it.cells), start: it.start, end: it.end, lower: it.lower, upper: it.upper, isPerhaps: false }));
   return ["in", "perhaps"].filter((it) => item[it]).map((it) => (
-    { tokens: words(item[it]), start: item.time_start, end: item.time_end, lower: -ALWAYS, upper: ALWAYS, isPerhaps: it === "perhaps" }));
+    { cells: cellsOf(item[it]), start: item.time_start, end: item.time_end, lower: -ALWAYS, upper: ALWAYS, isPerhaps: it === "perhaps" }));
 }

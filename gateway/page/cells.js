@@ -7,48 +7,85 @@ export function project(lng, lat) {
 
 const FINEST = 13;
 export const SIDE = 1 << FINEST; // cells of the finest level on a side of a face
-const TO_IJ = [[0, 1, 3, 2], [0, 2, 3, 1], [3, 2, 0, 1], [3, 1, 0, 2]];
-const TURN = [1, 0, 0, 3];
-
-const known = new Map();
-
-// The face of a cell, its place on it and its size in cells of the finest level, its corners on the plane, and the tokens of
-// the cells around it.
-export function cellOf(token) {
-  let found = known.get(token);
-  if (found) return found;
-  const number = parseInt(token.padEnd(8, "0").slice(0, 8), 16);
-  const level = FINEST - (31 - Math.clz32(number & -number) - 2) / 2, face = number >>> 29;
-  let [i, j, orientation] = [0, 0, face & 1];
-  const around = [];
-  for (let k = 0; k < level; k++) {
-    const bits = (number >>> (27 - 2 * k)) & 3, ij = TO_IJ[orientation][bits];
-    i = i << 1 | ij >> 1;
-    j = j << 1 | ij & 1;
-    orientation ^= TURN[bits];
-    const last = 2 ** (28 - 2 * k);
-    if (k) around.push((Math.floor(number / (2 * last)) * 2 * last + last).toString(16).padStart(8, "0").replace(/0+$/, ""));
-  }
-  const size = 1 << (FINEST - level);
-  known.set(token, found = { token, level, face, i: i * size, j: j * size, size, around: around.reverse(), corners: null });
-  const [left, low] = [found.i, found.j];
-  const corners = [[0, 0], [size, 0], [size, size], [0, size]].flatMap(([a, b]) => onPlane(face, left + a, low + b));
-  for (let k = 2; k < 8; k += 2) corners[k] -= Math.round(corners[k] - corners[0]); // over the antimeridian
-  found.corners = corners;
-  return found;
-}
+const TO_IJ = Uint8Array.of(0, 1, 3, 2, 0, 2, 3, 1, 3, 2, 0, 1, 3, 1, 0, 2);
+const TURN = Uint8Array.of(1, 0, 0, 3);
+const HIGHEST = Math.asinh(Math.tan(85 * Math.PI / 180)); // as in `project`
 
 const unbent = (s) => s >= 0.5 ? (4 * s * s - 1) / 3 : (1 - 4 * (1 - s) * (1 - s)) / 3;
 const bent = (u) => u >= 0 ? 0.5 * Math.sqrt(1 + 3 * u) : 1 - 0.5 * Math.sqrt(1 - 3 * u);
+const UNBENT = Float64Array.from({ length: SIDE + 1 }, (_, k) => unbent(k / SIDE));
+
+// Cells by their numbers: the first 30 bits of a cell's number of S2, which have all of it down to level 13.
+const known = new Map();
+
+export const cellOf = (token) => cellsOf(token)[0];
+
+// The cells of tokens with blanks in between. No text is cut out, since there are very many.
+export function cellsOf(tokens) {
+  const cells = [];
+  for (let k = 0, bits = 0, left = 32; k <= tokens.length; k++) {
+    const code = k < tokens.length ? tokens.charCodeAt(k) : 32;
+    if (code !== 32) {
+      if (left) bits |= (code < 58 ? code - 48 : code - 87) << (left -= 4);
+      continue;
+    }
+    if (left < 32) cells.push(known.get(bits >>> 2) ?? made(bits >>> 2));
+    bits = 0;
+    left = 32;
+  }
+  return cells;
+}
+
+export const tokenOf = ({ number }) => (number * 4).toString(16).padStart(8, "0").replace(/0+$/, "");
+
+// The numbers of the cells around a cell, from the finest to those of level 1.
+export function around({ number }) {
+  const found = [];
+  for (let last = 4 * (number & -number); last <= 1 << 24; last *= 4) found.push(number & -2 * last | last);
+  return found;
+}
+
+// The face of a cell, its place on it and its size in cells of the finest level, and its corners on the plane.
+function made(number) {
+  const level = FINEST - (31 - Math.clz32(number & -number)) / 2, face = number >>> 27, size = 1 << (FINEST - level);
+  let [i, j, orientation] = [0, 0, face & 1];
+  for (let k = 0; k < level; k++) {
+    const bits = number >>> (25 - 2 * k) & 3, ij = TO_IJ[orientation << 2 | bits];
+    i = i << 1 | ij >> 1;
+    j = j << 1 | ij & 1;
+    orientation ^= TURN[bits];
+  }
+  const corners = [0.5, 0.5, 0.5, 0.5, 0.5, 0.5, 0.5, 0.5];
+  i *= size;
+  j *= size;
+  putOnPlane(face, i, j, corners, 0);
+  putOnPlane(face, i + size, j, corners, 2);
+  putOnPlane(face, i + size, j + size, corners, 4);
+  putOnPlane(face, i, j + size, corners, 6);
+  for (let k = 2; k < 8; k += 2) corners[k] -= Math.round(corners[k] - corners[0]); // over the antimeridian
+  const cell = { number, level, face, i, j, size, corners, index: -1, mark: 0 }; // the last two are an airspace's
+  known.set(number, cell);
+  return cell;
+}
 
 function inSpace(face, u, v) {
   return [[1, u, v], [-u, 1, v], [-u, -v, 1], [-1, -v, -u], [v, -1, -u], [v, u, -1]][face];
 }
 
-// A corner of cells on the plane.
+// Writes a corner of cells on the plane into a list, without making anything.
+function putOnPlane(face, i, j, list, at) {
+  const u = UNBENT[i], v = UNBENT[j];
+  const x = face === 0 ? 1 : face === 3 ? -1 : face === 1 || face === 2 ? -u : v;
+  const y = face === 1 ? 1 : face === 4 ? -1 : face === 0 || face === 5 ? u : -v;
+  const z = face === 2 ? 1 : face === 5 ? -1 : face === 0 || face === 1 ? v : -u;
+  list[at] = Math.atan2(y, x) / (2 * Math.PI) + 0.5;
+  list[at + 1] = 0.5 - Math.max(-HIGHEST, Math.min(HIGHEST, Math.asinh(z / Math.sqrt(x * x + y * y)))) / (2 * Math.PI);
+}
+
 function onPlane(face, i, j) {
-  const [x, y, z] = inSpace(face, unbent(i / SIDE), unbent(j / SIDE));
-  return project(Math.atan2(y, x) * 180 / Math.PI, Math.atan2(z, Math.hypot(x, y)) * 180 / Math.PI);
+  const place = [0.5, 0.5];
+  putOnPlane(face, i, j, place, 0);
+  return place;
 }
 
 const keyOf = (face, i, j) => (face * SIDE + i) * SIDE + j;
@@ -62,8 +99,8 @@ function keyBeside(face, i, j) {
 }
 
 // The outline of cells together, as lists of places on the plane: edges between two of them are left out.
-export function outlineOf(tokens) {
-  const cells = tokens.map(cellOf), unit = Math.min(...cells.map((it) => it.size)), held = new Set();
+export function outlineOf(cells) {
+  const unit = Math.min(...cells.map((it) => it.size)), held = new Set();
   for (const { face, i, j, size } of cells)
     for (let a = 0; a < size; a += unit) for (let b = 0; b < size; b += unit) held.add(keyOf(face, i + a, j + b));
   const isHeld = (face, i, j) => held.has(i < 0 || j < 0 || i >= SIDE || j >= SIDE

@@ -14,8 +14,10 @@ const [MANY, REST] = [2000, 120];
 // How each state is filled, with stripes or without, and how its outline is drawn.
 const FILLS = { Contingent: 0.5, Nonconforming: 0.14, constraint: 0.08, Activated: 0.5, Accepted: 0.14 };
 const STRIPES = { Nonconforming: [1, 0.75], constraint: [2, 0.6] };
-const WIDTHS = { Contingent: 3.5, Nonconforming: 2, constraint: 1, Activated: 1.2, Accepted: 1.6 };
-const DASHES = { Nonconforming: [6, 4], constraint: [2, 3] };
+const WIDTHS = { Contingent: 3.5, Nonconforming: 2, constraint: 1.4, Activated: 1.6, Accepted: 1.6 };
+// Pixels of the ground's colour on both sides of an outline, with which it can be seen on the fill of a more urgent flight.
+const CASING = 2.4;
+const DASHES = { Nonconforming: [6, 4], constraint: [3, 3] };
 // Which stripes a pixel lies on: 1 for rising ones, 2 for falling ones.
 const STRIPE_OF = Uint8Array.from({ length: 64 }, (_, k) => (((k >> 3) + k) % 8 < 2 ? 1 : 0) + (((k >> 3) - k + 64) % 8 < 1 ? 2 : 0));
 
@@ -40,6 +42,7 @@ export class Drawing {
     this.context = canvas.getContext("2d");
     this.overContext = over.getContext("2d");
     this.pixels = document.createElement("canvas");
+    [this.px, this.py] = [new Float64Array(4), new Float64Array(4)]; // corners of one cell in pixels
     this.view = { x: 0.5, y: 0.5, scale: 1000 };
     this.airspace = null;
     this.home = [];
@@ -53,13 +56,18 @@ export class Drawing {
     matchMedia("(prefers-color-scheme: dark)").addEventListener("change", () => this.draw());
   }
 
-  resize() {
-    const ratio = window.devicePixelRatio || 1;
-    this.width = this.canvas.clientWidth;
-    this.height = this.canvas.clientHeight;
+  // Takes the size that the map has now; true where it had another.
+  measure() {
+    const ratio = window.devicePixelRatio || 1, { clientWidth: width, clientHeight: height } = this.canvas;
+    if (width === this.width && height === this.height && ratio === this.ratio) return false;
+    Object.assign(this, { width, height, ratio });
     for (const it of [this.canvas, this.over, this.ground.canvas])
-      Object.assign(it, { width: Math.round(this.width * ratio), height: Math.round(this.height * ratio) });
-    this.ratio = ratio;
+      Object.assign(it, { width: Math.round(width * ratio), height: Math.round(height * ratio) });
+    return true;
+  }
+
+  resize() {
+    if (!this.measure()) return;
     if (this.isHome) this.showHome();
     this.drawNow();
   }
@@ -152,13 +160,11 @@ export class Drawing {
   draw() {
     if (this.isDue || !this.width) return;
     this.isDue = true;
-    requestAnimationFrame(() => {
-      this.isDue = false;
-      this.drawNow();
-    });
+    requestAnimationFrame(() => { if (this.isDue) this.drawNow(); });
   }
 
   drawNow() {
+    this.isDue = false;
     if (!this.width) return;
     const style = getComputedStyle(document.documentElement), known = new Map();
     this.colour = (name) => known.get(name) ?? known.set(name, style.getPropertyValue(name).trim()).get(name);
@@ -200,51 +206,57 @@ export class Drawing {
     if (key === this.built) return;
     this.built = key;
     if (this.ids?.length !== width * height) {
-      this.ids = new Int32Array(width * height);
+      Object.assign(this, { ids: new Int32Array(width * height), edgeRoom: new Int32Array(width * height) });
       Object.assign(this.pixels, { width, height });
       this.image = this.pixels.getContext("2d").createImageData(width, height);
       this.out = new Uint32Array(this.image.data.buffer);
-      this.known = new Uint8Array(0);
     }
-    const { ids } = this, [dx, dy] = [width / 2 - x * scale, height / 2 - y * scale];
-    ids.fill(0);
+    this.ids.fill(0);
     this.finest = Infinity;
     this.inView = new Uint8Array(airspace.cells.length);
-    const px = new Float64Array(4), py = new Float64Array(4);
-    airspace.cells.forEach(({ corners }, cell) => {
-      const turn = Math.round(x - corners[0]) * scale;
-      let [left, right, low, high] = [Infinity, -Infinity, Infinity, -Infinity];
+    airspace.cells.forEach(({ corners }, cell) => this.findCell(corners, cell));
+    this.findRows();
+    this.findEdges();
+  }
+
+  // Gives the pixels of a cell its number and one more.
+  findCell(corners, cell) {
+    const { view: { x, y, scale }, width, height, ids, px, py } = this;
+    const [dx, dy] = [width / 2 + (Math.round(x - corners[0]) - x) * scale, height / 2 - y * scale];
+    let [left, right, low, high] = [Infinity, -Infinity, Infinity, -Infinity];
+    for (let k = 0; k < 4; k++) {
+      px[k] = corners[2 * k] * scale + dx;
+      py[k] = corners[2 * k + 1] * scale + dy;
+      left = Math.min(left, px[k]);
+      right = Math.max(right, px[k]);
+      low = Math.min(low, py[k]);
+      high = Math.max(high, py[k]);
+    }
+    if (right < 0 || left > width || high < 0 || low > height) return;
+    this.inView[cell] = 1;
+    this.finest = Math.min(this.finest, high - low);
+    // one that is smaller than a pixel still has one
+    if (right - left < 1.5 || high - low < 1.5) {
+      const column = Math.floor((left + right) / 2), row = Math.floor((low + high) / 2);
+      if (column >= 0 && column < width && row >= 0 && row < height) ids[row * width + column] = cell + 1;
+    }
+    for (let row = Math.max(0, Math.ceil(low - 0.5)), end = Math.min(height - 1, Math.floor(high - 0.5)); row <= end; row++) {
+      let [from, to] = [Infinity, -Infinity];
       for (let k = 0; k < 4; k++) {
-        px[k] = corners[2 * k] * scale + dx + turn;
-        py[k] = corners[2 * k + 1] * scale + dy;
-        left = Math.min(left, px[k]);
-        right = Math.max(right, px[k]);
-        low = Math.min(low, py[k]);
-        high = Math.max(high, py[k]);
+        const n = (k + 1) & 3, level = row + 0.5;
+        if (py[k] > level === py[n] > level) continue;
+        const cut = px[k] + (level - py[k]) / (py[n] - py[k]) * (px[n] - px[k]);
+        from = Math.min(from, cut);
+        to = Math.max(to, cut);
       }
-      if (right < 0 || left > width || high < 0 || low > height) return;
-      this.inView[cell] = 1;
-      this.finest = Math.min(this.finest, high - low);
-      // one that is smaller than a pixel still has one
-      const isTiny = right - left < 1.5 || high - low < 1.5;
-      if (isTiny) {
-        const at = [Math.floor((left + right) / 2), Math.floor((low + high) / 2)];
-        if (at[0] >= 0 && at[0] < width && at[1] >= 0 && at[1] < height) ids[at[1] * width + at[0]] = cell + 1;
-      }
-      for (let row = Math.max(0, Math.ceil(low - 0.5)), end = Math.min(height - 1, Math.floor(high - 0.5)); row <= end; row++) {
-        let [from, to] = [Infinity, -Infinity];
-        for (let k = 0; k < 4; k++) {
-          const n = (k + 1) & 3, level = row + 0.5;
-          if (py[k] > level === py[n] > level) continue;
-          const cut = px[k] + (level - py[k]) / (py[n] - py[k]) * (px[n] - px[k]);
-          from = Math.min(from, cut);
-          to = Math.max(to, cut);
-        }
-        const [first, last] = [Math.max(0, Math.ceil(from - 0.5)), Math.min(width, Math.floor(to - 0.5) + 1)];
-        if (last > first) ids.fill(cell + 1, row * width + first, row * width + last);
-      }
-    });
-    // where each row has cells
+      const [first, last] = [Math.max(0, Math.ceil(from - 0.5)), Math.min(width, Math.floor(to - 0.5) + 1)];
+      if (last > first) ids.fill(cell + 1, row * width + first, row * width + last);
+    }
+  }
+
+  // Where each row has cells.
+  findRows() {
+    const { ids, width, height } = this;
     this.out.fill(0);
     this.rows = new Int32Array(2 * height);
     for (let row = 0; row < height; row++) {
@@ -254,13 +266,19 @@ export class Drawing {
       this.rows[2 * row] = from;
       this.rows[2 * row + 1] = to;
     }
-    // pixels whose neighbour on the right or below is in another cell
-    const edges = [];
+  }
+
+  // Pixels whose neighbour on the right or below is in another cell.
+  findEdges() {
+    const { ids, width, height, rows, edgeRoom } = this;
+    let count = 0;
     if (this.finest >= TINY)
-      for (let row = 0, at = 0; row < height - 1; row++, at++)
-        for (let column = 0; column < width - 1; column++, at++)
-          if (ids[at] !== ids[at + 1] || ids[at] !== ids[at + width]) edges.push(at);
-    this.edges = Int32Array.from(edges);
+      for (let row = 0; row < height - 1; row++) {
+        const from = Math.max(row * width, Math.min(rows[2 * row] - 1, rows[2 * row + 2] - width));
+        const to = Math.min((row + 1) * width - 1, Math.max(rows[2 * row + 1], rows[2 * row + 3] - width));
+        for (let at = from; at < to; at++) if (ids[at] !== ids[at + 1] || ids[at] !== ids[at + width]) edgeRoom[count++] = at;
+      }
+    this.edges = edgeRoom.subarray(0, count);
   }
 
   // The styles of references: numbers from 1 on, each with four colours by stripes, and one of an outline.
@@ -354,7 +372,12 @@ export class Drawing {
       this.trace(airspace.outline(it), paths.get(key)[2]);
     }
     context.lineJoin = "round";
+    const casing = this.finest >= SHARED ? CASING : CASING / 2;
     for (const [, [state, colour, path]] of [...paths].sort()) {
+      context.strokeStyle = this.colour("--ground");
+      context.lineWidth = WIDTHS[state] + casing;
+      context.setLineDash([]);
+      context.stroke(path);
       context.strokeStyle = this.colour(colour);
       context.lineWidth = WIDTHS[state];
       context.setLineDash(DASHES[state] ?? []);

@@ -55,14 +55,16 @@ export class Ground {
 
   take(data) {
     this.serial++;
-    for (const name of ["land", "borders", "lakes"]) this[name] = data[name].map((it) => decoded(it, data.unit));
+    for (const name of ["land", "borders"]) this[name] = data[name].map((it) => decoded(it, data.unit));
+    this.lakes = data.lakes.map((it) => decoded(it, data.lake_unit));
     this.cities = data.cities.map(([name, lng, lat, rank]) => ({ name, rank, at: project(lng / data.unit, lat / data.unit) }));
     this.airports = data.airports.map(([name, lng, lat]) => ({ name, at: project(lng / data.unit, lat / data.unit) }));
   }
 
-  // A GeoJSON of the operator.
+  // The GeoJSON of the operator, in place of an earlier one.
   add(data) {
     this.serial++;
+    this.own = { areas: [], lines: [], points: [] };
     const features = data.type === "FeatureCollection" ? data.features : [data.type === "Feature" ? data : { geometry: data }];
     for (const { geometry, properties } of features) this.addGeometry(geometry, String(properties?.name ?? ""));
   }

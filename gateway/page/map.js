@@ -1,6 +1,6 @@
 // The page: who may look, what is asked of the gateway and when, the controls, and the lists beside the map.
 import { Airspace, nameOf, stateOf, volumesOf } from "./airspace.js";
-import { cellOf, project } from "./cells.js";
+import { project, tokenOf } from "./cells.js";
 import { Drawing } from "./drawing.js";
 import { Ground, lineOf } from "./ground.js";
 
@@ -71,14 +71,21 @@ function take(reply) {
   tellAge();
   boundTime();
   if (isFirst && airspace.references.some((_, k) => airspace.firstVolume[k] < airspace.firstVolume[k + 1])) firstView();
-  if (isChanged || isNew || moment() !== shownAt) show();
+  if (isNew) showFirst();
+  else if (isChanged || moment() !== shownAt) show();
+}
+
+// The map first, and the lists once it can be seen.
+function showFirst() {
+  showOnMap();
+  requestAnimationFrame(() => setTimeout(() => { if (airspace) list(); }));
 }
 
 let shownAt = null;
 
 function begin(reply) {
   enter();
-  layGround();
+  lay("map/ground.geojson", false, (it) => ground.add(it));
   tellWhole(airspace.isWhole);
   drawing.airspace = airspace;
   const corners = reply.area ?? [];
@@ -116,17 +123,19 @@ function tellWhole(isWhole) {
   of("pairs-title").textContent = isWhole ? "Conflicts" : "Sharing a cell";
 }
 
-// The map goes without a ground that cannot be read.
-async function layGround() {
-  for (const [path, lay] of [["map/ground.json", (it) => ground.take(it)], ["map/ground.geojson", (it) => ground.add(it)]])
-    try {
-      lay(await read(path, path === "map/ground.json"));
-      drawing.draw();
-      if (airspace) listGroups();
-    } catch (fault) {
-      tellFault(`The ground cannot be drawn: ${fault.message}`);
-    }
+// Lays a part of the ground. The map goes without one that cannot be read.
+async function lay(path, isOpen, take) {
+  try {
+    take(await read(path, isOpen));
+    if (!airspace) return;
+    drawing.draw();
+    listGroups();
+  } catch (fault) {
+    tellFault(`The ground cannot be drawn: ${fault.message}`);
+  }
 }
+// What is shipped needs no token, and is there before one is written.
+lay("map/ground.json", true, (it) => ground.take(it));
 
 // A status is told once, and not again with each reading.
 function tellFault(text) { if (of("fault").textContent !== text) of("fault").textContent = text; }
@@ -147,7 +156,7 @@ function enter() {
   of("view").hidden = false;
   of("token").value = "";
   cover();
-  drawing.resize();
+  drawing.measure();
   of("map").focus({ preventScroll: true, focusVisible: false });
 }
 
@@ -441,7 +450,7 @@ const boxOf = (corners) => [Math.min(corners[0], corners[2], corners[4], corners
   Math.max(corners[0], corners[2], corners[4], corners[6]), Math.max(corners[1], corners[3], corners[5], corners[7])];
 
 function revealItem(it) {
-  const boxes = volumesOf(it).flatMap((one) => one.tokens).map((one) => boxOf(cellOf(one).corners));
+  const boxes = volumesOf(it).flatMap((one) => one.cells).map((one) => boxOf(one.corners));
   if (!boxes.length) return;
   drawing.reveal([0, 1].map((k) => Math.min(...boxes.map((one) => one[k]))).concat([2, 3].map((k) => Math.max(...boxes.map((one) => one[k])))));
 }
@@ -484,7 +493,7 @@ function selectAt(px, py) {
   const cell = airspace ? drawing.cellAt(px, py) : -1, found = cell < 0 ? [] : airspace.referencesIn(cell);
   if (!found.length) return letGo();
   select(nameOf(found[0]), "map", found.slice(1));
-  if (!airspace.isWhole) askFor(airspace.cells[cell].token, selection);
+  if (!airspace.isWhole) askFor(tokenOf(airspace.cells[cell]), selection);
 }
 
 // What is in a cell at the moment that is looked at, as the service answers to just that.

@@ -42,6 +42,7 @@ class Browser:
         self.session = self.call("Target.attachToTarget", targetId=target["targetId"], flatten=True)["sessionId"]
         for name in ("Page", "Runtime", "Network", "Log"):
             self.call(f"{name}.enable")
+        self.call("Performance.enable", timeDomain="threadTicks")
         self.size(width, height)
 
     def wait_for_targets(self):
@@ -138,6 +139,11 @@ class Browser:
                 words = path.read_text().rsplit(") ", 1)[1].split()
                 used += int(words[11]) + int(words[12]) if int(words[3]) == self.process.pid else 0
         return used / os.sysconf("SC_CLK_TCK")
+
+    def busy_seconds(self):
+        """Returns the processor seconds of the page's main thread, without those of the commands of this class."""
+        metrics = self.call("Performance.getMetrics")["metrics"]
+        return next(it["value"] for it in metrics if it["name"] == "TaskDuration")
 
     def key(self, key, code=None, text=None):
         numbers = {"Enter": 13, "Escape": 27, "Home": 36, "ArrowLeft": 37, "ArrowUp": 38, "ArrowRight": 39, "ArrowDown": 40, "Tab": 9}

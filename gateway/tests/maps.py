@@ -322,6 +322,8 @@ def the_ground(files, program):
     """The shipped ground has all parts; a file of the operator is served to viewers only, and only if it is GeoJSON."""
     shipped = json.loads((TOP / "gateway/page/ground.json").read_text())
     assert len(shipped["land"]) > 1000 and len(shipped["borders"]) > 200 and len(shipped["lakes"]) > 50
+    # The shores of lakes have all corners of their source.
+    assert shipped["lake_unit"] == 10 * shipped["unit"] and sum(map(len, shipped["lakes"])) > 20_000
     assert ["Zurich", 853, 4738, 0] in shipped["cities"] and ["ZRH", 853, 4748] in shipped["airports"]
     own = {"type": "FeatureCollection", "features": [
         {"type": "Feature", "properties": {"name": "Hangar"}, "geometry": {"type": "Point", "coordinates": [8.5, 47.4]}},
@@ -564,41 +566,39 @@ def many_references(count):
     return {"now": now, "asked": now, "is_whole": True, "is_all": True, "version": "x-1", "area": [], "items": items, "gone": []}
 
 
-def frames(page, count, act):
-    """Returns the processor seconds of each of that many frames. `act` is called with the number of each frame before
-    it."""
-    before = page.processor_seconds()
-    page.value(f"(async () => {{ for (let k = 0; k < {count}; k++) {{ {act}; await new Promise(requestAnimationFrame); }} }})()")
-    return (page.processor_seconds() - before) / count
+def busy(page, act):
+    """Returns the milliseconds of processor time of the page's main thread for an action, up to the end of its frame."""
+    before = page.busy_seconds()
+    page.value(f"""new Promise((done) => setTimeout(() => {{ {act}; requestAnimationFrame(() => setTimeout(done)); }}))""")
+    return 1000 * (page.busy_seconds() - before)
+
+
+def steps_of_the_time(page, count=100):
+    """Returns the milliseconds of processor time of that many steps of the time, sorted."""
+    return sorted(busy(page, f"""const slider = document.getElementById('time'); slider.value = {300 + 60 * (k % 50)};
+        slider.dispatchEvent(new Event('input', {{ bubbles: true }}))""") for k in range(count))
 
 
 def ten_thousand_in_view(files, program):
-    """The page shows ten thousand references soon. A step of a slider takes some 16 ms of script in the median, without a
-    graphics processor; a busy machine is allowed four times as much, and 400 ms for one step in a hundred."""
+    """The page shows ten thousand references after less than a second, and each step of a slider within a frame. This is
+    processor time of its main thread, without a graphics processor: a busy machine takes longer by the clock."""
     with over_map(files, program) as place, opened(place, 1600, 900) as page:
         page.answer_with("*/map/changes.json*", json.dumps(many_references(10_000)))
+        time.sleep(1)
+        before = page.busy_seconds()
         enter(page, place.viewer)
         page.until("document.getElementById('counts').textContent === '10000 of 10000 are there'")
-        moving = frames(page, 20, """document.getElementById('map').dispatchEvent(
-            new KeyboardEvent('keydown', { key: k % 2 ? 'ArrowLeft' : 'ArrowRight' }))""")
-        steps = sorted(page.value(STEPS))
-        print(f"a moved frame: {1000 * moving:.0f} ms of processor; a step: {steps[len(steps) // 2]:.1f} ms of script in the median, {steps[-2]:.1f} at p99")
-        assert moving < 0.1 and steps[len(steps) // 2] < 64 and steps[-2] < 400, (moving, steps)
+        first = page.busy_seconds() - before
+        page.until("document.querySelectorAll('#all li').length === 21")
+        page.value("new Promise((done) => setTimeout(done, 1000))")
+        moving = sorted(busy(page, f"""document.getElementById('map').dispatchEvent(
+            new KeyboardEvent('keydown', {{ key: '{key}' }}))""") for key in ["ArrowLeft", "ArrowRight"] * 10)
+        steps = steps_of_the_time(page)
+        print(f"processor time: first view {first:.2f} s; a moved frame {moving[10]:.1f} ms in the median; a step {steps[50]:.1f} ms, {steps[98]:.1f} at p99")
+        # A step after which the slider rested for 200 ms, as on a busy machine, also makes the lists.
+        assert first < 1 and moving[10] < 32 and steps[50] < 32 and steps[90] < 100 and steps[98] < 250, (first, moving, steps)
         left = int(text(page, "counts").split()[0])
         assert 4000 < left < 9000, left
-
-
-# The milliseconds of script of each of a hundred steps of the time, one with each frame: the event and the frame that it asks for.
-STEPS = """(async () => { const slider = document.getElementById('time'), spent = [];
-    for (let k = 0; k < 100; k++) {
-        const from = performance.now();
-        slider.value = 300 + 60 * (k % 50);
-        slider.dispatchEvent(new Event('input', { bubbles: true }));
-        const used = performance.now() - from;
-        await new Promise((done) => requestAnimationFrame(done));
-        spent.push(used + Number(document.getElementById('over').dataset.step));
-    }
-    return spent; })()"""
 
 
 # ---- what changed
@@ -693,8 +693,67 @@ def objects_of_the_page(files, program):
             # No conflict: they share a cell, and no altitude.
             assert text(page, "pairs-count") == "0" and text(page, "pairs") == ""
             # The outline is one ring, though the flight has many cells.
-            rings = page.value(f"""import('/map/cells.js').then((it) => it.outlineOf({json.dumps(sorted(fine("89c25")))}).map((ring) => ring.length))""")
+            rings = page.value(f"import('/map/cells.js').then((it) => it.outlineOf(it.cellsOf('{' '.join(sorted(fine('89c25')))}')).map((ring) => ring.length))")
             assert rings == [2 * (4 * 2**5 + 1)], rings
+
+
+def covered(state, k, around):
+    """Returns a flight or a constraint in a cell in the middle of the k-th child of a cell."""
+    cell = s2.S2CellId(around.child(k).ToPoint()).parent(around.level() + 3)
+    kind = {"kind": "constraint"} if state == "constraint" else {"kind": "intent", "state": state}
+    return item_in(cell.ToToken(), k, int(time.time())) | kind
+
+
+def item_in(tokens, k, now):
+    return {"id": f"0000000{k}-0000-4000-8000-000000000000", "version": 1, "manager": f"uss-{k}", "uss_availability": "Normal",
+            "uss_base_url": "https://uss.example", "time_start": now - 60, "time_end": now + 7200,
+            "volumes": [{"cells": tokens, "lower": 0, "upper": 1200, "start": now - 60, "end": now + 7200}]}
+
+
+def outlines_under_a_more_urgent_flight(files, program):
+    """A flight that a more urgent one covers still has its outline around it as one line, with a contrast of 3:1 to what
+    is beside the line, in both themes."""
+    now, around = int(time.time()), s2.S2CellId(s2.S2LatLng.FromDegrees(47.4, 8.5)).parent(8)
+    states = ["Accepted", "Activated", "Nonconforming", "constraint"]
+    items = [covered(state, k, around) for k, state in enumerate(states)]
+    items.append(item_in(around.ToToken(), 9, now) | {"kind": "intent", "state": "Contingent"})
+    data = {"now": now, "asked": now, "is_whole": True, "is_all": True, "version": "x-1", "area": [], "items": items, "gone": []}
+    with over_map(files, program) as place:
+        for scheme in ("light", "dark"):
+            with opened(place, 1200, 800, scheme) as page:
+                page.answer_with("*/map/changes.json*", json.dumps(data))
+                enter(page, place.viewer)
+                page.until("document.getElementById('counts').textContent === '5 of 5 are there' && location.hash.length > 9")
+                for item, state in zip(items, states):
+                    seen = page.value(f"({SEEN_OUTLINE})('{item['volumes'][0]['cells']}', '--{state.lower()}')")
+                    # Lines of dashes are seen for a part of their length.
+                    assert seen > (0.95 if state in ("Accepted", "Activated") else 0.4), (scheme, state, seen)
+
+
+# Which part of the outline of a cell has its colour on the page, and beside it, at most four pixels away, a contrast of 3:1 to it.
+SEEN_OUTLINE = """async (token, name) => {
+    const { cellsOf, outlineOf, project } = await import('/map/cells.js'), both = document.createElement('canvas'), c = both.getContext('2d');
+    const { width, height } = document.getElementById('map'), [lat, lng, zoom] = location.hash.slice(1).split(',').map(Number);
+    Object.assign(both, { width, height });
+    for (const it of ['ground', 'map']) c.drawImage(document.getElementById(it), 0, 0);
+    const data = c.getImageData(0, 0, width, height).data, scale = 256 * 2 ** zoom, [mx, my] = project(lng, lat);
+    const at = (x, y) => { const k = 4 * (Math.floor(y) * width + Math.floor(x)); return [...data.slice(k, k + 3)]; };
+    const light = (it) => it.map((one) => one / 255).map((one) => one <= 0.03928 ? one / 12.92 : ((one + 0.055) / 1.055) ** 2.4)
+        .reduce((sum, one, k) => sum + one * [0.2126, 0.7152, 0.0722][k], 0.05);
+    const own = getComputedStyle(document.documentElement).getPropertyValue(name).trim();
+    const far = (it) => Math.hypot(...it.map((one, k) => one - parseInt(own.slice(2 * k + 1, 2 * k + 3), 16)));
+    const [ring] = outlineOf(cellsOf(token)), places = ring.map((it, k) => k % 2 ? (it - my) * scale + height / 2 : (it - mx) * scale + width / 2);
+    let tried = 0, seen = 0;
+    for (let k = 0; k + 3 < places.length; k += 2) {
+        const [x, y, dx, dy] = [places[k], places[k + 1], places[k + 2] - places[k], places[k + 3] - places[k + 1]], length = Math.hypot(dx, dy);
+        for (let t = 0.1; t < 0.91; t += 0.02) {
+            const across = Array.from({ length: 17 }, (_, n) => at(x + t * dx - (n - 8) / 2 * dy / length, y + t * dy + (n - 8) / 2 * dx / length));
+            const line = across.reduce((best, it) => far(it) < far(best) ? it : best), others = across.map((it) => light(it) / light(line));
+            tried++;
+            if (far(line) < 110 && others.some((it) => it >= 3 || it <= 1 / 3)) seen++;
+        }
+    }
+    return seen / tried; }"""
 
 
 def cells_of_the_page(files, program):
@@ -702,10 +761,11 @@ def cells_of_the_page(files, program):
     draw = random.Random(9)
     cells = [s2.S2CellId(s2.S2LatLng.FromDegrees(draw.uniform(-84, 84), draw.uniform(-180, 180))).parent(draw.randrange(1, 14)) for _ in range(300)]
     with over_map(files, program) as place, opened(place) as page:
-        found = page.value(f"import('/map/cells.js').then((it) => {json.dumps([it.ToToken() for it in cells])}.map((one) => it.cellOf(one)).map("
-                           "(one) => [one.level, one.corners, one.around]))")
-    for cell, (level, corners, around) in zip(cells, found):
-        assert level == cell.level() and around == [cell.parent(k).ToToken() for k in range(level - 1, 0, -1)], (cell.ToToken(), around)
+        found = page.value(f"import('/map/cells.js').then((it) => it.cellsOf('{' '.join(it.ToToken() for it in cells)}').map("
+                           "(one) => [it.tokenOf(one), one.level, one.corners, it.around(one).map((number) => it.tokenOf({ number }))]))")
+    assert len(found) == len(cells)
+    for cell, (token, level, corners, around) in zip(cells, found):
+        assert token == cell.ToToken() and level == cell.level() and around == [cell.parent(k).ToToken() for k in range(level - 1, 0, -1)], (cell.ToToken(), around)
         for k in range(4):
             vertex = s2.S2LatLng(s2.S2Cell(cell).GetVertex(k))
             lat, lng = max(-85, min(85, vertex.lat().degrees())), vertex.lng().degrees()
@@ -795,4 +855,4 @@ def contrasts(files, program):
 
 ALL = [who_may_look, without_the_option_there_is_no_map, where_things_are, many_are_found_together, a_wide_area_and_what_is_large, queries_are_few,
        the_service_gone_and_back, the_whole_airspace, what_is_no_airspace, the_ground, the_ground_is_drawn, what_changed, objects_of_the_page,
-       cells_of_the_page, lists_and_links, a_sheet_on_a_phone, age_of_the_data, contrasts, the_page, shapes_of_the_page, ten_thousand_in_view]
+       outlines_under_a_more_urgent_flight, cells_of_the_page, lists_and_links, a_sheet_on_a_phone, age_of_the_data, contrasts, the_page, shapes_of_the_page, ten_thousand_in_view]

@@ -1,9 +1,14 @@
-"""The scripts around the gateway: its Debian package, gateway/run and gateway/fuzz."""
+"""The scripts around the gateway: its release, its Debian package, gateway/run and gateway/fuzz."""
+import contextlib
 import gzip
+import os
 import re
 import shutil
+import signal
 import socket
 import subprocess
+import time
+import urllib.request
 
 from maps import Skipped
 from world import TOP, free_port
@@ -38,6 +43,80 @@ def the_package(files, built):
     assert "dss\\-gateway tokens" in page and ".SH \"TRANSLATION\"" in page, page[:1000]
 
 
+def the_release(files, built):
+    """The release is made of these sources, and is what they build here byte for byte, if the same packages build it."""
+    words = 'top=$1; . "$top/gateway/program.bash"; trap forget EXIT; compare_gateway "$2"'
+    done = subprocess.run(["bash", "-uc", words, "bash", TOP, f"{built}/gateway"], capture_output=True, text=True, timeout=120)
+    assert done.returncode == 0, done
+    print(f"gateway: {done.stdout.strip()}")
+
+
+def checkout(files, name):
+    """Copies what gateway/run needs, with a service that runs ./dss of this repository."""
+    top = files.folder / name
+    top.mkdir()
+    for it in ("gateway", "scripts", "release"):
+        shutil.copytree(TOP / it, top / it, ignore=shutil.ignore_patterns("__pycache__", "tests"))
+    (top / "dss").write_text(f'#!/bin/sh\nexec "{TOP}/dss" "$@"\n')
+    (top / "dss").chmod(0o755)
+    return top
+
+
+@contextlib.contextmanager
+def run_by(top, *words, path=""):
+    """Runs gateway/run of a checkout, and gives the seconds to its first response, and its standard error."""
+    port, began = free_port(), time.time()
+    process = subprocess.Popen(
+        [top / "gateway" / "run", "--port", str(port), "--service", str(free_port()), *words], stdout=subprocess.DEVNULL,
+        stderr=(top / "said").open("w"), env={**os.environ, "PATH": f"{path}:{os.environ['PATH']}"}, start_new_session=True)
+    try:
+        while True:
+            with contextlib.suppress(OSError), urllib.request.urlopen(f"http://127.0.0.1:{port}/health", timeout=5):
+                break
+            assert process.poll() is None and time.time() < began + 60, (top / "said").read_text()
+            time.sleep(0.02)
+        yield time.time() - began, (top / "said").read_text()
+    finally:
+        with contextlib.suppress(OSError):
+            os.killpg(process.pid, signal.SIGTERM)
+        process.wait(60)
+
+
+def make_that_copies(folder, built):
+    """Makes a directory for the path, with a `make` that gives the gateway that was built, and notes that it ran."""
+    folder.mkdir()
+    (folder / "make").write_text(f"""#!/bin/sh
+for it; do case $it in BUILD=*) mkdir -p "${{it#BUILD=}}" && cp "{built}/gateway" "${{it#BUILD=}}/gateway" && echo "make ran" >&2 ;; esac; done
+""")
+    (folder / "make").chmod(0o755)
+    return folder
+
+
+def a_start_from_the_release(files, built):
+    """In a fresh clone gateway/run answers at once, and builds nothing. With --build, with other sources, or with a damaged
+    release it builds first, and says why."""
+    path = make_that_copies(files.folder / "path", built)
+    top = checkout(files, "clone")
+    with run_by(top, path=path) as (seconds, said):
+        print(f"gateway: the first response of gateway/run in a fresh clone took {seconds:.2f} s")
+        assert "make ran" not in said, said
+    with run_by(top, path=path) as (_, said):
+        assert "make ran" not in said, said
+    with run_by(top, "--build", path=path) as (_, said):
+        assert "make ran" in said and "a build was asked for: building the gateway" in said, said
+    with run_by(top, path=path) as (_, said):
+        assert "make ran" not in said, said
+    with (top / "gateway/src/main.cpp").open("a") as it:
+        it.write("\n")
+    with run_by(top, path=path) as (_, said):
+        assert "the release was made from other sources: building the gateway" in said and "make ran" in said, said
+    top = checkout(files, "damaged")
+    packed = top / "release/dss-gateway-x86_64-linux.gz"
+    packed.write_bytes(packed.read_bytes()[:-1000])
+    with run_by(top, path=path) as (_, said):
+        assert "the release is damaged: building the gateway" in said and "make ran" in said, said
+
+
 def a_taken_port_is_named(files, built):
     """gateway/run names the option of a port that is taken, before it installs or builds anything."""
     with socket.create_server(("127.0.0.1", 0)) as taken:
@@ -58,4 +137,4 @@ def readers_under_fuzzing(files, built):
 
 
 # They take the directory with the programs.
-ALL = [the_package, a_taken_port_is_named, readers_under_fuzzing]
+ALL = [the_release, a_start_from_the_release, the_package, a_taken_port_is_named, readers_under_fuzzing]

@@ -5,7 +5,7 @@ import sys
 import time
 
 from crowd import flights
-from maps import STEPS, enter, opened, over_whole, packed, put_intent
+from maps import enter, opened, over_whole, packed, put_intent, steps_of_the_time
 from world import Files, circle, extent
 
 
@@ -25,13 +25,15 @@ def main(program, count=10_000):
             time.sleep(3)
             print(f"one more flight: {packed(place, '/map/changes.json?since=' + first['version'])[0]} bytes")
             with opened(place, 1440, 900) as page:
-                began = time.time()
+                time.sleep(2)
+                began, before = time.time(), page.busy_seconds()
                 enter(page, place.viewer)
                 page.until("Number(document.getElementById('counts').textContent.split(' ')[2]) > 100")
-                print(f"first view: {time.time() - began:.2f} s after the token, looked at each 0.1 s")
+                print(f"first view: {time.time() - began:.2f} s after the token, looked at each 0.1 s;"
+                      f" {page.busy_seconds() - before:.2f} s of processor time of the page's main thread")
                 time.sleep(3)
-                steps = sorted(page.value(STEPS))
-                print(f"a step of the time: {steps[len(steps) // 2]:.1f} ms of script in the median, {steps[-2]:.1f} at p99, of {len(steps)}")
+                steps = steps_of_the_time(page)
+                print(f"a step of the time: {steps[50]:.1f} ms of processor time in the median, {steps[98]:.1f} at p99")
     finally:
         files.forget()
 

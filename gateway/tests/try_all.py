@@ -12,6 +12,7 @@ import time
 import traceback
 
 import bounds
+import clients
 import flaws
 import flows
 import hostile
@@ -59,7 +60,7 @@ def run_named(name, built, sanitized):
     for case in properties.ALL:
         if case.__name__ == name:
             return [run(name, lambda: case(plain))]
-    for case in (*proxies.ALL, *packaged.ALL):
+    for case in (*proxies.ALL, *clients.ALL, *packaged.ALL):
         if case.__name__ == name:
             return [run(name, lambda: over_files(lambda files, _: case(files, built), plain))]
     case = next(it for module in (bounds, flows, hostile, mapping, maps, walk) for it in module.ALL if it.__name__ == name)
@@ -68,7 +69,7 @@ def run_named(name, built, sanitized):
 
 def main(built, sanitized, *names):
     known = ["points_inside_are_covered", "flaws", "slow_clients_keep_nobody_out", "a_service_that_is_not_there", "any_body_is_answered_with_sanitizers"]
-    known += [it.__name__ for module in (bounds, proxies, packaged, hostile, maps, flows, walk, properties, mapping) for it in module.ALL if it.__name__ not in known]
+    known += [it.__name__ for module in (bounds, proxies, clients, packaged, hostile, maps, flows, walk, properties, mapping) for it in module.ALL if it.__name__ not in known]
     counts = {"passed": 0, "failed": 0, "skipped": 0}
     with concurrent.futures.ProcessPoolExecutor(int(os.environ.get("JOBS") or os.cpu_count())) as pool:
         asked = [pool.submit(run_named, it, built, sanitized) for it in names or known]

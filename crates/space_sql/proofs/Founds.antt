@@ -24,7 +24,7 @@ use Rattle.space_sql_schema.proofs.OneAirspace.{one_airspace_of}
 use Rattle.space_sql_schema.proofs.Presences.{none_stands}
 use Rattle.space_sql_open.specs.Opening.{MayHaveUpgraded, Refuses, format_before}
 use Rattle.space_sql_open.specs.declared.old_format.OldFormat.{OldFormat}
-use Rattle.space_sql_open.specs.declared.old_format.OldFormat.TheVariants as old
+use Rattle.space_sql_open.specs.declared.old_format.OldFormat.TheVariants as old_format
 use Rattle.space_sql_open.specs.declared.open_fault.OpenFault.{OpenFault}
 use Rattle.space_sql_open.specs.declared.open_fault.OpenFault.TheVariants.{Store}
 use Rattle.space_sql.specs.Found.{AreUnmade, FilesSpell, FindsSpelt, HasTables, IsOpenedOver, KeepsAs, RefusesFound, tables_of}
@@ -106,8 +106,8 @@ module _ (image : Image) (s : State) (it : IsOpenedOver image s) where
 
   -- The trees that may be committed over files that represent an airspace store it in format 2.
   taken_found : (format : Format) (a : Airspace) → FilesSpell format image a → (db : Trees) → CommittedIfFound (Whole format) s db → KeepsAs Two db a
-  taken_found One a h db may = moved_found old.One a h db may
-  taken_found TwoUnindexed a h db may = moved_found old.TwoUnindexed a h db may
+  taken_found One a h db may = moved_found old_format.One a h db may
+  taken_found TwoUnindexed a h db may = moved_found old_format.TwoUnindexed a h db may
   taken_found Two a h db may = absurd may
 
   left_found : (back : State) (fault : OpenFault) → Rests s → Survives s back (MayBeOpened s fault) → HasCleanDisk back → (format : Format) (a : Airspace) → FilesSpell format image a → (db : Trees) → back.may_leave db → KeepsAs format db a ⊎ KeepsAs Two db a

@@ -19,7 +19,7 @@ use Rattle.space_sql_schema.specs.Presence.{presence_in}
 use Rattle.space_sql_select.specs.Reading.{IsAsFound}
 use Rattle.space_sql_open.specs.Opening.{MayHaveUpgraded, Refuses}
 use Rattle.space_sql_open.specs.declared.old_format.OldFormat.{OldFormat}
-use Rattle.space_sql_open.specs.declared.old_format.OldFormat.TheVariants as old
+use Rattle.space_sql_open.specs.declared.old_format.OldFormat.TheVariants as old_format
 use Rattle.space_sql_open.specs.declared.open_fault.OpenFault.{OpenFault}
 use Rattle.space_sql_open.specs.declared.open_fault.OpenFault.TheVariants.{Store}
 use Rattle.space_sql.specs.Holding.{SqlSpaceModel}
@@ -69,8 +69,8 @@ IsUnwritten opened back fault = (format : Format) → IsUnwrittenAs format opene
 
 -- True if the tables that were upgraded were those of format 1.
 abbrev pub is_format_1 : OldFormat → Bool
-is_format_1 old.One = true
-is_format_1 old.TwoUnindexed = false
+is_format_1 old_format.One = true
+is_format_1 old_format.TwoUnindexed = false
 
 -- ---- effects of a crash
 
@@ -80,8 +80,8 @@ is_format_1 old.TwoUnindexed = false
 abbrev pub CommittedIfFound : (found : Presence) → State → Trees → Type 0
 CommittedIfFound Missing s trees = EmptyIfNoTable s trees
 CommittedIfFound Partial s trees = ⊥
-CommittedIfFound (Whole One) s trees = MayHaveUpgraded old.One s trees
-CommittedIfFound (Whole TwoUnindexed) s trees = MayHaveUpgraded old.TwoUnindexed s trees
+CommittedIfFound (Whole One) s trees = MayHaveUpgraded old_format.One s trees
+CommittedIfFound (Whole TwoUnindexed) s trees = MayHaveUpgraded old_format.TwoUnindexed s trees
 CommittedIfFound (Whole Two) s trees = ⊥
 
 -- Holds if opening may have committed the trees before it failed. After `NotADss` and `Version`,

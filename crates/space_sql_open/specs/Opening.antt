@@ -13,7 +13,7 @@ use Rattle.space_sql_schema.specs.Making.{AreOf}
 use Rattle.space_sql_schema.specs.Spelling.{Spells, SpellsAs}
 use Rattle.space_sql_schema.specs.Tables.{schema_of}
 use Rattle.space_sql_open.specs.declared.old_format.OldFormat.{OldFormat}
-use Rattle.space_sql_open.specs.declared.old_format.OldFormat.TheVariants as old
+use Rattle.space_sql_open.specs.declared.old_format.OldFormat.TheVariants as old_format
 use Rattle.space_sql_open.specs.declared.open_fault.OpenFault.{OpenFault}
 use Rattle.space_sql_open.specs.declared.open_fault.OpenFault.TheVariants.{NotADss, Version, Store}
 
@@ -33,8 +33,8 @@ ChecksTables db (Err fault) = Refuses Two db fault
 
 -- The format of tables that are upgraded.
 abbrev pub format_before : OldFormat → Format
-format_before old.One = One
-format_before old.TwoUnindexed = TwoUnindexed
+format_before old_format.One = One
+format_before old_format.TwoUnindexed = TwoUnindexed
 
 -- Holds if the result is right for tables of the old format. After `Ok`, they represented an
 -- airspace, and the upgraded tables represent it in format 2.

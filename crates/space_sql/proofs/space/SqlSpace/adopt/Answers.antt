@@ -44,24 +44,24 @@ pub returns-in-Whole-TwoUnindexed-clause-taken : goal.returns-in-Whole-TwoUninde
 returns-in-Whole-TwoUnindexed-clause-taken g c =
     let old = state g.S.Store c.args.conn in
     let stands = stands_seen c.schema.ensures.value (rw c.in-Whole-TwoUnindexed.field-0-is at c.in-Whole-TwoUnindexed.ensures.exact) in
-    IfOk-weaker c.adopt_old-2.result _ _ (λ t it format sound. of_format old.now.schema (λ format. (a : Airspace) × SpellsAs format old.now a × IsContent (holds_of g.S.Store) t.0 a) TwoUnindexed stands (it sound) format) c.adopt_old-2.ensures.taken
+    IfOk-weaker c.adopt_old-in-Whole-TwoUnindexed.result _ _ (λ t it format sound. of_format old.now.schema (λ format. (a : Airspace) × SpellsAs format old.now a × IsContent (holds_of g.S.Store) t.0 a) TwoUnindexed stands (it sound) format) c.adopt_old-in-Whole-TwoUnindexed.ensures.taken
 
 pub returns-in-Whole-TwoUnindexed-clause-refused : goal.returns-in-Whole-TwoUnindexed-clause-refused
 returns-in-Whole-TwoUnindexed-clause-refused g c =
     let old = state g.S.Store c.args.conn in
     let stands = stands_seen c.schema.ensures.value (rw c.in-Whole-TwoUnindexed.field-0-is at c.in-Whole-TwoUnindexed.ensures.exact) in
-    IfErr-weaker c.adopt_old-2.result _ _ (λ e it format clean. of_format old.now.schema (λ format. Refuses format old.now e.0) TwoUnindexed stands (it clean) format) c.adopt_old-2.ensures.refused
+    IfErr-weaker c.adopt_old-in-Whole-TwoUnindexed.result _ _ (λ e it format clean. of_format old.now.schema (λ format. Refuses format old.now e.0) TwoUnindexed stands (it clean) format) c.adopt_old-in-Whole-TwoUnindexed.ensures.refused
 
 pub returns-in-Whole-TwoUnindexed-clause-left : goal.returns-in-Whole-TwoUnindexed-clause-left
 returns-in-Whole-TwoUnindexed-clause-left g c =
     let old = state g.S.Store c.args.conn in
     let stands = stands_seen c.schema.ensures.value (rw c.in-Whole-TwoUnindexed.field-0-is at c.in-Whole-TwoUnindexed.ensures.exact) in
-    left_as old (λ h. state g.S.Store h) (Whole TwoUnindexed) (λ fault trees. (fault ≡ Store) × MayHaveUpgraded old_format.TwoUnindexed old trees) c.adopt_old-2.result stands (λ fault trees it. it) c.adopt_old-2.ensures.left
+    left_as old (λ h. state g.S.Store h) (Whole TwoUnindexed) (λ fault trees. (fault ≡ Store) × MayHaveUpgraded old_format.TwoUnindexed old trees) c.adopt_old-in-Whole-TwoUnindexed.result stands (λ fault trees it. it) c.adopt_old-in-Whole-TwoUnindexed.ensures.left
 
 pub returns-in-Whole-TwoUnindexed-clause-upgraded : goal.returns-in-Whole-TwoUnindexed-clause-upgraded
 returns-in-Whole-TwoUnindexed-clause-upgraded g c =
     let stands = stands_seen c.schema.ensures.value (rw c.in-Whole-TwoUnindexed.field-0-is at c.in-Whole-TwoUnindexed.ensures.exact) in
-    IfOk-weaker c.adopt_old-2.result _ _ (λ t is. tells_unindexed t.0.upgraded _ is stands) c.adopt_old-2.ensures.upgraded
+    IfOk-weaker c.adopt_old-in-Whole-TwoUnindexed.result _ _ (λ t is. tells_unindexed t.0.upgraded _ is stands) c.adopt_old-in-Whole-TwoUnindexed.ensures.upgraded
 
 pub returns-in-Whole-Two-clause-taken : goal.returns-in-Whole-Two-clause-taken
 returns-in-Whole-Two-clause-taken g c =
