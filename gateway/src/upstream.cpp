@@ -184,7 +184,8 @@ json read_operators(int port, const std::string& target) {
   Connection connection;
   if (!connection.open(port)) throw Refusal(503, "the operator's port of the service is not there");
   std::recursive_mutex alone;
-  Connection::Got got = connection.exchange("GET " + target + " HTTP/1.1\r\nHost: 127.0.0.1\r\n\r\n", alone);
+  std::string host = "127.0.0.1:" + std::to_string(port);
+  Connection::Got got = connection.exchange("GET " + target + " HTTP/1.1\r\nHost: " + host + "\r\n\r\n", alone);
   if (got.is_whole && got.status != 200) throw Refusal(502, got.body.substr(0, got.body.find('\n')));
   json answer = got.is_whole ? json::parse(got.body, nullptr, false) : json();
   if (!answer.is_object()) throw Refusal(502, "the answer of the operator's port was lost");

@@ -47,8 +47,10 @@ def said(status, body, kind=PLAIN, allow=None):
     return "\r\n".join([*lines, "Connection: close", "", ""]).encode() + body
 
 
-def asks(method, path, fields=(), body=b""):
-    return "\r\n".join([f"{method} {path} HTTP/1.1", "Host: dss", *fields, "", ""]).encode() + body
+def asks(method, path, fields=(), body=b"", confirmed=True):
+    """Returns a request. A POST has the field that it needs, unless told otherwise."""
+    fields = [*fields, "X-Dss-Admin: 1"] if method == "POST" and confirmed else fields
+    return "\r\n".join([f"{method} {path} HTTP/1.1", *fields, "", ""]).encode() + body
 
 
 HEALTH, METRICS, STOP = asks("GET", "/health"), asks("GET", "/metrics"), asks("POST", "/stop", ["Content-Length: 0"])
@@ -138,6 +140,53 @@ def paths():
         found += difference("a client after", until_closed(kept), LAST)
         silent.sendall(CLOSING)
         found += difference("a client that was silent", until_closed(silent), LAST)
+        return found + difference("the service", started.ended(), (0, b"", started.listening))
+
+
+OTHER_HOST = b"forbidden: the field Host must be 127.0.0.1 or localhost, with the port\n"
+WEB_PAGE = b"forbidden: a web page sent the request\n"
+UNCONFIRMED = b"forbidden: a POST requires the field X-Dss-Admin: 1\n"
+
+
+def of_web_pages():
+    """A request that a browser may have sent for a web page is forbidden, and changes nothing: one to another host, one
+    with an origin, one from another site, and a POST as a form sends it."""
+    with AdminService() as started:
+        port = started.admin
+        hosts = [f"127.0.0.1:{port}", f"localhost:{port}"]
+        others = ["127.0.0.1", "localhost", "", "dss", f"dss.example:{port}", f"127.0.0.1:{port + 1}", f"localhost:{port}0",
+                  f"127.0.0.1:{port}.dss.example", f"LOCALHOST:{port}", f"[::1]:{port}", f"http://localhost:{port}"]
+        table = [(f"Host: {it}", asks("GET", "/health", [f"Host: {it}"]), said(200, SERVING)) for it in hosts]
+        table += [(f"Host: {it}", asks("GET", "/health", [f"Host: {it}"]), said(403, OTHER_HOST)) for it in others]
+        for name, field, wanted in (
+            ("two hosts", [f"Host: {hosts[0]}", "Host: dss.example"], OTHER_HOST),
+            ("an origin", [f"Origin: http://localhost:{port}"], WEB_PAGE),
+            ("no origin", ["Origin: null"], WEB_PAGE),
+            ("ORIGIN", ["ORIGIN:"], WEB_PAGE),
+            ("another site", ["Sec-Fetch-Site: cross-site"], WEB_PAGE),
+            ("the same site", ["sec-fetch-site: same-site"], WEB_PAGE),
+            ("two sites", ["Sec-Fetch-Site: none", "Sec-Fetch-Site: cross-site"], WEB_PAGE),
+        ):
+            for path in "/health", "/metrics", "/airspace", "/nothing":
+                table.append((f"{name}, {path}", asks("GET", path, field), said(403, wanted)))
+        for name, field in ("an address that is typed", "none"), ("its own page", "same-origin"):
+            table.append((name, asks("GET", "/health", [f"Sec-Fetch-Site: {field}", f"Host: {hosts[1]}"]), said(200, SERVING)))
+        form = [f"Host: {hosts[0]}", "Content-Type: application/x-www-form-urlencoded", "Content-Length: 0"]
+        for name, fields, wanted in (
+            ("a form", form, UNCONFIRMED),
+            ("a form of another site", [*form, "Origin: https://dss.example", "Sec-Fetch-Site: cross-site"], WEB_PAGE),
+            ("a field of another value", [*form, "X-Dss-Admin: 0"], UNCONFIRMED),
+            ("a script", [*form, "X-Dss-Admin: 1", "Origin: https://dss.example"], WEB_PAGE),
+            ("a script at a name of its own", ["Host: dss.example", "X-Dss-Admin: 1"], OTHER_HOST),
+        ):
+            for path in "/stop", "/backup?name=a", "/health":
+                table.append((f"{name}, {path}", asks("POST", path, fields, confirmed=False), said(403, wanted)))
+        found = []
+        for name, sent, wanted in table:
+            found += difference(name, started.asked(sent), wanted)
+        found += difference("its health", started.asked(HEALTH), said(200, SERVING))
+        found += difference("told to end", started.asked(asks("POST", "/stop", [f"Host: {hosts[0]}", "x-dss-admin: 1"],
+                                                              confirmed=False)), said(200, b"stopping\n"))
         return found + difference("the service", started.ended(), (0, b"", started.listening))
 
 
@@ -363,6 +412,7 @@ class Listening(AdminService):
 
 CASES = {
     "admin-port": paths,
+    "admin-port-and-web-pages": of_web_pages,
     "admin-port-metrics": counts,
     "admin-port-ends-the-service": ends,
     "admin-port-ends-it-in-time": ends_with_others,

@@ -22,7 +22,7 @@ DEPLOY = TOP / "deploy"
 def command(unit, name, admin):
     """Returns the arguments of a unit's command, for an admin port."""
     text = re.search(rf"(?m)^{name}=-?/bin/bash -c '(.*)'$", (DEPLOY / unit).read_text())[1]
-    for there, here in ("%%", "%"), ("$$", "$"), ("\\\\", "\\"), ("/127.0.0.1/8078", f"/127.0.0.1/{admin}"):
+    for there, here in ("%%", "%"), ("$$", "$"), ("\\\\", "\\"), ("/127.0.0.1/8078", f"/127.0.0.1/{admin}"), ("127.0.0.1:8078", f"127.0.0.1:{admin}"):
         text = text.replace(there, here)
     return ["bash", "-c", text]
 

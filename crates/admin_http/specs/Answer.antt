@@ -7,8 +7,10 @@ use Rattle.admin_http.specs.declared.admin_route.AdminRequest.TheVariants.{Does,
 use Rattle.admin_http.specs.declared.admin_route.Health.{Health}
 use Rattle.admin_http.specs.declared.admin_route.Health.TheVariants as state
 use Rattle.admin_http.specs.declared.backup.BackupResult.{BackupResult}
+use Rattle.admin_http.specs.declared.web_page.Forbidden.{Forbidden}
 use Rattle.admin_http.specs.AdminRequest.{method_of, status_of}
 use Rattle.admin_http.specs.BackupResult as backups
+use Rattle.admin_http.specs.WebPage as pages
 use Rattle.wire_head.specs.Lines.{length_line, line, status_line}
 
 -- The media type of a body: the one that Prometheus defines for metrics, and JSON for the airspace.
@@ -71,3 +73,7 @@ Answers Unknown health text =
 abbrev pub AnswersBackup : BackupResult → (text : List ℕ) → Type 0
 AnswersBackup backup text =
     text ≡ text_of (backups.status_of backup) (type_of None) None (backups.words_of backup)
+
+-- Holds if this is the response to a forbidden request, given the reason.
+abbrev pub AnswersForbidden : Forbidden → (text : List ℕ) → Type 0
+AnswersForbidden why text = text ≡ text_of 403 (type_of None) None (pages.text_of why)

@@ -6,3 +6,4 @@ pub mod Durations
 pub mod ServiceMetrics
 pub mod Operation
 pub mod Query
+pub mod WebPage

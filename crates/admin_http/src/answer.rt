@@ -1,7 +1,7 @@
 //! The responses of the admin port.
 ghost use Rattle.std.specs.Prelude.{◌≡◌, IfOk};
 ghost use Rattle.std.specs.String.{string_bytes};
-ghost use Rattle.admin_http.specs.Answer.{Answers, AnswersBackup, allow_line, front_of, text_of, type_line, type_of, words_of};
+ghost use Rattle.admin_http.specs.Answer.{Answers, AnswersBackup, AnswersForbidden, allow_line, front_of, text_of, type_line, type_of, words_of};
 ghost use Rattle.admin_http.specs.ServiceMetrics.{health_of};
 
 use crate::admin_route::{AdminRequest, AdminRoute, Health, request_status};
@@ -9,6 +9,7 @@ use crate::backup::{self, BackupResult};
 use crate::build::BuildInfo;
 use crate::metrics::metrics;
 use crate::service_metrics::ServiceMetrics;
+use crate::web_page::{Forbidden, forbidden_text};
 use std::alloc::{AllocError, Global};
 use wire_head::lines::{length_line, status_line};
 use wire_head::rule::WireRule;
@@ -164,6 +165,13 @@ pub fn backup_answer(alloc: Global, backup: BackupResult) -> Result<Vec<u8>, All
         None,
         words.as_str(),
     )
+}
+
+/// Returns the response to a request that a web page may have sent.
+pub fn forbidden_answer(alloc: Global, why: Forbidden) -> Result<Vec<u8>, AllocError>
+    ensures { IfOk result (λ text. AnswersForbidden why text.items) }
+{
+    whole(alloc, 403, None, None, forbidden_text(why))
 }
 
 /// Returns the response to a request that breaks a protocol rule.

@@ -1,5 +1,6 @@
 //! The constant information about a running service.
 use crate::exposition::{Exposition, Label, Metric, MetricKind};
+use crate::web_page::OwnHosts;
 use std::alloc::AllocError;
 
 /// The constant information about a running service.
@@ -11,6 +12,8 @@ pub struct BuildInfo<'a> {
     pub version: &'a str,
     /// The kit with which it was built.
     pub kit: &'a str,
+    /// The values of the field `Host` that name the admin port.
+    pub hosts: &'a OwnHosts,
 }
 
 impl<'a> BuildInfo<'a> {

@@ -19,3 +19,4 @@ pub mod requests;
 pub mod service_metrics;
 pub mod store_metrics;
 pub mod tokens;
+pub mod web_page;

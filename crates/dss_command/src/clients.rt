@@ -13,6 +13,7 @@ use crate::request_log::{LogFile, RequestLog};
 use crate::store_lines::print_store_event;
 use crate::tokens::print_reload_fault;
 use admin_http::build::BuildInfo;
+use admin_http::web_page::OwnHosts;
 use dss_args::version::{KIT, VERSION};
 use dss_server::serve::serve_clients;
 use entity_core::salt::Salt;
@@ -25,7 +26,7 @@ use server_watch::token_watch::{TokenSource, TokenWatch};
 use service_calls::service::Service;
 use space_core::purge_ended::PurgeEnded;
 use space_snapshot::snapshot::SnapshotSource;
-use std::alloc::Global;
+use std::alloc::{AllocError, Global};
 use std::io;
 use std::io::Write;
 use std::net::Ipv4Addr;
@@ -170,16 +171,31 @@ pub trait Listen {
 }
 
 // Returns the build information for the admin port.
-fn build_of(operated: Option<AdminListener>) -> Option<BuildInfo<'static>>
+fn build_of(
+    operated: Option<AdminListener>,
+    hosts: &Option<OwnHosts>,
+) -> Option<BuildInfo<'_>>
     ensures { IsSome result → IsSome operated }
 {
-    match operated {
-        Some(AdminListener { port: _, started }) => Some(BuildInfo {
+    match (operated, hosts) {
+        (Some(AdminListener { port: _, started }), Some(hosts)) => Some(BuildInfo {
             started,
             version: VERSION,
             kit: KIT,
+            hosts,
         }),
-        None => None,
+        _ => None,
+    }
+}
+
+// Returns the values of the field `Host` that name the admin port.
+fn hosts_of(
+    alloc: Global,
+    operated: Option<AdminListener>,
+) -> Result<Option<OwnHosts>, AllocError> {
+    match operated {
+        Some(operated) => Ok(Some(OwnHosts::new(alloc, operated.port)?)),
+        None => Ok(None),
     }
 }
 
@@ -204,6 +220,7 @@ fn serve_sockets<
     salt: Salt,
     routes: &Routes,
     given: ServeConfig<'_>,
+    build: Option<BuildInfo<'_>>,
     watch: TokenWatch<T>,
     moments: &mut M,
     sockets: N,
@@ -212,8 +229,7 @@ fn serve_sockets<
     requires { salt ≡ salt_of given.tokens.now }
     ensures served { ServesClients S.Space S.GroupCommit.own M.Moments T.gives
         given.entry.keep given.entry.tokens.now space result.1 moments.old moments.new }
-    ensures counted { OnOk result.0 (IsSome given.entry.limits.count
-        ⊎ IsSome given.entry.operated) }
+    ensures counted { OnOk result.0 (IsSome given.entry.limits.count ⊎ IsSome build.entry) }
 {
     let mut service = Service::new(space, salt);
     let served = serve_clients(
@@ -226,7 +242,7 @@ fn serve_sockets<
         sockets,
         given.limits,
         given.keep,
-        build_of(given.operated),
+        build,
         journal,
     );
     (end_of_serving(served), service.into_space())
@@ -268,6 +284,9 @@ pub fn serve_port<
     let Ok(routes) = Routes::new(alloc) else {
         return (Err(Fault::Memory), space);
     };
+    let Ok(hosts) = hosts_of(alloc, given.operated) else {
+        return (Err(Fault::Memory), space);
+    };
     let log = listener.log();
     let sockets = match listener.listen(given.address, given.port, operators_port(given.operated)) {
         Ok(sockets) => sockets,
@@ -288,6 +307,7 @@ pub fn serve_port<
         salt,
         &routes,
         given,
+        build_of(given.operated, &hosts),
         watch,
         moments,
         sockets,

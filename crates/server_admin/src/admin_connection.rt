@@ -3,7 +3,7 @@
 use crate::admin_context::AdminContext;
 use admin_http::admin_route::{AdminRequest, AdminRoute};
 use admin_http::airspace::airspace_answer;
-use admin_http::answer::{answer, backup_answer, refusal};
+use admin_http::answer::{answer, backup_answer, forbidden_answer, refusal};
 use admin_http::backup::{BackupResult, name_in};
 use admin_http::request::{RequestParse, parse_admin_request};
 use server_base::limits::{ADMIN_CHUNK, ADMIN_REQUEST_BYTES, LAST_CHUNKS, OPERATOR_STEPS};
@@ -158,7 +158,8 @@ impl<T: Socket> AdminConnection<T> {
         if self.phase == Phase::Idle {
             self.wait(Phase::Sending, now);
         }
-        let made = match parse_admin_request(self.held.as_slice()) {
+        let hosts = admin_context.build.hosts;
+        let made = match parse_admin_request(hosts, self.held.as_slice()) {
             RequestParse::Incomplete => return AdminTurnOutcome::Again,
             RequestParse::Request(AdminRequest::Does(AdminRoute::Backup), query)
                 if admin_context.backs_up => {
@@ -185,6 +186,7 @@ impl<T: Socket> AdminConnection<T> {
                     admin_context.build,
                 )
             }
+            RequestParse::Forbidden(why) => forbidden_answer(admin_context.alloc, why),
             RequestParse::Invalid(rule) => refusal(admin_context.alloc, rule),
         };
         self.give(made, now)
