@@ -418,6 +418,30 @@ def one_version():
     return [] if len(set(map(str, found.values()))) == 1 and all(found.values()) else [f"the versions are {found}"]
 
 
+def another_version():
+    """A release of other sources has another version: scripts/release refuses one under the version of the last
+    release."""
+    with Checkout(SOME) as it:
+        def git(*words):
+            name = "-c", "user.name=a", "-c", "user.email=a@example.org"
+            subprocess.run(["git", *name, *words], cwd=it.top, check=True, capture_output=True)
+        git("init", "-q")
+        git("add", "-A")
+        git("commit", "-qm", "first")
+        found = difference("the same sources", it.run(["scripts/release"], kit=True)[0], 0)
+        source = it.top / "crates" / "dss_args" / "src" / "version.rt"
+        text = source.read_text()
+        version = re.search(r'VERSION: &str = "([\d.]+)"', text)[1]
+        source.write_text(text + "\n")
+        git("commit", "-qam", "second")
+        why = f"scripts/release: version {version} is that of the last release, which was made of other sources: raise it"
+        status, output, error = it.run(["scripts/release"], kit=True)
+        found += difference("other sources", (status, output, error.startswith(why)), (1, b"", True))
+        source.write_text(text.replace(version, "99.0.0"))
+        git("commit", "-qam", "third")
+        return found + difference("another version", it.run(["scripts/release"], kit=True)[0], 0)
+
+
 CASES = {
     "first-response-of-a-release": first_answer,
     "damaged-release": spoilt,
@@ -431,4 +455,5 @@ CASES = {
     "portable-program": portable,
     "kit-of-the-readme": kit_of_the_readme,
     "one-version": one_version,
+    "another-version": another_version,
 }
