@@ -1,7 +1,10 @@
 """The admin port of `serve`: the health of the service, its metrics, and its end."""
 import contextlib
+import pathlib
 import re
+import shutil
 import socket
+import subprocess
 import time
 
 import wire
@@ -36,7 +39,11 @@ NAMES = {
     "dss_log_lines_dropped_total": "counter",
     "dss_mirror_up": "gauge", "dss_entities": "gauge", "dss_subscriptions": "gauge", "dss_serial": "gauge",
     "dss_purged_total": "counter", "dss_purge_failures_total": "counter",
-    "dss_tokens_loaded_time_seconds": "gauge", "dss_tokens_reload_failures_total": "counter",
+    "dss_tokens_loaded_time_seconds": "gauge", "dss_tokens_reload_failures_total": "counter", "dss_tokens_valid": "gauge",
+    "dss_purges_total": "counter", "dss_clock_jumps_total": "counter", "dss_purge_held": "gauge", "dss_health": "gauge",
+    "dss_database_bytes": "gauge", "dss_database_log_bytes": "gauge",
+    "process_cpu_seconds_total": "counter", "process_resident_memory_bytes": "gauge", "process_open_fds": "gauge",
+    "process_max_fds": "gauge", "process_start_time_seconds": "gauge",
 }
 
 
@@ -67,7 +74,7 @@ class AdminService(Service):
         super().start()
         self.listening += f"dss: admin port on 127.0.0.1:{self.admin}\n".encode()
         until = time.monotonic() + self.patience
-        while (self.folder / "errors").read_bytes() != self.listening:
+        while not (self.folder / "errors").read_bytes().startswith(self.listening):
             if time.monotonic() > until:
                 raise OSError(f"what it tells: {(self.folder / 'errors').read_text()}")
             time.sleep(0.005)
@@ -143,6 +150,21 @@ def paths():
         return found + difference("the service", started.ended(), (0, b"", started.listening))
 
 
+def of_process(started):
+    """Compares the metrics of the process with what the system says of it."""
+    text = started.asked(METRICS).partition(b"\r\n\r\n")[2].decode()
+    told = {name: float(value) for name, value in re.findall(r"^(process_\w+) (\S+)$", text, re.M)}
+    folder = pathlib.Path("/proc", f"{started.program.pid}")
+    fields = (folder / "stat").read_text().rpartition(")")[2].split()
+    limit = re.search(r"^Max open files\s+(\d+)", (folder / "limits").read_text(), re.M)[1]
+    found = difference("its descriptors", told["process_max_fds"], float(limit))
+    # One more is that of the connection that asked.
+    found += [] if 0 <= told["process_open_fds"] - len(list((folder / "fd").iterdir())) <= 1 else [f"descriptors: {told}"]
+    close = 0.5 < told["process_resident_memory_bytes"] / (4096 * int(fields[21])) < 2
+    found += [] if close and 0 <= told["process_cpu_seconds_total"] <= (int(fields[11]) + int(fields[12])) / 100 else [f"{told}, {fields}"]
+    return found
+
+
 OTHER_HOST = b"forbidden: the field Host must be 127.0.0.1 or localhost, with the port\n"
 WEB_PAGE = b"forbidden: a web page sent the request\n"
 UNCONFIRMED = b"forbidden: a POST requires the field X-Dss-Admin: 1\n"
@@ -190,6 +212,34 @@ def of_web_pages():
         return found + difference("the service", started.ended(), (0, b"", started.listening))
 
 
+def browse(folder, address, *options):
+    """Returns what Chromium shows of an address, after the navigations of its page."""
+    words = ["chromium", "--headless", "--no-sandbox", "--disable-gpu", f"--user-data-dir={folder}/browser", *options]
+    words += ["--virtual-time-budget=5000", "--dump-dom", address]
+    return subprocess.run(words, capture_output=True, text=True, timeout=SECONDS, check=False).stdout
+
+
+def of_a_browser():
+    """If Chromium is installed: it can read the health at the port's own address. A page with a form cannot stop the
+    service, and a name that resolves to this machine cannot read the airspace."""
+    if not shutil.which("chromium"):
+        print("chromium is missing, so no browser was tried")
+        return []
+    with AdminService() as started:
+        page = started.folder / "page.html"
+        action = f"http://127.0.0.1:{started.admin}/stop"
+        page.write_text(f'<form id="f" method="post" action="{action}"></form><script>document.getElementById("f").submit()</script>')
+        resolved = f"--host-resolver-rules=MAP dss.example 127.0.0.1:{started.admin}"
+        found = []
+        for name, shown, words in (
+            ("its own address", browse(started.folder, f"http://127.0.0.1:{started.admin}/health"), SERVING),
+            ("a form", browse(started.folder, page.as_uri()), WEB_PAGE),
+            ("a name", browse(started.folder, f"http://dss.example:{started.admin}/airspace", resolved), OTHER_HOST),
+        ):
+            found += [] if words.decode().strip() in shown else [f"{name}: {shown!r}"]
+        return found + difference("its health", started.asked(HEALTH), said(200, SERVING))
+
+
 def counts():
     """The metrics of known clients have their values, and each has its help and its type."""
     with AdminService() as started:
@@ -199,13 +249,18 @@ def counts():
         body = text.partition(b"\r\n\r\n")[2].decode()
         found += difference("types", dict(re.findall(r"^# TYPE (\S+) (\S+)$", body, re.M)), NAMES)
         found += difference("helps", sorted(re.findall(r"^# HELP (\S+) \S", body, re.M)), sorted(NAMES))
-        lines = [it for it in body.splitlines() if not re.fullmatch(r'# (HELP|TYPE) .*|dss_\w+(\{\w+="[^"]*"(,\w+="[^"]*")*\})? \d+', it)]
+        lines = [it for it in body.splitlines() if not re.fullmatch(r'# (HELP|TYPE) .*|(dss|process)_\w+(\{\w+="[^"]*"(,\w+="[^"]*")*\})? \d+(\.\d+)?', it)]
         found += difference("lines of no form", lines, [])
         first = started.counted()
         found += difference("when it started", before - SECONDS < int(first["dss_start_time_seconds"]) <= before + 1, True)
         found += difference("when its tokens were read", first["dss_tokens_loaded_time_seconds"], first["dss_start_time_seconds"])
         there = {name: number for name, number in first.items() if "_time_" not in name and "build" not in name}
-        found += difference("a copy", there.pop("dss_mirror_up"), "1")
+        ones = ["dss_mirror_up", "dss_tokens_valid", 'dss_health{state="serving"}']
+        found += difference("a mirror, a valid token file, health", [there.pop(it) for it in ones], ["1"] * len(ones))
+        for it in ("", "-wal"):
+            size = there.pop(f"dss_database{'_log' if it else ''}_bytes")
+            found += difference(f"bytes of dss.db{it}", size, f"{(started.folder / f'dss.db{it}').stat().st_size}")
+        found += of_process(started)
         found += difference("of no clients", set(there.values()), {"0"})
         refusal = started.exchange(b"no request\r\n\r\n", ends=False)
         started.exchange(ASKED + CLOSING, ends=False)
@@ -413,6 +468,7 @@ class Listening(AdminService):
 CASES = {
     "admin-port": paths,
     "admin-port-and-web-pages": of_web_pages,
+    "admin-port-and-a-browser": of_a_browser,
     "admin-port-metrics": counts,
     "admin-port-ends-the-service": ends,
     "admin-port-ends-it-in-time": ends_with_others,

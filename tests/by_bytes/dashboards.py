@@ -32,10 +32,11 @@ MINUTES = 40
 ALERTS = {
     "DssDown": ({'up{job="dss"}': "0x40"}, {'up{job="dss"}': "1x40"}),
     "DssStopped": (
-        {'dss_requests_total{operation="read_intent",status="503"}': "_x39 1x1"},
-        {'dss_requests_total{operation="read_intent",status="503"}': "1x40"},
+        {'dss_health{state="serving"}': "1x20 0x20", 'dss_health{state="stopped"}': "0x20 1x20"},
+        {'dss_health{state="serving"}': "1x40", 'dss_health{state="stopped"}': "0x40"},
     ),
-    "DssStoreFailing": ({"dss_store_failures_total": "0x30 1x10"}, {"dss_store_failures_total": "1x40"}),
+    "DssStoreFailing": ({'dss_health{state="failing"}': "0x20 1x20", "dss_store_failures_total": "0x20 1x20"},
+                        {'dss_health{state="failing"}': "1x20 0x20", "dss_store_failures_total": "1x40"}),
     "DssMemoryFailing": ({"dss_memory_failures_total": "0x30 1x10"}, {"dss_memory_failures_total": "1x40"}),
     "DssClockFailing": ({"dss_clock_failures_total": "0x30 1x10"}, {"dss_clock_failures_total": "1x40"}),
     "DssFails": (
@@ -48,7 +49,8 @@ ALERTS = {
     ),
     "DssManyDenials": ({'dss_requests_denied_total{rule="P4"}': "0+600x40"}, {'dss_requests_denied_total{rule="P4"}': "0+60x40"}),
     "DssMirrorDown": ({"dss_mirror_up": "0x40"}, {"dss_mirror_up": "1x40"}),
-    "DssTokensRejected": ({"dss_tokens_reload_failures_total": "0x35 1x5"}, {"dss_tokens_reload_failures_total": "1x40"}),
+    "DssTokensRejected": ({"dss_tokens_valid": "1x5 0x35"}, {"dss_tokens_valid": "0x20 1x20"}),
+    "DssPurgeHeld": ({"dss_purge_held": "0x5 1x35"}, {"dss_purge_held": "1x20 0x20"}),
     "DssLogLinesDropped": ({"dss_log_lines_dropped_total": "0x35 9x5"}, {"dss_log_lines_dropped_total": "9x40"}),
     "DssNearConnectionLimit": ({"dss_connections_open": "901x40"}, {"dss_connections_open": "900x40"}),
     "DssPurgeFailing": ({"dss_purge_failures_total": "0x34 1+1x5"}, {"dss_purge_failures_total": "0x34 1x5"}),
@@ -112,7 +114,7 @@ def names():
     shown, watched = expressions()
     found, seen = [], set()
     for place, expression in shown + watched:
-        named = set(re.findall(r"\bdss_\w+", re.sub(r'"[^"]*"', "", expression)))
+        named = set(re.findall(r"\b(?:dss|process)_\w+", re.sub(r'"[^"]*"', "", expression)))
         unknown = sorted(named - set(figures))
         found += [f"{place}: the service has no metric {it}" for it in unknown] + [f"{place}: {it}" for it in unread(expression)]
         of_these = GIVEN.union(*(labels[figures[it]] for it in named - set(unknown)))

@@ -197,15 +197,11 @@ def full():
     return found
 
 
-class NoSpace(Logged):
-    """The same, with a log on a full device."""
-
-    name = "/dev/full"
-
-
 def no_space():
-    """A log on a device without space takes no line, and each request gets its response."""
-    with NoSpace() as started:
+    """A log on a disk without space takes no line, and each request gets its response."""
+    with Limited() as started:
+        with started.log.open("r+b") as file:
+            file.truncate(MOST)
         answers = started.ask([ASKED] * 10)
         found = difference("answers", [it[:12] for it in answers], [b"HTTP/1.1 200"] * 10)
         return found + difference("lost", started.counted().get(LOST), "10")

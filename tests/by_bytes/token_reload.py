@@ -8,6 +8,8 @@ import time
 import plain_policy
 import wire
 from devices import Page, library
+from figures import FullAndVerbose
+from program import BUILT, run
 from serving import Service
 from sockets import difference
 
@@ -198,10 +200,33 @@ def without_memory():
         return found
 
 
+class ChangingAndVerbose(Changing):
+    """The same with --verbose."""
+
+    options = ("--verbose",)
+    preface = FullAndVerbose.preface
+
+
+def wrong_files_in_words():
+    """With --verbose, the lines of `tokens --check` follow that of a wrong file."""
+    found = []
+    with ChangingAndVerbose() as service:
+        for what, text, line in (
+            ("no TOML", "salt = demo\n", b"dss: tokens: fault 1 Toml\n"),
+            ("no text", wire.token_file(FEWER) + "\n[[token]]\n", b"dss: tokens: fault 3 Token\n"),
+        ):
+            service.write(text)
+            status, lines, error = run([BUILT, "tokens", "--check", f"{service.folder}/tokens.toml"])
+            found += difference(f"{what}: the check", (status, lines != b"", error), (1, True, line))
+            found += service.tells(what, line + lines)
+    return found
+
+
 CASES = {
     "tokens-added-and-removed-while-it-serves": added_and_removed,
     "tokens-changed-while-nobody-is-connected": without_clients,
     "tokens-wrong-while-it-serves": wrong_files,
     "tokens-missing-while-it-serves": gone_and_back,
     "tokens-changed-without-memory": without_memory,
+    "tokens-wrong-files-in-words": wrong_files_in_words,
 }

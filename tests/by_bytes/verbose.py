@@ -108,6 +108,9 @@ def causes():
         pathlib.Path(f"{room}/text.db").write_text("no database, but a text of some length\n" * 200)
         pathlib.Path(f"{room}/folder.db").mkdir()
         descriptor = held(f"{room}/held.db")
+        run([BUILT, "upgrade", "--db", f"{room}/log.db"])
+        pathlib.Path(f"{room}/log.db-wal").unlink(missing_ok=True)
+        pathlib.Path(f"{room}/log.db-wal").mkdir()
         of_store, nowhere = "dss: db: fault 3 Store\n", system(errno.ENOENT)
         ways = (
             (lacking, f"{room}/a.db", [], "", cause(lacking, nowhere), "dss: tokens: cannot read\n"),
@@ -115,6 +118,7 @@ def causes():
             (tokens, f"{room}/text.db", [], limits(), cause(f"{room}/text.db", "not a SQLite database"), of_store),
             (tokens, f"{room}/folder.db", [], limits(), cause(f"{room}/folder.db", "not a file"), of_store),
             (tokens, f"{room}/held.db", [], limits(), cause(f"{room}/held.db", "another process has it open; stop it first"), of_store),
+            (tokens, f"{room}/log.db", [], limits(), cause(f"{room}/log.db-wal", system(errno.EISDIR)), of_store),
             (tokens, f"{room}/b.db", ["--access-log", lacking], limits(), cause(lacking, nowhere), "dss: output\n"),
             (tokens, f"{room}/c.db", ["--admin-port", "1", "--backup-dir", lacking], limits(), cause(lacking, nowhere), "dss: backup: fault 3 Write\n"),
         )

@@ -13,6 +13,7 @@ path_of page.Metrics = codes "/metrics"
 path_of page.Stop = codes "/stop"
 path_of page.Backup = codes "/backup"
 path_of page.Airspace = codes "/airspace"
+path_of page.ResumePurges = codes "/purge/resume"
 
 abbrev pub method_of : AdminRoute → List ℕ
 method_of page.Health = codes "GET"
@@ -20,6 +21,7 @@ method_of page.Metrics = codes "GET"
 method_of page.Stop = codes "POST"
 method_of page.Backup = codes "POST"
 method_of page.Airspace = codes "GET"
+method_of page.ResumePurges = codes "POST"
 
 -- Holds if no endpoint has this path.
 abbrev pub IsNoPath : List ℕ → Type 0
@@ -36,6 +38,7 @@ IsAsked method path Unknown = IsNoPath path
 -- snapshot.
 abbrev pub status_at : AdminRoute → Health → ℕ
 status_at page.Health state.Serving = 200
+status_at page.Health state.Degraded = 200
 status_at page.Health state.Failing = 503
 status_at page.Health state.Stopped = 503
 status_at page.Health state.Stopping = 503
@@ -43,6 +46,7 @@ status_at page.Metrics health = 200
 status_at page.Stop health = 200
 status_at page.Backup health = 404
 status_at page.Airspace health = 503
+status_at page.ResumePurges health = 200
 
 abbrev pub status_of : AdminRequest → Health → ℕ
 status_of (Does p) health = status_at p health

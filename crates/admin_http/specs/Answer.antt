@@ -20,6 +20,7 @@ type_of (Some page.Health) = codes "text/plain; charset=utf-8"
 type_of (Some page.Stop) = codes "text/plain; charset=utf-8"
 type_of (Some page.Backup) = codes "text/plain; charset=utf-8"
 type_of (Some page.Airspace) = codes "application/json"
+type_of (Some page.ResumePurges) = codes "text/plain; charset=utf-8"
 type_of None = codes "text/plain; charset=utf-8"
 
 unfoldable pub type_line : List ℕ → List ℕ
@@ -47,6 +48,8 @@ text_of status media refused body = front_of status media refused (length body) 
 -- The body that gives the health of the service.
 abbrev pub words_of : Health → List ℕ
 words_of state.Serving = codes "serving\n"
+words_of state.Degraded =
+    codes "degraded: purges are held; check the clock, then POST /purge/resume\n"
 words_of state.Failing = codes "failing: the last commit failed\n"
 words_of state.Stopped = codes "stopped: the database failed; restart the service\n"
 words_of state.Stopping = codes "stopping: a stop was requested\n"
@@ -64,6 +67,8 @@ Answers (Does page.Backup) health text =
     text ≡ text_of (status_of (Does page.Backup) health) (type_of None) None (codes "no such path\n")
 Answers (Does page.Airspace) health text =
     text ≡ text_of (status_of (Does page.Airspace) health) (type_of None) None (codes "no snapshot\n")
+Answers (Does page.ResumePurges) health text =
+    text ≡ text_of (status_of (Does page.ResumePurges) health) (type_of None) None (codes "resumed\n")
 Answers (Refuses p) health text =
     (body : List ℕ) × (text ≡ text_of (status_of (Refuses p) health) (type_of None) (Some p) body)
 Answers Unknown health text =

@@ -1,4 +1,5 @@
 -- The health of a service.
+use Rattle.std.specs.Prelude.{Bool, true, false}
 use Rattle.admin_http.specs.declared.admin_route.Health.{Health}
 use Rattle.admin_http.specs.declared.admin_route.Health.TheVariants as state
 use Rattle.admin_http.specs.declared.service_metrics.ServiceMetrics.{ServiceMetrics}
@@ -6,9 +7,23 @@ use Rattle.admin_http.specs.declared.service_metrics.ServiceMetrics.{ServiceMetr
 abbrev pub health_of : ServiceMetrics → Health
 health_of figures = figures.health
 
+-- A service that answers calls is degraded while purges are held.
+abbrev pub when_held : Bool → Health → Health
+when_held true state.Serving = state.Degraded
+when_held true state.Degraded = state.Degraded
+when_held true state.Failing = state.Failing
+when_held true state.Stopped = state.Stopped
+when_held true state.Stopping = state.Stopping
+when_held false health = health
+
+-- The health as operators see it.
+abbrev pub shown_health : ServiceMetrics → Health
+shown_health figures = when_held figures.clock.is_held (health_of figures)
+
 -- The health after a failed commit.
 abbrev pub when_failing : Health → Health
 when_failing state.Serving = state.Failing
+when_failing state.Degraded = state.Degraded
 when_failing state.Failing = state.Failing
 when_failing state.Stopped = state.Stopped
 when_failing state.Stopping = state.Stopping
@@ -16,6 +31,7 @@ when_failing state.Stopping = state.Stopping
 -- The health after a successful commit.
 abbrev pub when_kept : Health → Health
 when_kept state.Serving = state.Serving
+when_kept state.Degraded = state.Degraded
 when_kept state.Failing = state.Serving
 when_kept state.Stopped = state.Stopped
 when_kept state.Stopping = state.Stopping
@@ -23,6 +39,7 @@ when_kept state.Stopping = state.Stopping
 -- The health after the store failed for good.
 abbrev pub when_broken : Health → Health
 when_broken state.Serving = state.Stopped
+when_broken state.Degraded = state.Stopped
 when_broken state.Failing = state.Stopped
 when_broken state.Stopped = state.Stopped
 when_broken state.Stopping = state.Stopping

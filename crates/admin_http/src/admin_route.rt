@@ -15,6 +15,8 @@ pub enum AdminRoute {
     Backup,
     /// A page of the airspace.
     Airspace,
+    /// The confirmation of the clock, so that purges go on.
+    ResumePurges,
 }
 
 /// The result of routing a method and a path.
@@ -33,6 +35,8 @@ pub enum AdminRequest {
 pub enum Health {
     /// It answers calls.
     Serving,
+    /// It answers calls, and purges are held, because the clock may be wrong.
+    Degraded,
     /// It answers calls, and the last commit failed.
     Failing,
     /// It answers no calls any more.
@@ -52,6 +56,7 @@ impl AdminRoute {
             AdminRoute::Stop => "POST",
             AdminRoute::Backup => "POST",
             AdminRoute::Airspace => "GET",
+            AdminRoute::ResumePurges => "POST",
         }
     }
 }
@@ -75,6 +80,9 @@ fn page_at(path: &[u8]) -> Option<AdminRoute>
     }
     if path == "/airspace".as_bytes() {
         return Some(AdminRoute::Airspace);
+    }
+    if path == "/purge/resume".as_bytes() {
+        return Some(AdminRoute::ResumePurges);
     }
     None
 }

@@ -2,7 +2,7 @@
 ghost use Rattle.std.specs.Prelude.{◌≡◌, IfOk};
 ghost use Rattle.std.specs.String.{string_bytes};
 ghost use Rattle.admin_http.specs.Answer.{Answers, AnswersBackup, AnswersForbidden, allow_line, front_of, text_of, type_line, type_of, words_of};
-ghost use Rattle.admin_http.specs.ServiceMetrics.{health_of};
+ghost use Rattle.admin_http.specs.ServiceMetrics.{shown_health};
 
 use crate::admin_route::{AdminRequest, AdminRoute, Health, request_status};
 use crate::backup::{self, BackupResult};
@@ -91,6 +91,9 @@ fn health_text(health: Health) -> &'static str
 {
     match health {
         Health::Serving => "serving\n",
+        Health::Degraded => {
+            "degraded: purges are held; check the clock, then POST /purge/resume\n"
+        }
         Health::Failing => "failing: the last commit failed\n",
         Health::Stopped => "stopped: the database failed; restart the service\n",
         Health::Stopping => "stopping: a stop was requested\n",
@@ -105,9 +108,9 @@ pub fn answer(
     figures: &ServiceMetrics,
     build: BuildInfo<'_>,
 ) -> Result<Vec<u8>, AllocError>
-    ensures { IfOk result (λ text. Answers asked (health_of figures.now) text.items) }
+    ensures { IfOk result (λ text. Answers asked (shown_health figures.now) text.items) }
 {
-    let health = figures.health;
+    let health = figures.shown_health();
     let status = request_status(asked, health);
     match asked {
         AdminRequest::Does(AdminRoute::Health) => whole(
@@ -142,6 +145,9 @@ pub fn answer(
             None,
             "no snapshot\n",
         ),
+        AdminRequest::Does(AdminRoute::ResumePurges) => {
+            whole(alloc, status, None, None, "resumed\n")
+        }
         AdminRequest::Refuses(page) => whole(
             alloc,
             status,

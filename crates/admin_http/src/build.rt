@@ -25,6 +25,12 @@ impl<'a> BuildInfo<'a> {
             help: "Unix time when the service started, in seconds.",
         };
         text.one(started, self.started)?;
+        let process = Metric {
+            name: "process_start_time_seconds",
+            kind: MetricKind::Gauge,
+            help: "Unix time when the process started to serve, in seconds.",
+        };
+        text.one(process, self.started)?;
         let build = Metric {
             name: "dss_build_info",
             kind: MetricKind::Gauge,

@@ -1,11 +1,13 @@
 //! The metrics and the health of a service.
 ghost use Rattle.std.specs.Prelude.{◌≡◌};
-ghost use Rattle.admin_http.specs.ServiceMetrics.{health_of, when_broken, when_failing, when_kept};
+ghost use Rattle.admin_http.specs.ServiceMetrics.{health_of, shown_health, when_broken, when_failing, when_kept};
 ghost use Rattle.admin_http.specs.declared.admin_route.Health.TheVariants as health;
 
 use crate::admin_route::Health;
+use crate::clock::ClockMetrics;
 use crate::connections::{ConnectionFailure, ConnectionMetrics};
 use crate::faults::FailureMetrics;
+use crate::machine::MachineMetrics;
 use crate::purged::PurgeMetrics;
 use crate::requests::RequestMetrics;
 use crate::store_metrics::StoreMetrics;
@@ -33,6 +35,10 @@ pub struct ServiceMetrics {
     pub kept: StoreMetrics,
     /// The metrics of purges.
     pub purged: PurgeMetrics,
+    /// The metrics of the clock.
+    pub clock: ClockMetrics,
+    /// The metrics that the system has of the process.
+    pub machine: MachineMetrics,
     /// The metrics of the token file.
     pub tokens: TokenMetrics,
     pub(crate) health: Health,
@@ -49,8 +55,21 @@ impl ServiceMetrics {
             faults: FailureMetrics::new(),
             kept: StoreMetrics::unknown(),
             purged: PurgeMetrics::new(),
+            clock: ClockMetrics::new(),
+            machine: MachineMetrics::unknown(),
             tokens: TokenMetrics::new(),
             health: Health::Serving,
+        }
+    }
+
+    /// Returns the health as operators see it: a service that answers calls is degraded while
+    /// purges are held.
+    pub fn shown_health(&self) -> Health
+        ensures { result ≡ shown_health self.now }
+    {
+        match self.health {
+            Health::Serving if self.clock.is_held => Health::Degraded,
+            health => health,
         }
     }
 
@@ -91,7 +110,7 @@ impl ServiceMetrics {
         ensures { health_of self.new ≡ when_broken (health_of self.old) }
     {
         match self.health {
-            Health::Serving | Health::Failing => {
+            Health::Serving | Health::Degraded | Health::Failing => {
                 self.faults.note_store();
                 self.health = Health::Stopped;
             }

@@ -3,13 +3,16 @@ use crate::exposition::{Exposition, Metric, MetricKind};
 use std::alloc::AllocError;
 use std::time::Duration;
 
-/// The load time of the active token table, and the number of rejected reloads.
+/// The load time of the active token table, the number of rejected reloads, and the state of the
+/// file.
 #[derive(Clone, Copy, Debug)]
 pub struct TokenMetrics {
     /// The load time since the start of the service.
     pub read: Duration,
     /// The number of changed token files that were rejected.
     pub refusals: u64,
+    /// True if the file has no error now.
+    pub is_valid: bool,
 }
 
 impl TokenMetrics {
@@ -18,6 +21,7 @@ impl TokenMetrics {
         TokenMetrics {
             read: Duration::from_secs(0),
             refusals: 0,
+            is_valid: true,
         }
     }
 
@@ -34,6 +38,12 @@ impl TokenMetrics {
             kind: MetricKind::Counter,
             help: "Changed token files that were rejected.",
         };
-        text.one(refusals, self.refusals)
+        text.one(refusals, self.refusals)?;
+        let valid = Metric {
+            name: "dss_tokens_valid",
+            kind: MetricKind::Gauge,
+            help: "Whether the token file is the active one (1) or was rejected (0).",
+        };
+        text.one(valid, if self.is_valid { 1 } else { 0 })
     }
 }

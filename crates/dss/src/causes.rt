@@ -3,7 +3,7 @@ use dss_command::fault::Fault;
 use os::RangeLock;
 use space_sql_open::open_fault::OpenFault;
 use std::fs::OpenOptions;
-use std::io::Read;
+use std::io::{ErrorKind, Read};
 use std::net::Ipv4Addr;
 use std::os::fd::AsRawFd;
 use std::{fs, io};
@@ -36,7 +36,7 @@ impl Refusal {
             Refusal::NoFile => "not a file",
             Refusal::Held => "another process has it open; stop it first",
             Refusal::NoDatabase => "not a SQLite database",
-            Refusal::Other => "out of memory, or the file or its log cannot be read",
+            Refusal::Other => "out of memory, or the file, its log or its directory cannot be used",
         }
     }
 }
@@ -56,6 +56,14 @@ fn refusal_of(rt: &HostRuntime, name: &str) -> io::Result<Refusal> {
         return Ok(Refusal::Other);
     }
     Ok(Refusal::NoDatabase)
+}
+
+// Opens the log of the database of that name as SQLite does, if it exists.
+fn open_log(rt: &HostRuntime, log: &str) -> io::Result<()> {
+    match OpenOptions::new().read(true).write(true).open(rt, log) {
+        Err(cause) if cause.kind() != ErrorKind::NotFound => Err(cause),
+        _ => Ok(()),
+    }
 }
 
 /// Prints causes on standard error, each on a line before that of its fault. A failed print is
@@ -94,7 +102,15 @@ impl<'a> Causes<'a> {
         let Fault::Database(OpenFault::Store) = fault else {
             return;
         };
-        match refusal_of(self.rt, name) {
+        let refusal = refusal_of(self.rt, name);
+        if let Ok(Refusal::Other) = refusal
+            && let Ok(log) = format!(in self.rt.alloc(); "{name}-wal")
+            && let Err(cause) = open_log(self.rt, log.as_str())
+        {
+            self.print_cause(log.as_str(), &cause);
+            return;
+        }
+        match refusal {
             Ok(refusal) => {
                 let words = refusal.words();
                 let _ = eprintln!(self.rt; "dss: cause: {name}: {words}");

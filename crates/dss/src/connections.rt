@@ -5,13 +5,14 @@ use crate::clock::SystemClock;
 use crate::descriptors::max_clients;
 use crate::log_file::SystemLog;
 use crate::sockets::PortSockets;
-use crate::tokens::TokenFile;
+use crate::tokens::{TokenFile, served_token_text};
 use admin_backup::folder::BackupDir;
 use dss_args::serve_args::ServeArgs;
 use dss_command::backup_fault::BackupFault;
 use dss_command::clients::{AdminListener, Listen, ServeConfig};
 use dss_command::fault::{Fault, io_fault};
 use dss_command::limits::print_limits;
+use dss_command::moment::seconds_of;
 use dss_command::token_files::print_token_check;
 use dss_command::tokens::{salt_of, table_of};
 use dss_database::files::{self, close_database, open_database};
@@ -52,6 +53,7 @@ struct Ports<'a> {
     rt: &'a HostRuntime,
     log: Option<SystemLog<'a>>,
     backups: Option<PortBackups<'a>>,
+    database: &'a str,
     causes: Causes<'a>,
 }
 
@@ -74,9 +76,10 @@ impl<'a> Listen for Ports<'a> {
             rt,
             log: _,
             backups,
+            database,
             causes,
         } = self;
-        PortSockets::listen(rt, address, port, operators, backups, causes)
+        PortSockets::listen(rt, address, port, operators, backups, database, causes)
     }
 }
 
@@ -108,6 +111,25 @@ fn backups_of<'a>(
     }
 }
 
+// Returns the time of the last change of a file in Unix seconds, if the system returns one.
+fn change_of(rt: &HostRuntime, name: &str) -> Option<u64> {
+    let Ok(found) = fs::metadata(rt, name) else {
+        return None;
+    };
+    let Ok(changed) = found.modified() else {
+        return None;
+    };
+    seconds_of(changed)
+}
+
+// Returns the time of the last change of a database or its log.
+fn last_change(rt: &HostRuntime, database: &str) -> Option<u64> {
+    let Ok(log) = format!(in rt.alloc(); "{database}-wal") else {
+        return None;
+    };
+    change_of(rt, database).max(change_of(rt, log.as_str()))
+}
+
 // Returns the text of the token file, and its table. With `--verbose`, first prints the errors and
 // warnings of the file, and then the limits. A failed print is ignored.
 fn tokens_of<E: Write>(
@@ -116,7 +138,7 @@ fn tokens_of<E: Write>(
     causes: Causes<'_>,
     error: &mut E,
 ) -> Result<(String, TokenTable), Fault> {
-    let text = match fs::read_to_string(rt, given.tokens) {
+    let text = match served_token_text(rt, given.tokens) {
         Ok(text) => text,
         Err(cause) => {
             causes.print_cause(given.tokens, &cause);
@@ -162,6 +184,7 @@ pub(crate) fn serve<F: Start, E: Write>(
     let (text, tokens) = tokens_of(rt, given, causes, error)?;
     let salt = salt_of(&tokens)?;
     let log = log_of(rt, given, causes)?;
+    let changed = last_change(rt, given.database);
     let (space, listed) = match open_database(rt, given.database, start) {
         Ok(taken) => taken,
         Err(fault) => {
@@ -182,6 +205,7 @@ pub(crate) fn serve<F: Start, E: Write>(
         port: given.port,
         limits: limits_of(rt, given),
         keep: given.retention,
+        changed,
         operated: operated(rt, given),
         verbose: given.verbose,
     };
@@ -191,6 +215,7 @@ pub(crate) fn serve<F: Start, E: Write>(
         rt,
         log,
         backups,
+        database: given.database,
         causes,
     };
     let _files = files::serve(

@@ -1,4 +1,5 @@
 //! The file of the access log.
+use crate::regular::check_regular;
 use dss_command::request_log::LogFile;
 use std::fs::{File, OpenOptions};
 use std::io::Write;
@@ -32,8 +33,9 @@ pub(crate) struct SystemLog<'a> {
     place: LogTarget<'a>,
 }
 
-// Opens the file of that name at its end. Creates it if it does not exist.
+// Opens the regular file of that name at its end. Creates it if it does not exist.
 fn open(rt: &HostRuntime, name: &str) -> io::Result<File> {
+    check_regular(rt, name)?;
     OpenOptions::new().append(true).create(true).open(rt, name)
 }
 

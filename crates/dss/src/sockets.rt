@@ -1,6 +1,8 @@
 //! The sockets of the system, watched together.
 use crate::backups::PortBackups;
 use crate::causes::Causes;
+use crate::machine::machine_metrics;
+use admin_http::machine::MachineMetrics;
 use mio::event::Event;
 use mio::net::{TcpListener, TcpStream};
 use mio::{Events, Interest, Poll, Token};
@@ -78,6 +80,8 @@ pub(crate) struct PortSockets<'a> {
     // The number of events already taken.
     taken: usize,
     backups: Option<PortBackups<'a>>,
+    // The name of the database file.
+    database: &'a str,
 }
 
 // Returns the source of events with that token.
@@ -159,13 +163,14 @@ fn accept_fault(cause: io::Error) -> AcceptFault {
 
 impl<'a> PortSockets<'a> {
     /// Listens on a port of an address, and on the admin port of 127.0.0.1 if there is one. Makes
-    /// backups if there is a directory for them.
+    /// backups of the database if there is a directory for them.
     pub(crate) fn listen(
         rt: &'a HostRuntime,
         address: Ipv4Addr,
         port: u16,
         operators: Option<u16>,
         backups: Option<PortBackups<'a>>,
+        database: &'a str,
         causes: Causes<'a>,
     ) -> io::Result<PortSockets<'a>> {
         let poll = Poll::new(rt)?;
@@ -191,6 +196,7 @@ impl<'a> PortSockets<'a> {
             ready: Vec::with_capacity(rt.alloc(), EVENTS)?,
             taken: 0,
             backups,
+            database,
         })
     }
 }
@@ -236,6 +242,10 @@ impl<'a> Sockets for PortSockets<'a> {
         let ready = *self.ready.get(self.taken)?;
         self.taken = self.taken.saturating_add(1);
         Some(ready)
+    }
+
+    fn machine(&self) -> MachineMetrics {
+        machine_metrics(self.rt, self.database)
     }
 
     fn monotonic_time(&self) -> io::Result<Duration> {

@@ -1,4 +1,5 @@
 //! The token file of a command.
+use crate::regular::read_regular;
 use dss_command::fault::{Fault, io_fault};
 use dss_command::tokens::table_of;
 use server_watch::token_watch::TokenSource;
@@ -10,6 +11,14 @@ pub(crate) fn token_text(rt: &HostRuntime, name: &str) -> Result<String, Fault> 
     match fs::read_to_string(rt, name) {
         Ok(text) => Ok(text),
         Err(cause) => Err(io_fault(&cause, Fault::TokensUnread)),
+    }
+}
+
+/// Reads the text of the regular file of that name, for `serve`.
+pub(crate) fn served_token_text(rt: &HostRuntime, name: &str) -> io::Result<String> {
+    match String::from_utf8(read_regular(rt, name)?) {
+        Ok(text) => Ok(text),
+        Err(_) => Err(io::Error::other("not UTF-8")),
     }
 }
 
@@ -38,6 +47,6 @@ impl<'a> TokenSource for TokenFile<'a> {
     ghost gives = { λ bytes. Unit {0} };
 
     fn read(&mut self) -> io::Result<Vec<u8>> {
-        fs::read(self.rt, self.name)
+        read_regular(self.rt, self.name)
     }
 }

@@ -1,4 +1,5 @@
 pub mod BackupFault
+pub mod ClockLines
 pub mod Fault
 pub mod Limits
 pub mod Line

@@ -8,10 +8,12 @@ ghost use Rattle.dss_command.specs.Fault.{EndsServing, TellsClient};
 ghost use Rattle.dss_command.specs.Service.{ServesClients};
 
 use crate::aborted_connection::print_aborted;
+use crate::clock_lines::{print_clock_event, print_removed};
 use crate::fault::{Fault, io_fault, print_fault};
 use crate::request_log::{LogFile, RequestLog};
 use crate::store_lines::print_store_event;
-use crate::tokens::print_reload_fault;
+use crate::token_files::print_token_check;
+use crate::tokens::{has_error_lines, print_reload_fault};
 use admin_http::build::BuildInfo;
 use admin_http::web_page::OwnHosts;
 use dss_args::version::{KIT, VERSION};
@@ -19,7 +21,7 @@ use dss_server::serve::serve_clients;
 use entity_core::salt::Salt;
 use server_base::limits::Limits;
 use server_base::server_log::{
-    AbortedConnection, LoggedRequest, ServerLog, StoreEvent, TokenReloadFault,
+    AbortedConnection, ClockEvent, LoggedRequest, ServerLog, StoreEvent, TokenReloadFault,
 };
 use server_base::sockets::Sockets;
 use server_watch::token_watch::{TokenSource, TokenWatch};
@@ -69,10 +71,12 @@ pub fn print_accept_failed<E: Write>(error: &mut E) -> io::Result<()>
     )
 }
 
-// The server log: the access log, if there is one, and a line for each fault of a client and of the
-// token file. If `verbose`, also a line for each change of the store's state.
+// The server log: the access log, if there is one, and a line for each fault of a client, of the
+// token file and of the clock. If `verbose`, also a line for each change of the store's state, and
+// for each purge that removed something.
 #[derive(Drop)]
 struct Lines<'a, E: Write, L> {
+    alloc: Global,
     error: &'a mut E,
     log: Option<RequestLog<L>>,
     verbose: bool,
@@ -99,8 +103,14 @@ impl<'a, E: Write, L: LogFile> ServerLog for Lines<'a, E, L> {
         }
     }
 
-    fn tokens_rejected(&mut self, fault: TokenReloadFault) {
+    fn tokens_rejected(&mut self, fault: TokenReloadFault, checked: &[u8]) {
         let _ = print_reload_fault(fault, self.error);
+        if self.verbose
+            && has_error_lines(fault)
+            && let Ok(text) = str::from_utf8(checked)
+        {
+            let _ = print_token_check(self.alloc, text, self.error);
+        }
     }
 
     fn accept_failed(&mut self) {
@@ -110,6 +120,16 @@ impl<'a, E: Write, L: LogFile> ServerLog for Lines<'a, E, L> {
     fn store_event(&mut self, news: StoreEvent) {
         if self.verbose {
             let _ = print_store_event(news, self.error);
+        }
+    }
+
+    fn clock_event(&mut self, news: ClockEvent) {
+        let _ = print_clock_event(news, self.error);
+    }
+
+    fn purged(&mut self, count: usize) {
+        if self.verbose {
+            let _ = print_removed(count, self.error);
         }
     }
 }
@@ -146,6 +166,9 @@ pub struct ServeConfig<'a> {
     pub limits: Limits,
     /// The retention of what has ended in seconds; nothing is purged if `None`.
     pub keep: Option<u64>,
+    /// The time of the last change of the database before the start, if it is known, in Unix
+    /// seconds.
+    pub changed: Option<u64>,
     /// The admin port, if there is one.
     pub operated: Option<AdminListener>,
     /// True if failed commits and their recovery are reported, too.
@@ -171,10 +194,7 @@ pub trait Listen {
 }
 
 // Returns the build information for the admin port.
-fn build_of(
-    operated: Option<AdminListener>,
-    hosts: &Option<OwnHosts>,
-) -> Option<BuildInfo<'_>>
+fn build_of(operated: Option<AdminListener>, hosts: &Option<OwnHosts>) -> Option<BuildInfo<'_>>
     ensures { IsSome result → IsSome operated }
 {
     match (operated, hosts) {
@@ -242,6 +262,7 @@ fn serve_sockets<
         sockets,
         given.limits,
         given.keep,
+        given.changed,
         build,
         journal,
     );
@@ -297,6 +318,7 @@ pub fn serve_port<
         let _ = print_admin_listening(operated.port, error);
     }
     let mut journal = Lines {
+        alloc,
         error,
         log: log.map(|file| RequestLog::new(alloc, file)),
         verbose: given.verbose,

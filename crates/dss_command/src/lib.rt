@@ -4,6 +4,7 @@
 mod aborted_connection;
 pub mod backup_fault;
 pub mod clients;
+mod clock_lines;
 pub mod fault;
 pub mod limits;
 pub mod line;

@@ -42,6 +42,16 @@ pub fn salt_of(tokens: &TokenTable) -> Result<Salt, Fault>
     }
 }
 
+/// Returns true if the lines of a check say more of the reason: the file has an error.
+pub(crate) fn has_error_lines(fault: TokenReloadFault) -> bool {
+    match fault {
+        TokenReloadFault::Wrong(ConfFault::Memory)
+        | TokenReloadFault::Unread
+        | TokenReloadFault::OtherSalt => false,
+        TokenReloadFault::Wrong(_) => true,
+    }
+}
+
 /// Prints one line that says why a changed token file was not loaded.
 pub fn print_reload_fault<E: Write>(fault: TokenReloadFault, error: &mut E) -> io::Result<()>
     ensures { OnOk result (Appends (E.contents error.old) (E.contents error.new)

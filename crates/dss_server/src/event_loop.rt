@@ -24,6 +24,7 @@ use server_client::fair_queue::{
     ClassMember, FairQueue, WITHOUT_TOKEN, is_round_over, nanos_between,
 };
 use server_client::request_context::RequestContext;
+use server_watch::clock_watch::ClockWatch;
 use server_watch::purger::Purger;
 use server_watch::store_watch::{
     CommitOutcome, StoreWatch, outcome_of_batch, outcome_of_change, outcome_of_purge,
@@ -69,6 +70,8 @@ pub(crate) struct EventLoop<N: Sockets> {
     store: StoreWatch,
     purger: Purger,
     operators: AdminConnections<N>,
+    // The time until which the metrics of the process count as current.
+    measured_until: Duration,
     stopping: Option<Duration>,
 }
 
@@ -80,6 +83,7 @@ impl<N: Sockets + Drop> EventLoop<N> {
         sockets: N,
         limits: Limits,
         is_operated: bool,
+        watch: ClockWatch,
     ) -> Result<EventLoop<N>, AllocError> {
         let clients = limits.clients.min(MAX_CONNECTIONS);
         let peers = Slab::with_capacity(alloc, clients)?;
@@ -106,8 +110,9 @@ impl<N: Sockets + Drop> EventLoop<N> {
             looked: Duration::from_millis(0),
             metrics: ServiceMetrics::new(),
             store: StoreWatch::new(),
-            purger: Purger::new(),
+            purger: Purger::new(watch),
             operators,
+            measured_until: Duration::from_millis(0),
             stopping: None,
         })
     }
@@ -649,8 +654,8 @@ impl<N: Sockets + Drop> EventLoop<N> {
         self.metrics.faults.dropped_lines = journal.flush();
     }
 
-    /// Purges a chunk of what ended at least `keep` seconds ago, if a purge is due. Without a
-    /// retention it purges nothing.
+    /// Reads the clock each second, and purges a chunk of what ended at least `keep` seconds ago, if
+    /// a purge is due and the clock may be right. Without a retention it purges nothing.
     pub(crate) fn purge<S: PurgeEnded + Drop, M: Moments, J: ServerLog>(
         &mut self,
         keep: Option<u64>,
@@ -662,10 +667,16 @@ impl<N: Sockets + Drop> EventLoop<N> {
         ensures { MayPurge S.Space S.GroupCommit.own M.Moments keep
             service.old service.new moments.old moments.new }
     {
-        let Some(keep) = keep else {
-            return;
-        };
-        let Some(purged) = self.purger.purge(keep, service, moments, now) else {
+        let step = self.purger.purge(keep, service, moments, now);
+        self.metrics.clock = self.purger.clock_metrics();
+        if let Some(news) = step.clock {
+            journal.clock_event(news);
+        }
+        if let Some(count) = step.removed {
+            self.metrics.purged.note_purge();
+            journal.purged(count);
+        }
+        let Some(purged) = step.purged else {
             return;
         };
         match purged {
@@ -762,6 +773,10 @@ impl<N: Sockets + Drop> EventLoop<N> {
         self.metrics.connections.open = self.peers.len();
         self.metrics.connections.waiting = self.waiting_for_buffers();
         self.metrics.kept = StoreMetrics::of(shown);
+        if self.measured_until < now {
+            self.measured_until = now.saturating_add(Duration::from_millis(LOOKS_SOON));
+            self.metrics.machine = self.sockets.machine();
+        }
         let admin_context = AdminContext {
             alloc: self.alloc,
             metrics: &self.metrics,
@@ -784,6 +799,9 @@ impl<N: Sockets + Drop> EventLoop<N> {
         let Some(until) = self.stopping else {
             if self.operators.stops() {
                 self.stop(now);
+            }
+            if self.operators.take_confirmation() {
+                self.purger.confirm_clock();
             }
             return false;
         };

@@ -8,6 +8,7 @@ use server_base::limits::Limits;
 use server_base::server_log::ServerLog;
 use server_base::sockets::Sockets;
 use server_client::request_context::RequestContext;
+use server_watch::clock_watch::ClockWatch;
 use server_watch::token_watch::{TokenSource, TokenWatch};
 use service_calls::service::Service;
 use space_core::purge_ended::PurgeEnded;
@@ -53,6 +54,10 @@ fn in_force<'a>(first: &'a TokenTable, newer: &'a Option<TokenTable>) -> &'a Tok
 /// intents, constraints and subscriptions, a chunk at a time, between two batches. Without a
 /// retention nothing is purged.
 ///
+/// With a retention or an admin port the clock is read each second. While it has jumped against the monotonic clock nothing is purged,
+/// nor after a start that is later than the retention and a day after `changed`, the last change of
+/// the database, until the clock returns or an operator confirms it.
+///
 /// With a build there is an admin port, whose connections are answered in the same iterations. An
 /// admin request is no call of the service. It reads the service by `&`, so the service is the same
 /// before and after. Backups are made between batches, step by step.
@@ -76,6 +81,7 @@ pub fn serve_clients<
     sockets: N,
     limits: Limits,
     keep: Option<u64>,
+    changed: Option<u64>,
     operated: Option<BuildInfo<'_>>,
     journal: &mut J,
 ) -> io::Result<()>
@@ -85,7 +91,8 @@ pub fn serve_clients<
 {
     let mut newer = None;
     let is_counted = limits.count.is_some();
-    let mut port = EventLoop::new(alloc, sockets, limits, operated.is_some())?;
+    let clock = ClockWatch::new(keep, changed, keep.is_some() || operated.is_some());
+    let mut port = EventLoop::new(alloc, sockets, limits, operated.is_some(), clock)?;
     let mut now = port.time()?;
     for _ in 0..u64::MAX {
         if is_counted && port.is_done() {

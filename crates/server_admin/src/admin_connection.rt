@@ -11,6 +11,7 @@ use server_base::phase::Phase;
 use server_base::sockets::{Socket, SocketEvent};
 use std::alloc::{AllocError, Global};
 use std::io::ErrorKind;
+use std::mem;
 use std::time::Duration;
 
 /// What a connection does next.
@@ -40,6 +41,8 @@ pub(crate) struct AdminConnection<T> {
     reset: bool,
     // True if it requested the stop of the service.
     stops: bool,
+    // True if it confirmed the clock, until that is taken.
+    confirms: bool,
     // The name of the backup that it requested, until the backup begins, and whether it waits for
     // one.
     wanted: Option<String>,
@@ -61,6 +64,7 @@ impl<T: Socket> AdminConnection<T> {
             writable: true,
             reset: false,
             stops: false,
+            confirms: false,
             wanted: None,
             waits: false,
         }
@@ -102,6 +106,11 @@ impl<T: Socket> AdminConnection<T> {
     /// Returns true if it requested the stop of the service.
     pub(crate) fn stops(&self) -> bool {
         self.stops
+    }
+
+    /// Returns true if it confirmed the clock, once.
+    pub(crate) fn take_confirmation(&mut self) -> bool {
+        mem::replace(&mut self.confirms, false)
     }
 
     /// Returns the name of the backup that it requested, once.
@@ -179,6 +188,7 @@ impl<T: Socket> AdminConnection<T> {
             }
             RequestParse::Request(asked, _) => {
                 self.stops = asked == AdminRequest::Does(AdminRoute::Stop);
+                self.confirms = asked == AdminRequest::Does(AdminRoute::ResumePurges);
                 answer(
                     admin_context.alloc,
                     asked,

@@ -10,6 +10,7 @@ use server_base::limits::{
 use server_base::sockets::{AcceptFault, EventSource, SocketEvent, Sockets};
 use slab::Slab;
 use std::alloc::{AllocError, Global};
+use std::mem;
 use std::time::Duration;
 
 /// All connections to the admin port.
@@ -23,6 +24,8 @@ pub struct AdminConnections<N: Sockets> {
     // True if one of them can go on at once, and true if one requested the stop of the service.
     again: bool,
     stops: bool,
+    // True if one confirmed the clock, until that is taken.
+    confirms: bool,
     backing_up: BackupJob,
 }
 
@@ -37,6 +40,7 @@ impl<N: Sockets + Drop> AdminConnections<N> {
             full_until: Duration::from_millis(0),
             again: false,
             stops: false,
+            confirms: false,
             backing_up: BackupJob::new(),
         })
     }
@@ -96,6 +100,11 @@ impl<N: Sockets + Drop> AdminConnections<N> {
     /// Returns true if one requested the stop of the service.
     pub fn stops(&self) -> bool {
         self.stops
+    }
+
+    /// Returns true if one confirmed the clock, once.
+    pub fn take_confirmation(&mut self) -> bool {
+        mem::replace(&mut self.confirms, false)
     }
 
     /// Records that one may wait to be accepted.
@@ -182,6 +191,7 @@ impl<N: Sockets + Drop> AdminConnections<N> {
         };
         let moved = operator.turn(admin_context, now);
         self.stops = self.stops || operator.stops();
+        self.confirms = operator.take_confirmation() || self.confirms;
         let is_late = operator.is_late(now);
         if moved == AdminTurnOutcome::Again {
             self.again = true;

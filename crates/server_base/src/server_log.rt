@@ -29,6 +29,22 @@ pub enum StoreEvent {
     Stopped,
 }
 
+/// A change of what is known of the clock.
+#[derive(Clone, Copy, Debug, PartialEq, Eq)]
+pub enum ClockEvent {
+    /// It jumped forward by so many seconds.
+    JumpedForward(u64),
+    /// It jumped backward by so many seconds.
+    JumpedBackward(u64),
+    /// At the start, the database was last changed so many seconds ago, longer than the retention
+    /// and a day.
+    StartedLate(u64),
+    /// It agrees with the monotonic clock again.
+    Returned,
+    /// An operator confirmed it.
+    Confirmed,
+}
+
 /// An answered request, as the log prints it.
 #[derive(Clone, Copy, Debug)]
 pub struct LoggedRequest<'a> {
@@ -62,9 +78,10 @@ pub trait ServerLog {
     /// Logs a connection that was aborted for that reason.
     fn connection_failed(&mut self, fault: StreamFault, given_up: AbortedConnection);
 
-    /// Logs a changed token file that was rejected for that reason. The tokens before it stay
-    /// active.
-    fn tokens_rejected(&mut self, fault: TokenReloadFault);
+    /// Logs a changed token file that was rejected for that reason, with the bytes that were last
+    /// checked: those of the file, unless it could not be read or memory ran out. The tokens before
+    /// it stay active.
+    fn tokens_rejected(&mut self, fault: TokenReloadFault, checked: &[u8]);
 
     /// Logs that no connection could be accepted, for lack of descriptors or memory. The default
     /// logs nothing.
@@ -72,6 +89,12 @@ pub trait ServerLog {
 
     /// Logs a change of the store's state. The default logs nothing.
     fn store_event(&mut self, _news: StoreEvent) {}
+
+    /// Logs a change of what is known of the clock. The default logs nothing.
+    fn clock_event(&mut self, _news: ClockEvent) {}
+
+    /// Logs that a purge removed so many items. The default logs nothing.
+    fn purged(&mut self, _count: usize) {}
 
     /// Logs an answered request. The default logs nothing.
     fn request_answered(&mut self, _request: &LoggedRequest<'_>) {}

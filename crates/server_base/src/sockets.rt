@@ -1,5 +1,6 @@
 //! What the service requires of the system: non-blocking sockets, and their events.
 use crate::backups::MakeBackups;
+use admin_http::machine::MachineMetrics;
 use std::io;
 use std::net::SocketAddrV4;
 use std::time::Duration;
@@ -103,6 +104,11 @@ pub trait Sockets {
 
     /// Returns the next event, until there is none left.
     fn next_event(&mut self) -> Option<SocketEvent>;
+
+    /// Returns the metrics that the system has of the process. The default has none.
+    fn machine(&self) -> MachineMetrics {
+        MachineMetrics::unknown()
+    }
 
     /// Returns the time since some fixed start. It never decreases.
     fn monotonic_time(&self) -> io::Result<Duration>;

@@ -1,3 +1,4 @@
+pub mod ClockWatch
 pub mod Purger
 pub mod StoreWatch
 pub mod Tokens

@@ -7,6 +7,10 @@ use Rattle.service_calls.specs.Purged.{PurgesOnce}
 use Rattle.wire_http.specs.declared.moments.Moments as moments
 use Rattle.server_base.specs.Calls.{ClockReadings}
 
+-- Holds if the clock was only read, whatever it returned.
+abbrev pub ReadsClock : {M : Type 0} → moments.Ghosts M → M → M → Type 0
+ReadsClock m clock clock' = (told : List (Option ℕ)) × ClockReadings m told clock clock'
+
 module _ {S M : Type 0} (g : spaces.Ghosts S) (k : settles.Ghosts S) (m : moments.Ghosts M) where
   -- Holds if nothing was purged, whatever the clock returned.
   abbrev pub PurgesNothing : Service S → Service S → M → M → Type 0

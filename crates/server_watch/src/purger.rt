@@ -1,7 +1,11 @@
 //! When ended entities are purged, and how many at once.
-ghost use Rattle.std.specs.Prelude.{Some};
-ghost use Rattle.server_watch.specs.Purger.{MayPurge};
+ghost use Rattle.std.specs.Prelude.{◌≡◌, Some, true};
+ghost use Rattle.server_watch.specs.ClockWatch.{is_held_in};
+ghost use Rattle.server_watch.specs.Purger.{MayPurge, PurgesNothing, ReadsClock};
 
+use crate::clock_watch::ClockWatch;
+use admin_http::clock::ClockMetrics;
+use server_base::server_log::ClockEvent;
 use service_calls::service::Service;
 use space_core::purge_ended::PurgeEnded;
 use space_core::space::SpaceFault;
@@ -25,22 +29,59 @@ pub enum PurgeFault {
     Space(SpaceFault),
 }
 
-// Purges a chunk of what ended at least `keep` seconds before the time of the clock.
+/// The result of a step of the schedule.
+#[derive(Clone, Copy, Debug)]
+pub struct PurgeStep {
+    /// What became known of the clock, if anything.
+    pub clock: Option<ClockEvent>,
+    /// How many intents, constraints and subscriptions a chunk purged, if one was due.
+    pub purged: Option<Result<usize, PurgeFault>>,
+    /// How many of them a purge removed that ended with this step, if any.
+    pub removed: Option<usize>,
+}
+
+// Reads the clock, if a reading is due.
+fn read_clock<M: Moments>(
+    clock: &mut ClockWatch,
+    moments: &mut M,
+    now: Duration,
+) -> Option<ClockEvent>
+    ensures { ReadsClock M.Moments moments.old moments.new }
+{
+    if !clock.is_due(now) {
+        return None;
+    }
+    match moments.next() {
+        Ok(moment) => clock.look(moment, now),
+        Err(_) => None,
+    }
+}
+
+// Reads the clock and, unless purges are held, purges a chunk of what ended at least `keep` seconds
+// before that time.
 fn chunk<S: PurgeEnded + Drop, M: Moments>(
+    clock: &mut ClockWatch,
     keep: u64,
     service: &mut Service<S>,
     moments: &mut M,
-) -> Result<usize, PurgeFault>
-    ensures { MayPurge S.Space S.GroupCommit.own M.Moments (Some keep)
+    now: Duration,
+) -> (Option<ClockEvent>, Option<Result<usize, PurgeFault>>)
+    ensures purges { MayPurge S.Space S.GroupCommit.own M.Moments (Some keep)
+        service.old service.new moments.old moments.new }
+    ensures held { is_held_in clock.new ≡ true → PurgesNothing S.Space S.GroupCommit.own M.Moments
         service.old service.new moments.old moments.new }
 {
     let moment = match moments.next() {
         Ok(moment) => moment,
-        Err(_) => return Err(PurgeFault::Clock),
+        Err(_) => return (None, Some(Err(PurgeFault::Clock))),
     };
+    let event = clock.look(moment, now);
+    if clock.is_held() {
+        return (event, None);
+    }
     match service.purge(moment.saturating_sub(keep), CHUNK) {
-        Ok(count) => Ok(count),
-        Err(fault) => Err(PurgeFault::Space(fault)),
+        Ok(count) => (event, Some(Ok(count))),
+        Err(fault) => (event, Some(Err(PurgeFault::Space(fault)))),
     }
 }
 
@@ -51,19 +92,24 @@ fn chunk<S: PurgeEnded + Drop, M: Moments>(
 /// two chunks.
 #[derive(Clone, Copy, Debug)]
 pub struct Purger {
+    clock: ClockWatch,
     due: Duration,
     is_running: bool,
     // True if the next iteration runs no chunk.
     rests: bool,
+    // How many items the chunks of this purge removed.
+    removed: usize,
 }
 
 impl Purger {
-    /// Creates a schedule whose first purge is due at once.
-    pub fn new() -> Purger {
+    /// Creates a schedule whose first purge is due at once, unless the clock holds it.
+    pub fn new(clock: ClockWatch) -> Purger {
         Purger {
+            clock,
             due: Duration::from_secs(0),
             is_running: false,
             rests: false,
+            removed: 0,
         }
     }
 
@@ -72,30 +118,73 @@ impl Purger {
         self.is_running
     }
 
-    /// Purges a chunk of what ended at least `keep` seconds ago, if one is due. Returns how many
-    /// intents, constraints and subscriptions were purged.
+    /// Returns the metrics of the clock.
+    pub fn clock_metrics(&self) -> ClockMetrics {
+        self.clock.metrics()
+    }
+
+    /// Records that an operator confirms the clock, so that purges are no longer held.
+    pub fn confirm_clock(&mut self) {
+        self.clock.confirm();
+        self.due = Duration::from_secs(0);
+    }
+
+    // Records the result of a chunk, and plans the next one. Returns how many items a purge removed
+    // that ended with this chunk, if any.
+    fn plan(&mut self, purged: Option<Result<usize, PurgeFault>>, now: Duration) -> Option<usize> {
+        let count = match purged {
+            Some(Ok(count)) => count,
+            Some(Err(_)) | None => 0,
+        };
+        self.is_running = count > 0;
+        self.rests = self.is_running;
+        if self.is_running {
+            self.removed = self.removed.saturating_add(count);
+            return None;
+        }
+        self.due = now.saturating_add(Duration::from_secs(GAP));
+        match mem::replace(&mut self.removed, 0) {
+            0 => None,
+            removed => Some(removed),
+        }
+    }
+
+    /// Reads the clock each second and, with a retention, purges a chunk of what ended at least
+    /// `keep` seconds ago, if one is due and purges are not held.
     pub fn purge<S: PurgeEnded + Drop, M: Moments>(
         &mut self,
-        keep: u64,
+        keep: Option<u64>,
         service: &mut Service<S>,
         moments: &mut M,
         now: Duration,
-    ) -> Option<Result<usize, PurgeFault>>
-        ensures { MayPurge S.Space S.GroupCommit.own M.Moments (Some keep)
+    ) -> PurgeStep
+        ensures { MayPurge S.Space S.GroupCommit.own M.Moments keep
             service.old service.new moments.old moments.new }
     {
-        if mem::replace(&mut self.rests, false) || now < self.due {
-            return None;
-        }
-        let purged = chunk(keep, service, moments);
-        self.is_running = match purged {
-            Ok(count) => count > 0,
-            Err(_) => false,
+        let rests = mem::replace(&mut self.rests, false);
+        let Some(keep) = keep else {
+            return self.look(moments, now);
         };
-        self.rests = self.is_running;
-        if !self.is_running {
-            self.due = now.saturating_add(Duration::from_secs(GAP));
+        if rests || now < self.due {
+            return self.look(moments, now);
         }
-        Some(purged)
+        let (clock, purged) = chunk(&mut self.clock, keep, service, moments, now);
+        let removed = self.plan(purged, now);
+        PurgeStep {
+            clock,
+            purged,
+            removed,
+        }
+    }
+
+    // Reads the clock, if a reading is due.
+    fn look<M: Moments>(&mut self, moments: &mut M, now: Duration) -> PurgeStep
+        ensures { ReadsClock M.Moments moments.old moments.new }
+    {
+        PurgeStep {
+            clock: read_clock(&mut self.clock, moments, now),
+            purged: None,
+            removed: None,
+        }
     }
 }

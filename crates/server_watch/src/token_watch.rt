@@ -55,6 +55,8 @@ pub struct TokenWatch<T: TokenSource> {
     // check.
     misses: u32,
     is_lacking: bool,
+    // True if the bytes that were last checked are those of a table that was loaded.
+    is_checked_valid: bool,
     // The metrics of the file.
     tokens: TokenMetrics,
 }
@@ -68,6 +70,7 @@ impl<T: TokenSource> TokenWatch<T> {
             looked: Duration::from_millis(0),
             misses: 0,
             is_lacking: false,
+            is_checked_valid: true,
             tokens: TokenMetrics::new(),
         }
     }
@@ -148,15 +151,19 @@ impl<T: TokenSource> TokenWatch<T> {
         match self.judge(alloc, first) {
             Ok(taken) => {
                 self.is_lacking = false;
+                self.is_checked_valid = self.is_checked_valid || taken.is_some();
+                self.tokens.is_valid = self.is_checked_valid && self.misses < 2;
                 if taken.is_some() {
                     self.tokens.read = now;
                 }
                 taken
             }
             Err(fault) => {
+                self.tokens.is_valid = false;
+                self.is_checked_valid = self.is_checked_valid && self.misses > 0;
                 if !(self.is_lacking && is_memory(fault)) {
                     self.tokens.refusals = self.tokens.refusals.saturating_add(1);
-                    journal.tokens_rejected(fault);
+                    journal.tokens_rejected(fault, self.checked.as_slice());
                 }
                 self.is_lacking = is_memory(fault);
                 None

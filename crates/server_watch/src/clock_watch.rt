@@ -1,0 +1,194 @@
+//! The watch over the clock. A jump of the clock holds purges, since a wrong time ends flights.
+ghost use Rattle.std.specs.Prelude.{◌≡◌, IfNone, IfSome};
+ghost use Rattle.server_watch.specs.ClockWatch.{IsDrift, IsJump, IsNear, is_held_in};
+
+use admin_http::clock::ClockMetrics;
+use server_base::server_log::ClockEvent;
+use std::time::Duration;
+
+// The seconds by which the clock may be ahead of the monotonic clock and behind it, between two
+// readings.
+const MAX_FORWARD: u64 = 60;
+
+const MAX_BACKWARD: u64 = 5;
+
+// The seconds by which the start may be later than the retention after the last change.
+const DAY: u64 = 86_400;
+
+// The interval between readings of the clock, in seconds.
+const GAP: u64 = 1;
+
+// The difference between a time of the clock and the expected time.
+#[derive(Clone, Copy, Debug, PartialEq, Eq)]
+enum Drift {
+    // The clock may be right.
+    Near,
+    // It is ahead by so many seconds.
+    Ahead(u64),
+    // It is behind by so many seconds.
+    Behind(u64),
+}
+
+// Compares a time of the clock with the expected time.
+fn drift_of(moment: u64, expected: u64) -> Drift
+    ensures { IsDrift moment expected result }
+{
+    if moment > expected.saturating_add(MAX_FORWARD) {
+        return Drift::Ahead(moment - expected);
+    }
+    if expected > moment.saturating_add(MAX_BACKWARD) {
+        return Drift::Behind(expected - moment);
+    }
+    Drift::Near
+}
+
+// The last change of the database before the start, and the last time at which a start is not late.
+#[derive(Clone, Copy, Debug, PartialEq, Eq)]
+struct LastChange {
+    changed: u64,
+    limit: u64,
+}
+
+// What is known of the clock.
+#[derive(Clone, Copy, Debug, PartialEq, Eq)]
+enum ClockState {
+    // It was not read yet.
+    Unread(Option<LastChange>),
+    // The start was late.
+    Late(LastChange),
+    // It returned this time, when the monotonic clock returned that one.
+    Right(u64, Duration),
+    // It has jumped since then.
+    Jumped(u64, Duration),
+    // An operator confirmed it.
+    Confirmed,
+}
+
+// Returns the jump of the clock to this time from the expected time, if it jumped.
+fn jump(moment: u64, expected: u64) -> Option<ClockEvent>
+    ensures jump { IfSome result (IsJump moment expected) }
+    ensures none { IfNone result (IsNear moment expected) }
+{
+    match drift_of(moment, expected) {
+        Drift::Near => None,
+        Drift::Ahead(by) => Some(ClockEvent::JumpedForward(by)),
+        Drift::Behind(by) => Some(ClockEvent::JumpedBackward(by)),
+    }
+}
+
+// Returns the time that the clock should return `now`, if it returned `last` then.
+fn expected_at(last: u64, then: Duration, now: Duration) -> u64 {
+    last.saturating_add(now.saturating_sub(then).as_secs())
+}
+
+/// The watch over the clock.
+///
+/// It compares the clock with the monotonic clock. Purges are held while the clock has jumped, and
+/// after a start that is much later than the last change of the database.
+#[derive(Clone, Copy, Debug)]
+pub struct ClockWatch {
+    state: ClockState,
+    looked: Option<Duration>,
+    jumps: u64,
+    // True if the clock is read without a purge, too.
+    is_watched: bool,
+}
+
+impl ClockWatch {
+    /// Creates a watch for a service with this retention, over a database that was last changed at
+    /// this time. `is_watched` says whether the clock is read without a purge, too.
+    pub fn new(keep: Option<u64>, changed: Option<u64>, is_watched: bool) -> ClockWatch {
+        let last = match (keep, changed) {
+            (Some(keep), Some(changed)) => Some(LastChange {
+                changed,
+                limit: changed.saturating_add(keep).saturating_add(DAY),
+            }),
+            _ => None,
+        };
+        ClockWatch {
+            state: ClockState::Unread(last),
+            looked: None,
+            jumps: 0,
+            is_watched,
+        }
+    }
+
+    /// Returns true if nothing may be purged.
+    pub fn is_held(&self) -> bool
+        ensures { result ≡ is_held_in self.now }
+    {
+        match self.state {
+            ClockState::Late(_) | ClockState::Jumped(_, _) => true,
+            ClockState::Unread(_) | ClockState::Right(_, _) | ClockState::Confirmed => false,
+        }
+    }
+
+    /// Returns the metrics of the clock.
+    pub fn metrics(&self) -> ClockMetrics {
+        ClockMetrics {
+            jumps: self.jumps,
+            is_held: self.is_held(),
+        }
+    }
+
+    /// Records that an operator confirms the clock.
+    pub fn confirm(&mut self) {
+        if self.is_held() {
+            self.state = ClockState::Confirmed;
+            self.looked = None;
+        }
+    }
+
+    /// Returns true if the clock is watched, and was not read for a second.
+    pub fn is_due(&self, now: Duration) -> bool {
+        if !self.is_watched {
+            return false;
+        }
+        match self.looked {
+            Some(looked) => now.saturating_sub(looked) >= Duration::from_secs(GAP),
+            None => true,
+        }
+    }
+
+    /// Records a time of the clock. Returns what became known of the clock, if anything.
+    pub fn look(&mut self, moment: u64, now: Duration) -> Option<ClockEvent> {
+        self.looked = Some(now);
+        let right = ClockState::Right(moment, now);
+        match self.state {
+            ClockState::Unread(Some(last)) if moment > last.limit => {
+                self.state = ClockState::Late(last);
+                Some(ClockEvent::StartedLate(moment.saturating_sub(last.changed)))
+            }
+            ClockState::Unread(_) => {
+                self.state = right;
+                None
+            }
+            ClockState::Late(last) if moment > last.limit => None,
+            ClockState::Late(_) => {
+                self.state = right;
+                Some(ClockEvent::Returned)
+            }
+            ClockState::Confirmed => {
+                self.state = right;
+                Some(ClockEvent::Confirmed)
+            }
+            ClockState::Right(last, at) => {
+                let event = jump(moment, expected_at(last, at, now));
+                if event.is_some() {
+                    self.jumps = self.jumps.saturating_add(1);
+                    self.state = ClockState::Jumped(last, at);
+                } else {
+                    self.state = right;
+                }
+                event
+            }
+            ClockState::Jumped(last, at) => {
+                if jump(moment, expected_at(last, at, now)).is_some() {
+                    return None;
+                }
+                self.state = right;
+                Some(ClockEvent::Returned)
+            }
+        }
+    }
+}

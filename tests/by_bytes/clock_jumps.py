@@ -1,0 +1,165 @@
+"""A jump of the system clock holds purges until the clock returns or an operator confirms it.
+
+A library moves the clock of the program."""
+import os
+import struct
+import time
+
+from admin_port import HEALTH, SERVING, STOP, AdminService, asks, said, until_counted
+from devices import library
+from figures import FullAndVerbose
+from purge import gone, many, purged_rows
+from retention import DAY, FAULTS, PURGED, Retaining, far
+from sockets import CLOSING, LAST, difference
+
+RESUME = asks("POST", "/purge/resume")
+DEGRADED = b"degraded: purges are held; check the clock, then POST /purge/resume\n"
+RESUMED = said(200, b"resumed\n")
+JUMPS, HELD, PURGES = "dss_clock_jumps_total", "dss_purge_held", "dss_purges_total"
+FORTY_DAYS = 40 * DAY
+
+
+class Moved:
+    """A service whose clock the test moves."""
+
+    def move(self, seconds):
+        self.clock.write_bytes(struct.pack("q", seconds))
+
+    def begin(self):
+        self.clock = self.folder / "clock"
+        self.move(0)
+        self.environment |= {"LD_PRELOAD": library("move_clock", self.folder), "CLOCK_FILE": str(self.clock)}
+
+    def lines(self):
+        """Returns the lines after those of the start."""
+        return (self.folder / "errors").read_bytes()[len(self.listening):].decode().splitlines()
+
+
+class MovedService(Moved, AdminService):
+    def __init__(self):
+        super().__init__()
+        self.begin()
+
+
+class MovedRetaining(Moved, Retaining):
+    def __init__(self, rows, **more):
+        super().__init__(rows, **more)
+        self.preface = FullAndVerbose.preface if "--verbose" in self.options else b""
+        self.begin()
+
+
+def held(started, jumps="0"):
+    """Returns what is wrong with a service that must hold purges."""
+    counted = until_counted(started, HELD, "1")
+    found = difference("held", [counted[it] for it in (HELD, JUMPS)], ["1", jumps])
+    found += difference("its state", counted['dss_health{state="degraded"}'], "1")
+    return found + difference("health", started.asked(HEALTH), said(200, DEGRADED))
+
+
+def free(started, jumps):
+    """Returns what is wrong with a service that must purge again."""
+    counted = until_counted(started, HELD, "0")
+    found = difference("free", [counted[it] for it in (HELD, JUMPS)], ["0", jumps])
+    return found + difference("health", started.asked(HEALTH), said(200, SERVING))
+
+
+def near(lines, words):
+    """Compares lines, in which N is a number that may be 2 too small or too large."""
+    found = []
+    if len(lines) != len(words):
+        return [f"lines: {lines}, not {words}"]
+    for line, (before, number, after) in zip(lines, words):
+        middle = line.removeprefix(before).removesuffix(after)
+        right = line == before + middle + after and (middle == "" if number is None else middle.isdigit() and abs(int(middle) - number) <= 2)
+        found += [] if right else [f"line {line!r}, not {before}{number or ''}{after}"]
+    return found
+
+
+HOLDS, GOES_ON = " s; purges are held", ("dss: clock: returned; purges go on", None, "")
+
+
+def jumps():
+    """A jump is reported, counted, and ends when the clock returns. Small steps are no jumps. Calls are answered."""
+    with MovedService() as started:
+        time.sleep(1.5)
+        found = free(started, "0")
+        for step in (50, 46, 0, -4, 0):
+            # No step forward is over 60 seconds, and none backward over 5 but the third, which is done in small ones.
+            at = struct.unpack("q", started.clock.read_bytes())[0]
+            while at != step:
+                at = max(step, at - 4) if step < at else step
+                started.move(at)
+                time.sleep(1.2)
+        found += free(started, "0") + difference("lines", started.lines(), [])
+        started.move(FORTY_DAYS)
+        found += held(started, "1")
+        found += difference("a client", started.exchange(CLOSING, ends=False), LAST)
+        started.move(0)
+        found += free(started, "1")
+        started.move(-3600)
+        found += held(started, "2")
+        found += difference("confirmed", started.asked(RESUME), RESUMED)
+        found += free(started, "2")
+        # The clock that was confirmed is now the one to which others are compared.
+        started.move(0)
+        found += held(started, "3")
+        found += difference("confirmed again", started.asked(RESUME), RESUMED)
+        found += free(started, "3")
+        found += difference("confirmed without need", started.asked(RESUME), RESUMED)
+        time.sleep(1.5)
+        confirmed = ("dss: clock: confirmed; purges go on", None, "")
+        found += near(started.lines(), [
+            ("dss: clock: jumped forward by ", FORTY_DAYS, HOLDS), GOES_ON,
+            ("dss: clock: jumped backward by ", 3600, HOLDS), confirmed,
+            ("dss: clock: jumped forward by ", 3600, HOLDS), confirmed,
+        ])
+        found += difference("told to end", started.asked(STOP), said(200, b"stopping\n"))
+        return found + difference("the service", started.ended()[:2], (0, b""))
+
+
+def deletes_nothing():
+    """After a jump forward, intents that have not ended stay stored over the next purge. Once the operator confirms the
+    clock, they are purged, and that is reported."""
+    rows = far(many(64, 4))
+    now = int(time.time())
+    rows["volume"] = [(*it[:-1], now + DAY) for it in rows["volume"]]
+    rows["subscription"] = [(*it[:-1], now + DAY) for it in rows["subscription"]]
+    with MovedRetaining(rows, keep=3600, options=("--verbose",)) as started:
+        time.sleep(2)
+        found = difference("at first", started.counted()[PURGED], "0")
+        started.move(FORTY_DAYS)
+        found += held(started, "1")
+        # A purge is due each minute.
+        time.sleep(65)
+        counted = started.counted()
+        found += difference("while held", [counted[it] for it in (PURGED, PURGES, FAULTS, HELD)], ["0", "0", "0", "1"])
+        found += difference("confirmed", started.asked(RESUME), RESUMED)
+        count = sum(gone(started.before, purged_rows(started.before, now + DAY + 1)))
+        counted = until_counted(started, PURGES, "1")
+        found += difference("afterwards", [counted[it] for it in (PURGED, PURGES, HELD)], [f"{count}", "1", "0"])
+        said_of_purge = [it for it in started.lines() if it.startswith("dss: purge: ")]
+        return found + difference("line", said_of_purge, [f"dss: purge: removed {count} ended intents, constraints and subscriptions"])
+
+
+def starts_late():
+    """At a start that is later than the retention and a day after the last change, purges are held. A start that is not
+    so late purges."""
+    found = []
+    rows = many(64, 4)
+    for days, is_held in ((1.9, False), (2.2, True)):
+        service = MovedRetaining(rows, keep=DAY)
+        changed = time.time() - days * DAY
+        for file in service.folder.glob("dss.db*"):
+            os.utime(file, (changed, changed))
+        with service as started:
+            if is_held:
+                found += held(started)
+                found += difference("nothing", started.counted()[PURGED], "0")
+                found += near(started.lines(), [("dss: clock: ", int(days * DAY), " s after the last change of the database; purges are held")])
+                found += difference("confirmed", started.asked(RESUME), RESUMED)
+            counted = until_counted(started, PURGES, "1")
+            found += difference(f"{days} days", (counted[PURGES], counted[PURGED] != "0", counted[HELD]), ("1", True, "0"))
+    return found
+
+
+CASES = {"clock-jumps": jumps, "clock-jump-deletes-nothing": deletes_nothing, "late-start-purges-nothing": starts_late}
