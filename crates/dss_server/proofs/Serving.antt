@@ -1,5 +1,5 @@
 -- How the record of requests, calls and batches grows step by step.
-use Rattle.std.proofs.Common.{◌≡◌, ℕ, List, [], ◌∷◌, ◌++◌, map, refl, sym, ap, subst, ◌∙◌, ◌⊎◌, inl, inr, Option, Some, None, Result}
+use Rattle.std.proofs.Common.{◌≡◌, ℕ, List, [], ◌∷◌, ◌++◌, map, refl, sym, ap, append_assoc, subst, ◌∙◌, ◌⊎◌, inl, inr, Option, Some, None, Result}
 use Rattle.std.specs.Prelude.{◌-◌, All, IfSome, unwrap_or}
 use Rattle.std.specs.Option.{option_or}
 use Rattle.std.specs.List.{flat_map}
@@ -85,7 +85,7 @@ module _ {S M : Type 0} (g : spaces.Ghosts S) (k : settles.Ghosts S) (m : moment
   }
 
   pub so_far_none : (s : Service S) (clock : M) → ServesSoFar g k m callers s s clock clock
-  so_far_none s clock = (s, clock, serves_none s clock, goes_still s clock)
+  so_far_none s clock = (s, clock, serves_none s clock, goes_still g k m callers s clock)
 
   pub so_far_settled : (old mid new : Service S) (clock clock' : M) (committed : Result (Unit {0}) SpaceFault) → ServesSoFar g k m callers old mid clock clock'
       → IsCommitted g k mid new committed → ServesBy g k m callers old new clock clock'
@@ -97,10 +97,10 @@ module _ {S M : Type 0} (g : spaces.Ghosts S) (k : settles.Ghosts S) (m : moment
       → GoesOn g k m callers mid next between clock' → (new ≡ next) ⊎ ((committed : Result (Unit {0}) SpaceFault) × IsCommitted g k next new committed)
       → ServesSoFar g k m callers old new clock clock'
   so_far_goes_on old mid next new clock between clock' p q settles =
-      let far : ServesSoFar g k m callers old next clock clock' = (p.0, p.1, p.2, goes_on_then p.0 mid next p.1 between clock' p.3 q) in
+      let far : ServesSoFar g k m callers old next clock clock' = (p.0, p.1, p.2, goes_on_then g k m callers p.0 mid next p.1 between clock' p.3 q) in
       elim settles [
         | inl same ↦ subst (λ (s : Service S). ServesSoFar g k m callers old s clock clock') (sym same) far
-        | inr committed ↦ (new, clock', so_far_settled old next new clock clock' committed.0 far committed.1, goes_still new clock')
+        | inr committed ↦ (new, clock', so_far_settled old next new clock clock' committed.0 far committed.1, goes_still g k m callers new clock')
       ]
 
   -- Nothing was purged, whatever the clock returned.
