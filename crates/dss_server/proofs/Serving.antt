@@ -1,5 +1,5 @@
 -- How the record of requests, calls and batches grows step by step.
-use Rattle.std.proofs.Common.{◌≡◌, ℕ, List, [], ◌∷◌, ◌++◌, map, refl, sym, ap, subst, ◌∙◌, ◌⊎◌, inl, inr, Option, Some, None, Result}
+use Rattle.std.proofs.Common.{◌≡◌, ℕ, List, [], ◌∷◌, ◌++◌, map, refl, sym, ap, append_assoc, subst, ◌∙◌, ◌⊎◌, inl, inr, Option, Some, None, Result}
 use Rattle.std.specs.Prelude.{◌-◌, All, IfSome, unwrap_or}
 use Rattle.std.specs.Option.{option_or}
 use Rattle.std.specs.List.{flat_map}

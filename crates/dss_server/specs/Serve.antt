@@ -39,7 +39,7 @@ module _ {S M : Type 0} (g : spaces.Ghosts S) (k : settles.Ghosts S) (m : moment
   -- Holds if calls were made in batches that have ended, and in one that has not.
   abbrev pub ServesSoFar : Service S → Service S → M → M → Type 0
   ServesSoFar old new clock clock' = (mid : Service S) × (between : M)
-      × ServesBy old mid clock between × GoesOn mid new between clock'
+      × ServesBy old mid clock between × GoesOn g k m callers mid new between clock'
 
 -- The calls of the batches between purges, and of those after the last purge.
 abbrev pub all_timed_in : List Segment → List Batch → List TimedCall
