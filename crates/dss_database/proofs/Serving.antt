@@ -61,7 +61,7 @@ module _ {D T M : Type 0} {g : disk.Ghosts D} (space : Ghosts (QuotaModel (Mirro
   closed : ClosesFiles (space_of clients.last).space.store files
   closed = subst (λ (k : SqlSpaceModel (FileStore D g)). ClosesFiles k files) (copied.released ∙ ap (λ (k : QuotaModel (MirroredModel (SqlSpaceModel (FileStore D g)))). k.space.store) clients.ends) closes
 
-  run : RunOver (words_of over_files) space before
+  abbrev run : RunOver (words_of over_files) space before
   run = record {
     old = clients.first;
     purged = clients.serves.last;
