@@ -305,8 +305,8 @@ def rules_of_tables():
         room.serve([])
         if room.query("SELECT * FROM meta") != [(1, 2, 0)]:
             found += [f"meta: {room.query('SELECT * FROM meta')}"]
-        # Eight tables, six indexes of their keys, and those on the ranges of cells.
-        if room.query("SELECT count(*) FROM sqlite_schema") != [(16,)]:
+        # Eight tables, six indexes of their keys, those on the ranges of cells, and that on references.
+        if room.query("SELECT count(*) FROM sqlite_schema") != [(17,)]:
             found += [f"{room.query('SELECT name FROM sqlite_schema')}"]
         with tables.opened(room.database) as database:
             database.execute("PRAGMA foreign_keys = ON")
