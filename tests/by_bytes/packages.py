@@ -195,7 +195,7 @@ def completions(root):
     found += difference("--d", completed(root, "upgrade", "--d"), ["--db"])
     found += difference("--b", completed(root, "serve", "--b"), ["--backup-dir"])
     found += difference("--u", completed(root, "purge", "--u"), ["--until"])
-    found += difference("--re", completed(root, "serve", "--re"), ["--retention"])
+    found += difference("--ret", completed(root, "serve", "--ret"), ["--retention"])
     found += difference("a log", completed(root, "serve", "--access-log", "tok"), ["tokens.toml"])
     found += difference("--new-token", completed(root, "tokens", "--new-"), ["--new-token", "--new-salt"])
     found += difference("a file to check", completed(root, "tokens", "--check", "tok"), ["tokens.toml"])

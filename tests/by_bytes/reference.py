@@ -22,7 +22,7 @@ def printed_lines():
     """The page has each line of `purge`, each that begins with `dss:` in a source, and no other. Braces in a source stand for any text."""
     page = PAGE.read_text()
     texts = {
-        re.sub(r"\\\n\s*", "", it)
+        re.sub(r"\\\n\s*", "", it).removesuffix(r"\n")
         for source in SOURCES for it in re.findall(r'"((?:dss: |purged )(?:[^"\\]|\\\s|\\.)*)"', source.read_text())
     }
     patterns = {it: r"[^`\n]+?".join(map(re.escape, re.split(r"\{[^}]*\}", it))) for it in texts}
