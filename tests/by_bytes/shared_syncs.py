@@ -56,20 +56,11 @@ def shared():
     return found + ([] if ALONE <= alone <= ALONE + MORE else [f"{ALONE} changes of one client took {alone} syncs"])
 
 
-def early(service, airspace, turn, **numbers):
+def early(service, airspace, calls, **numbers):
     """Returns which responses of a batch go out too early while its sync waits, or what is wrong with it; the airspace
-    after it; and whether the first read was answered before the sync.
-
-    The fair queue decides the order of the calls. First another USS spends time, last on the connection of the first
-    read. So the USS of that read has spent the least, or as little as others that the service saw later."""
-    calls = service.mixed(airspace, turn)
-    calls[0] = "GET", f"{wire.AVAILABILITY}/uss-w", "Bearer tok-w", None
-    spends = "GET", f"{wire.AVAILABILITY}/uss-w", "Bearer tok-v", None
-    service.ask([wire.request(*spends)] * (wire.MAX_REQUESTS - 1))
-    service.each_asks([spends])
-    service.told_to(service.kept[0], PATIENCE)
+    after it; and whether the first read was answered before the sync."""
     service.send_at_once(calls, **numbers)
-    soon = service.told(SOON / len(calls))
+    soon = [service.told_to(kept, SOON / len(calls)) for _, kept in zip(calls, service.kept)]
     soon = [it or service.told_to(kept, 0.001) for it, kept in zip(soon, service.kept)]
     service.page.set()
     told = [it or service.told_to(kept, 30) for it, kept in zip(soon, service.kept)]
@@ -79,19 +70,30 @@ def early(service, airspace, turn, **numbers):
     return found + checked.wrong, checked.after, soon[0] is not None
 
 
+def of_one_uss(calls):
+    """Returns a read and then a change of one USS, whose clients take turns."""
+    (method, target, _, body), change = calls[:2]
+    return [(method, target, change[2], body), change]
+
+
 def deferred():
-    """While the sync waits, no change gets its response and no read that saw one, but a read before them does. A sync
-    that is reported as done and is not shows that the case would find early responses."""
+    """While the sync waits, no change gets its response and no read that saw one, but a read before them does. The fair
+    queue decides the order of different USSs, so that read is of the USS of the only change. A sync that is reported as
+    done and is not shows that the case would find early responses."""
     found, reads = [], 0
     with tempfile.TemporaryDirectory() as folder, Batches(folder) as service:
         airspace = service.fill()
         for turn in range(5):
-            wrong, airspace, is_read_early = early(service, airspace, turn, waits=1)
+            wrong, airspace, _ = early(service, airspace, service.mixed(airspace, turn), waits=1)
+            found += [f"round {turn}: {it}" for it in wrong]
+        for turn in range(5, 10):
+            calls = of_one_uss(service.mixed(airspace, turn))
+            wrong, airspace, is_read_early = early(service, airspace, calls, waits=1)
             found += [f"round {turn}: {it}" for it in wrong]
             reads += is_read_early
-        print(f"{reads} of 5 reads came before the changes of their batch, and were answered before the sync")
+        print(f"{reads} of 5 reads came before the change of their batch, and were answered before the sync")
         found += [] if reads else ["each read waited for a sync"]
-        wrong, airspace, _ = early(service, airspace, 5, lies=1)
+        wrong, airspace, _ = early(service, airspace, service.mixed(airspace, 10), lies=1)
         return found + ([] if any("before the sync" in it for it in wrong) else ["an answer before the sync was not seen"])
 
 

@@ -18,8 +18,11 @@ from sockets import ANSWER, ASKED, CLOSING, LAST, difference
 STORED_INTENTS, FAR = 300, 4_000_000_000
 # The seconds in which a client that waits gets nothing.
 WAITS = 1
-# Clients that read nothing. Each has a part of a response that is not sent, and together more than half a megabyte.
-READ_NOTHING = 24
+# Clients that read nothing. Each has a part of a response that is not sent, and together more than half a megabyte:
+# the responses have different lengths, so that the buffers of the system do not end with a response everywhere.
+READ_NOTHING, FEWER = 24, 7
+# The seconds after which the buffers of the system are full at the latest.
+FULL_WITHIN = 120
 # The buffers for requests over 64 KiB: of requests without a token, and of one USS.
 WITHOUT_TOKEN, OF_USS = 8, 32
 # The descriptors of a narrow service, and those that clients leave.
@@ -27,8 +30,10 @@ DESCRIPTORS, RESERVED = 64, 32
 ACCEPT = b"dss: accept: no file descriptor or memory for a connection; raise LimitNOFILE\n"
 
 
-def query(token):
-    return wire.request("POST", f"{wire.INTENTS}/query", f"Bearer {token}", b'{"area_of_interest":{"cells":["89c2591"]}}')
+def query(token, count=STORED_INTENTS):
+    """Returns a query for the first `count` intents."""
+    area = {"cells": ["89c2591"], "time_end": FAR + 100 * count - 60}
+    return wire.request("POST", f"{wire.INTENTS}/query", f"Bearer {token}", json.dumps({"area_of_interest": area}).encode())
 
 
 def stored_intents():
@@ -67,16 +72,20 @@ def budget():
             found += difference("creations", statuses, {b"HTTP/1.1 201"})
         before = started.memory()
         with contextlib.ExitStack() as stack:
-            for _ in range(READ_NOTHING):
+            for at in range(READ_NOTHING):
                 held = stack.enter_context(socket.socket())
                 held.setsockopt(socket.SOL_SOCKET, socket.SO_RCVBUF, 4096)
                 held.connect(("127.0.0.1", started.port))
-                held.sendall(query("tok-a") * wire.MAX_REQUESTS)
+                held.sendall(query("tok-a", STORED_INTENTS - FEWER * at) * wire.MAX_REQUESTS)
             # The buffers of the system are full after some seconds.
-            time.sleep(4)
-            waiting = stack.enter_context(started.connect())
-            waiting.sendall(query("tok-a"))
-            found += waits("another client of the USS", waiting)
+            for _ in range(FULL_WITHIN):
+                time.sleep(1)
+                waiting = stack.enter_context(started.connect())
+                waiting.sendall(query("tok-a"))
+                answered = waits("another client of the USS", waiting)
+                if not answered:
+                    break
+            found += answered
             found += difference("another USS", started.exchange(CLOSING, ends=False), LAST)
             grown = started.memory() - before
             found += [] if grown <= 16_000 else [f"it grew by {grown} kB"]
