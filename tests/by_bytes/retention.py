@@ -3,6 +3,7 @@
 A forward-looking call gets the same response as from a service that retains all."""
 import collections
 import errno
+import re
 import time
 
 import drawn_calls
@@ -30,6 +31,7 @@ ALLOCATIONS = 240
 # Growths of a file, and writes, after those of a start: from each of them on the disk is full, or takes no write at
 # all.
 FULL, REFUSED = range(1, 32, 5), (20, 40, 61, 73)
+PURGE_LINE = rb"dss: purge: removed (\d+) ended intents, constraints and subscriptions\n"
 PURGED, FAULTS = "dss_purged_total", "dss_purge_failures_total"
 
 
@@ -242,9 +244,9 @@ def room_again():
         return found + difference("with room", started.ask([put])[0][:12], b"HTTP/1.1 201")
 
 
-def reported_nowhere():
-    """The log has only the lines of requests, and nothing is on standard error. With --verbose the lines are the same
-    as without."""
+def reported():
+    """The log has only the lines of requests, and nothing is on standard error. With --verbose there is a line for each
+    purge, and the numbers in these lines are those of all that was purged."""
     found = []
     for options, preface in ((), b""), (("--verbose",), FullAndVerbose.preface):
         service = Retaining(far(many()), options=options)
@@ -255,7 +257,10 @@ def reported_nowhere():
             found += difference("counted", started.wait(count)[PURGED], f"{count}")
             started.ask([wire.request("GET", f"{wire.AVAILABILITY}/uss-a", "Bearer tok-a")] * 3)
             found += difference(f"lines, {options}", log.read_text().count("\n"), 3)
-            found += difference(f"told, {options}", (started.folder / "errors").read_bytes(), started.listening)
+            told = (started.folder / "errors").read_bytes()
+            numbers = [int(it) for it in re.findall(PURGE_LINE, told)]
+            found += difference(f"told, {options}", re.sub(PURGE_LINE, b"", told), started.listening)
+            found += difference(f"purged, {options}", sum(numbers), count if options else 0)
     return found
 
 
@@ -414,7 +419,7 @@ CASES = {
     "purge-once-a-minute": once_a_minute,
     "retention-compared-with-none": pairs,
     "retention-frees-the-quota": room_again,
-    "retention-is-reported-nowhere": reported_nowhere,
+    "retention-is-reported": reported,
     "retention-and-kills": killed,
     "retention-on-a-full-disk": full_disk,
     "retention-while-no-write-succeeds": refused_writes,
