@@ -94,7 +94,7 @@ def taking_nothing():
                 time.sleep(0.5)
             took = time.monotonic() - began
             found += [] if took >= TAKING - 1 else [f"closed after {took:.1f} s"]
-            found += difference("what is told", errors.read_bytes(), started.listening + WRITES)
+            found += difference("standard error", errors.read_bytes(), started.listening + WRITES)
         return found + difference("the next", started.exchange(CLOSING, ends=False), LAST)
 
 

@@ -122,7 +122,7 @@ def dropped():
             started.program.send_signal(signal.SIGCONT)
             found += difference("the setting was not made", started.exchange(CLOSING, ends=False), LAST)
         wanted = started.listening + 2 * b"dss: stream: fault 1 Read\n"
-        return found + difference("what is told", (started.folder / "errors").read_bytes(), wanted)
+        return found + difference("standard error", (started.folder / "errors").read_bytes(), wanted)
 
 
 def two_thousand():
@@ -138,7 +138,7 @@ def two_thousand():
             with connection:
                 found += difference(f"connection {at}", answers_from(connection, 1), ANSWER)
         found += difference("the next", started.exchange(CLOSING, ends=False), LAST)
-        return found + difference("what is told", (started.folder / "errors").read_bytes(), started.listening)
+        return found + difference("standard error", (started.folder / "errors").read_bytes(), started.listening)
 
 
 class Narrow(Service):
@@ -169,7 +169,7 @@ def few_descriptors():
             connection.settimeout(10)
             with connection:
                 found += difference(f"connection {at}, later", answers_from(connection, 1), ANSWER)
-        return found + difference("what is told", (started.folder / "errors").read_bytes(), started.listening)
+        return found + difference("standard error", (started.folder / "errors").read_bytes(), started.listening)
 
 
 def settings(supplier, versions):

@@ -171,7 +171,7 @@ def descriptors():
         name = "dss_tokens_loaded_time_seconds"
         found += [] if float(after[name]) > float(before[name]) else ["the token file was not loaded"]
         found += difference("failed accepts", after["dss_accept_failures_total"], "0")
-        return found + difference("what is told", (started.folder / "errors").read_bytes(), started.listening)
+        return found + difference("standard error", (started.folder / "errors").read_bytes(), started.listening)
 
 
 def failed_accepts():
@@ -188,7 +188,7 @@ def failed_accepts():
             found = difference("served later", until_closed(held), LAST)
         failures = int(started.counted()["dss_accept_failures_total"])
         found += [] if 1 <= failures <= 50 else [f"{failures} failed accepts"]
-        return found + difference("what is told", (started.folder / "errors").read_bytes(), started.listening + ACCEPT)
+        return found + difference("standard error", (started.folder / "errors").read_bytes(), started.listening + ACCEPT)
 
 
 CASES = {
