@@ -1,3 +1,3 @@
 mod Compact
-mod Rows
 mod Texts
+mod Tokens

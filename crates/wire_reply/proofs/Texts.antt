@@ -4,7 +4,7 @@ use Rattle.std.specs.Fmt.{decimal}
 use Rattle.json.specs.Print.{quoted}
 use Rattle.serde_json.specs.Data.{Data, boolean, object, string, Members, member, no_members}
 use Rattle.serde_json.specs.View.{items_of}
-use Rattle.serde_json.specs.Written.{compact_text, has_float}
+use Rattle.serde_json.specs.Written.{compact_text}
 use Rattle.entity_core.specs.Entity.{kind_of}
 use Rattle.entity_core.specs.Subscription.{wants}
 use Rattle.entity_core.specs.declared.availability.Availability.{Availability}
@@ -48,25 +48,12 @@ compact_parts r (Some ovn) Constraint = compact_text-object (members_in (referen
 pub compact_reference : (r : Reference) → compact_text (reference_data r) ≡ reference_text r
 compact_reference r = compact_parts r r.ovn r.nature
 
-no_float_parts : (r : Reference) (ovn : Option (List ℕ)) (nature : Nature) → has_float (reference_data (record r { ovn = ovn; nature = nature })) ≡ false
-no_float_parts r None (Intent state named) = refl
-no_float_parts r (Some ovn) (Intent state named) = refl
-no_float_parts r None Constraint = refl
-no_float_parts r (Some ovn) Constraint = refl
-
-pub no_float_reference : (r : Reference) → has_float (reference_data r) ≡ false
-no_float_reference r = no_float_parts r r.ovn r.nature
-
 item_texts-references : (rs : List Reference) → item_texts (items_of (map reference_data rs)) ≡ map reference_text rs
 item_texts-references [] = refl
 item_texts-references (r ∷ rs) = ap₂ (λ t ts. t ∷ ts) (compact_reference r) (item_texts-references rs)
 
 compact_references : (rs : List Reference) → compact_text (references_data rs) ≡ references_text rs
 compact_references rs = compact_text-array (items_of (map reference_data rs)) ∙ ap array_text (item_texts-references rs)
-
-no_float_references : (rs : List Reference) → has_float (references_data rs) ≡ false
-no_float_references [] = refl
-no_float_references (r ∷ rs) = rw (no_float_reference r) (no_float_references rs)
 
 -- ---- responses
 
@@ -76,9 +63,6 @@ one_member name text d same = compact_text-object (member name d no_members) ∙
 
 compact_found : (r : Reference) → compact_text (found_data r) ≡ found_text r
 compact_found r = one_member (reference_name (kind_of r.nature)) (reference_text r) (reference_data r) (compact_reference r)
-
-no_float_found : (r : Reference) → has_float (found_data r) ≡ false
-no_float_found r = rw (no_float_reference r) refl
 
 -- The text of a notified subscription.
 compact_state : (s : ℕ × ℕ) → compact_text (state_data s) ≡ state_text s
@@ -92,10 +76,6 @@ item_texts-states (s ∷ ss) = ap₂ (λ t ts. t ∷ ts) (compact_state s) (item
 compact_states : (ss : List (ℕ × ℕ)) → compact_text (states_data ss) ≡ array_text (map state_text ss)
 compact_states ss = compact_text-array (items_of (map state_data ss)) ∙ ap array_text (item_texts-states ss)
 
-no_float_states : (ss : List (ℕ × ℕ)) → has_float (states_data ss) ≡ false
-no_float_states [] = refl
-no_float_states (s ∷ ss) = no_float_states ss
-
 compact_notify : (n : Notify) → compact_text (notify_data n) ≡ notify_text n
 unfolding members_in
 compact_notify n =
@@ -108,13 +88,6 @@ item_texts-notices (n ∷ ns) = ap₂ (λ t ts. t ∷ ts) (compact_notify n) (it
 
 compact_subscribers : (ns : List Notify) → compact_text (subscribers_data ns) ≡ subscribers_text ns
 compact_subscribers ns = compact_text-array (items_of (map notify_data ns)) ∙ ap array_text (item_texts-notices ns)
-
-no_float_notify : (n : Notify) → has_float (notify_data n) ≡ false
-no_float_notify n = rw (no_float_states n.states) refl
-
-no_float_subscribers : (ns : List Notify) → has_float (subscribers_data ns) ≡ false
-no_float_subscribers [] = refl
-no_float_subscribers (n ∷ ns) = rw (no_float_notify n) (no_float_subscribers ns)
 
 compact_changed_parts : (r : Reference) (ns : List Notify) (nature : Nature)
     → compact_text (changed_data (record r { nature = nature }) ns) ≡ changed_text (record r { nature = nature }) ns
@@ -131,15 +104,8 @@ compact_changed_parts r ns Constraint =
 compact_changed : (r : Reference) (ns : List Notify) → compact_text (changed_data r ns) ≡ changed_text r ns
 compact_changed r ns = compact_changed_parts r ns r.nature
 
-no_float_changed_parts : (r : Reference) (ns : List Notify) (nature : Nature) → has_float (changed_data (record r { nature = nature }) ns) ≡ false
-no_float_changed_parts r ns (Intent state named) = rw (no_float_reference (record r { nature = Intent state named }), no_float_subscribers ns) refl
-no_float_changed_parts r ns Constraint = rw (no_float_reference (record r { nature = Constraint }), no_float_subscribers ns) refl
-
 compact_listed : (kind : Kind) (rs : List Reference) → compact_text (listed_data kind rs) ≡ listed_text kind rs
 compact_listed kind rs = one_member (references_name kind) (references_text rs) (references_data rs) (compact_references rs)
-
-no_float_listed : (kind : Kind) (rs : List Reference) → has_float (listed_data kind rs) ≡ false
-no_float_listed kind rs = rw (no_float_references rs) refl
 
 compact_availability : (uss : List ℕ) (a : Availability) (version : List ℕ) → compact_text (availability_data uss a version) ≡ availability_text uss a version
 compact_availability uss a version =
@@ -155,10 +121,6 @@ item_texts-ids (id ∷ ids) = ap (λ ts. id_text id ∷ ts) (item_texts-ids ids)
 
 compact_ids : (ids : List ℕ) → compact_text (ids_data ids) ≡ array_text (map id_text ids)
 compact_ids ids = compact_text-array (items_of (map id_data ids)) ∙ ap array_text (item_texts-ids ids)
-
-no_float_ids : (ids : List ℕ) → has_float (ids_data ids) ≡ false
-no_float_ids [] = refl
-no_float_ids (id ∷ ids) = no_float_ids ids
 
 compact_flag : (b : Bool) → compact_text (boolean b) ≡ flag_text b
 compact_flag true = refl
@@ -190,19 +152,12 @@ compact_sub s =
     ∙ ap (λ t. sub_text_by s (array_text (map id_text s.dependents)) t (compact_text (boolean intents))) (compact_flag constraints)
     ∙ ap (λ t. sub_text_by s (array_text (map id_text s.dependents)) (flag_text constraints) t) (compact_flag intents)
 
-no_float_sub : (s : SubView) → has_float (sub_data s) ≡ false
-no_float_sub s = rw (no_float_ids s.dependents) refl
-
 item_texts-subs : (ss : List SubView) → item_texts (items_of (map sub_data ss)) ≡ map sub_text ss
 item_texts-subs [] = refl
 item_texts-subs (s ∷ ss) = ap₂ (λ t ts. t ∷ ts) (compact_sub s) (item_texts-subs ss)
 
 compact_subs : (ss : List SubView) → compact_text (subs_data ss) ≡ subs_text ss
 compact_subs ss = compact_text-array (items_of (map sub_data ss)) ∙ ap array_text (item_texts-subs ss)
-
-no_float_subs : (ss : List SubView) → has_float (subs_data ss) ≡ false
-no_float_subs [] = refl
-no_float_subs (s ∷ ss) = rw (no_float_sub s) (no_float_subs ss)
 
 compact_sub_stored : (s : SubView) (intents constraints : List Reference) → compact_text (sub_stored_data s intents constraints) ≡ sub_stored_text s intents constraints
 compact_sub_stored s intents constraints =
@@ -211,20 +166,11 @@ compact_sub_stored s intents constraints =
     ∙ ap₂ (λ c i. object_text ((references_name kinds.Constraint, c) ∷ (references_name kinds.Intent, i) ∷ (codes "subscription", compact_text (sub_data s)) ∷ [])) (compact_references constraints) (compact_references intents)
     ∙ ap (λ t. object_text ((references_name kinds.Constraint, references_text constraints) ∷ (references_name kinds.Intent, references_text intents) ∷ (codes "subscription", t) ∷ [])) (compact_sub s)
 
-no_float_sub_stored : (s : SubView) (intents constraints : List Reference) → has_float (sub_stored_data s intents constraints) ≡ false
-no_float_sub_stored s intents constraints = rw (no_float_references constraints, no_float_references intents, no_float_sub s) refl
-
 compact_sub_found : (s : SubView) → compact_text (sub_found_data s) ≡ sub_found_text s
 compact_sub_found s = one_member (codes "subscription") (sub_text s) (sub_data s) (compact_sub s)
 
-no_float_sub_found : (s : SubView) → has_float (sub_found_data s) ≡ false
-no_float_sub_found s = rw (no_float_sub s) refl
-
 compact_sub_listed : (ss : List SubView) → compact_text (sub_listed_data ss) ≡ sub_listed_text ss
 compact_sub_listed ss = one_member (codes "subscriptions") (subs_text ss) (subs_data ss) (compact_subs ss)
-
-no_float_sub_listed : (ss : List SubView) → has_float (sub_listed_data ss) ≡ false
-no_float_sub_listed ss = rw (no_float_subs ss) refl
 
 compact_answer : (a : Answer) → compact_text (answer_data a) ≡ answer_text a
 compact_answer (answers.Created r ns) = compact_changed r ns
@@ -235,16 +181,6 @@ compact_answer (answers.Avail uss a version) = compact_availability uss a versio
 compact_answer (answers.SubStored s intents constraints) = compact_sub_stored s intents constraints
 compact_answer (answers.SubFound s) = compact_sub_found s
 compact_answer (answers.SubListed ss) = compact_sub_listed ss
-
-no_float_answer : (a : Answer) → has_float (answer_data a) ≡ false
-no_float_answer (answers.Created r ns) = no_float_changed_parts r ns r.nature
-no_float_answer (answers.Changed r ns) = no_float_changed_parts r ns r.nature
-no_float_answer (answers.Found r) = no_float_found r
-no_float_answer (answers.Listed kind rs) = no_float_listed kind rs
-no_float_answer (answers.Avail uss a version) = refl
-no_float_answer (answers.SubStored s intents constraints) = no_float_sub_stored s intents constraints
-no_float_answer (answers.SubFound s) = no_float_sub_found s
-no_float_answer (answers.SubListed ss) = no_float_sub_listed ss
 
 -- ---- replies
 
@@ -257,25 +193,12 @@ compact_missing words m =
     compact_text-object members
     ∙ ap₂ (λ c i. object_text ((codes "message", quoted words) ∷ (codes "missing_constraints", c) ∷ (codes "missing_operational_intents", i) ∷ [])) (compact_references m.constraints) (compact_references m.intents)
 
-no_float_missing : (words : List ℕ) (m : Missing) → has_float (missing_data words m) ≡ false
-no_float_missing words m = rw (no_float_references m.constraints, no_float_references m.intents) refl
-
 compact_denied : (p : Rule) (m : Missing) → compact_text (denied_data p m) ≡ denied_text p m
 compact_denied Key m = compact_missing (rule_text Key) m
 compact_denied p m = compact_message (rule_text p)
-
-no_float_denied : (p : Rule) (m : Missing) → has_float (denied_data p m) ≡ false
-no_float_denied Key m = no_float_missing (rule_text Key) m
-no_float_denied p m = refl
 
 pub compact_reply : (r : Reply) → compact_text (reply_data r) ≡ reply_text r
 compact_reply (Done a) = compact_answer a
 compact_reply (Denied p m) = compact_denied p m
 compact_reply Fault = compact_message (codes "fault")
 compact_reply Stopped = compact_message (codes "stopped")
-
-pub no_float_reply : (r : Reply) → has_float (reply_data r) ≡ false
-no_float_reply (Done a) = no_float_answer a
-no_float_reply (Denied p m) = no_float_denied p m
-no_float_reply Fault = refl
-no_float_reply Stopped = refl

@@ -4,3 +4,4 @@ pub mod SubView
 pub mod Subscribers
 pub mod Answer
 pub mod Built
+pub mod Tokens

@@ -1,140 +1,180 @@
 //! The bodies of responses.
-ghost use Rattle.std.specs.Prelude.{◌≡◌, IfOk, string_bytes};
-ghost use Rattle.serde_json.specs.View.{view};
+ghost use Rattle.std.specs.Prelude.{◌≡◌, ◌++◌, IfOk, OnOk, string_bytes};
 ghost use Rattle.wire_reply.specs.Answer.{rule_text, reply_text, answer_status, status_of};
 ghost use Rattle.wire_reply.specs.Built.{availability_data, found_data, changed_data, listed_data, sub_stored_data, sub_found_data, sub_listed_data, answer_data, message_data, missing_data, denied_data, reply_data};
+ghost use Rattle.wire_reply.specs.Tokens.{tokens_of};
 
-use crate::reference::{reference_json, reference_name, references_json, references_name};
-use crate::sub_view::{sub_json, subs_json};
-use crate::subscribers::subscribers_json;
+use crate::reference::{reference_name, references_name, write_reference, write_references};
+use crate::sub_view::{write_sub, write_subs};
+use crate::subscribers::write_subscribers;
+use crate::writing::{begin_with, write_key, write_text};
 use entity_core::availability::Availability;
 use entity_core::nature::Kind;
+use json::Writer;
 use policy_core::reference::{Missing, Reference, References};
 use policy_core::rule::Rule;
 use policy_core::sub_view::{SubView, SubViews};
-use serde_json::{Value, json};
 use service_notify::notice::Notices;
 use service_step::reply::{Answer, Reply};
 use std::alloc::{AllocError, Global};
 use wire_body::availability::name_of;
 
-/// Builds the JSON of an availability.
-fn availability_json(
-    alloc: Global,
+fn write_availability(
+    out: &mut Writer,
     uss: &str,
     availability: Availability,
     version: &str,
-) -> Result<Value, AllocError>
-    ensures { IfOk result (λ v. view v ≡ availability_data uss.now availability version.now) }
+) -> Result<(), AllocError>
+    ensures kept { out.new.before ≡ out.old.before }
+    ensures adds { OnOk result (out.new.tokens
+        ≡ out.old.tokens ++ tokens_of (availability_data uss.now availability version.now)) }
 {
-    let word = name_of(availability);
-    json!(in alloc; {"status": {"availability": word, "uss": uss}, "version": version})
+    begin_with(out, "status")?;
+    out.begin_object()?;
+    write_text(out, "availability", name_of(availability))?;
+    write_text(out, "uss", uss)?;
+    out.end_object()?;
+    write_text(out, "version", version)?;
+    out.end_object()
 }
 
-/// Builds the JSON of the reference of an entity.
-fn found_json(alloc: Global, reference: &Reference) -> Result<Value, AllocError>
-    ensures { IfOk result (λ v. view v ≡ found_data reference.now) }
+// Writes the reference of an entity.
+fn write_found(out: &mut Writer, alloc: Global, reference: &Reference) -> Result<(), AllocError>
+    ensures kept { out.new.before ≡ out.old.before }
+    ensures adds { OnOk result (out.new.tokens
+        ≡ out.old.tokens ++ tokens_of (found_data reference.now)) }
 {
-    let name = reference_name(reference.nature.kind());
-    let value = reference_json(alloc, reference)?;
-    json!(in alloc; {name: value})
+    begin_with(out, reference_name(reference.nature.kind()))?;
+    write_reference(out, alloc, reference)?;
+    out.end_object()
 }
 
-/// Builds the JSON of the reference of an entity that was put or deleted, with the notices.
-fn changed_json(
+// Writes the reference of an entity that was put or deleted, with the notices.
+fn write_changed(
+    out: &mut Writer,
     alloc: Global,
     reference: &Reference,
     notices: &Notices,
-) -> Result<Value, AllocError>
-    ensures { IfOk result (λ v. view v ≡ changed_data reference.now notices.now) }
+) -> Result<(), AllocError>
+    ensures kept { out.new.before ≡ out.old.before }
+    ensures adds { OnOk result (out.new.tokens
+        ≡ out.old.tokens ++ tokens_of (changed_data reference.now notices.now)) }
 {
-    let name = reference_name(reference.nature.kind());
-    let value = reference_json(alloc, reference)?;
-    let subscribers = subscribers_json(alloc, notices)?;
-    json!(in alloc; {name: value, "subscribers": subscribers})
+    begin_with(out, reference_name(reference.nature.kind()))?;
+    write_reference(out, alloc, reference)?;
+    write_key(out, "subscribers")?;
+    write_subscribers(out, alloc, notices)?;
+    out.end_object()
 }
 
-/// Builds the JSON of the references that a query for entities finds.
-fn listed_json(alloc: Global, kind: Kind, references: &References) -> Result<Value, AllocError>
-    ensures { IfOk result (λ v. view v ≡ listed_data kind references.now) }
+// Writes the references that a query for entities finds.
+fn write_listed(
+    out: &mut Writer,
+    alloc: Global,
+    kind: Kind,
+    references: &References,
+) -> Result<(), AllocError>
+    ensures kept { out.new.before ≡ out.old.before }
+    ensures adds { OnOk result (out.new.tokens
+        ≡ out.old.tokens ++ tokens_of (listed_data kind references.now)) }
 {
-    let name = references_name(kind);
-    let values = references_json(alloc, references)?;
-    json!(in alloc; {name: values})
+    begin_with(out, references_name(kind))?;
+    write_references(out, alloc, references)?;
+    out.end_object()
 }
 
-/// Builds the JSON of a subscription that was put, with the references of what it is for and meets.
-fn sub_stored_json(
+// Writes a subscription that was put, with the references of what it is for and meets.
+fn write_sub_stored(
+    out: &mut Writer,
     alloc: Global,
     sub: &SubView,
     intents: &References,
     constraints: &References,
-) -> Result<Value, AllocError>
-    ensures { IfOk result (λ v. view v ≡ sub_stored_data sub.now intents.now constraints.now) }
+) -> Result<(), AllocError>
+    ensures kept { out.new.before ≡ out.old.before }
+    ensures adds { OnOk result (out.new.tokens
+        ≡ out.old.tokens ++ tokens_of (sub_stored_data sub.now intents.now constraints.now)) }
 {
-    let constraints = references_json(alloc, constraints)?;
-    let intents = references_json(alloc, intents)?;
-    let sub = sub_json(alloc, sub)?;
-    json!(in alloc; {
-        "constraint_references": constraints,
-        "operational_intent_references": intents,
-        "subscription": sub,
-    })
+    begin_with(out, "constraint_references")?;
+    write_references(out, alloc, constraints)?;
+    write_key(out, "operational_intent_references")?;
+    write_references(out, alloc, intents)?;
+    write_key(out, "subscription")?;
+    write_sub(out, alloc, sub)?;
+    out.end_object()
 }
 
-/// Builds the JSON of a subscription.
-fn sub_found_json(alloc: Global, sub: &SubView) -> Result<Value, AllocError>
-    ensures { IfOk result (λ v. view v ≡ sub_found_data sub.now) }
+// Writes a subscription.
+fn write_sub_found(out: &mut Writer, alloc: Global, sub: &SubView) -> Result<(), AllocError>
+    ensures kept { out.new.before ≡ out.old.before }
+    ensures adds { OnOk result (out.new.tokens
+        ≡ out.old.tokens ++ tokens_of (sub_found_data sub.now)) }
 {
-    let sub = sub_json(alloc, sub)?;
-    json!(in alloc; {"subscription": sub})
+    begin_with(out, "subscription")?;
+    write_sub(out, alloc, sub)?;
+    out.end_object()
 }
 
-/// Builds the JSON of the subscriptions that a query finds.
-fn sub_listed_json(alloc: Global, subs: &SubViews) -> Result<Value, AllocError>
-    ensures { IfOk result (λ v. view v ≡ sub_listed_data subs.now) }
+// Writes the subscriptions that a query finds.
+fn write_sub_listed(out: &mut Writer, alloc: Global, subs: &SubViews) -> Result<(), AllocError>
+    ensures kept { out.new.before ≡ out.old.before }
+    ensures adds { OnOk result (out.new.tokens
+        ≡ out.old.tokens ++ tokens_of (sub_listed_data subs.now)) }
 {
-    let subs = subs_json(alloc, subs)?;
-    json!(in alloc; {"subscriptions": subs})
+    begin_with(out, "subscriptions")?;
+    write_subs(out, alloc, subs)?;
+    out.end_object()
 }
 
-fn answer_json(alloc: Global, answer: &Answer) -> Result<Value, AllocError>
-    ensures { IfOk result (λ v. view v ≡ answer_data answer.now) }
+fn write_answer(out: &mut Writer, alloc: Global, answer: &Answer) -> Result<(), AllocError>
+    ensures kept { out.new.before ≡ out.old.before }
+    ensures adds { OnOk result (out.new.tokens
+        ≡ out.old.tokens ++ tokens_of (answer_data answer.now)) }
 {
     match answer {
-        Answer::Created(reference, notices) => changed_json(alloc, reference, notices),
-        Answer::Changed(reference, notices) => changed_json(alloc, reference, notices),
-        Answer::Found(reference) => found_json(alloc, reference),
-        Answer::Listed(kind, references) => listed_json(alloc, *kind, references),
+        Answer::Created(reference, notices) => write_changed(out, alloc, reference, notices),
+        Answer::Changed(reference, notices) => write_changed(out, alloc, reference, notices),
+        Answer::Found(reference) => write_found(out, alloc, reference),
+        Answer::Listed(kind, references) => write_listed(out, alloc, *kind, references),
         Answer::Avail(uss, availability, version) => {
-            availability_json(alloc, uss.text(), *availability, version.text())
+            write_availability(out, uss.text(), *availability, version.text())
         }
         Answer::SubStored(sub, intents, constraints) => {
-            sub_stored_json(alloc, sub, intents, constraints)
+            write_sub_stored(out, alloc, sub, intents, constraints)
         }
-        Answer::SubFound(sub) => sub_found_json(alloc, sub),
-        Answer::SubListed(subs) => sub_listed_json(alloc, subs),
+        Answer::SubFound(sub) => write_sub_found(out, alloc, sub),
+        Answer::SubListed(subs) => write_sub_listed(out, alloc, subs),
     }
 }
 
-/// Builds the JSON of a message.
-fn message_json(alloc: Global, words: &str) -> Result<Value, AllocError>
-    ensures { IfOk result (λ v. view v ≡ message_data words.now) }
+fn write_message(out: &mut Writer, words: &str) -> Result<(), AllocError>
+    ensures kept { out.new.before ≡ out.old.before }
+    ensures adds { OnOk result (out.new.tokens
+        ≡ out.old.tokens ++ tokens_of (message_data words.now)) }
 {
-    json!(in alloc; {"message": words})
+    out.begin_object()?;
+    write_text(out, "message", words)?;
+    out.end_object()
 }
 
-/// Builds the JSON of a message with the references that a key lacks.
-fn missing_json(alloc: Global, words: &str, missing: &Missing) -> Result<Value, AllocError>
-    ensures { IfOk result (λ v. view v ≡ missing_data words.now missing.now) }
+// Writes a message with the references that a key lacks.
+fn write_missing(
+    out: &mut Writer,
+    alloc: Global,
+    words: &str,
+    missing: &Missing,
+) -> Result<(), AllocError>
+    ensures kept { out.new.before ≡ out.old.before }
+    ensures adds { OnOk result (out.new.tokens
+        ≡ out.old.tokens ++ tokens_of (missing_data words.now missing.now)) }
 {
-    let constraints = references_json(alloc, &missing.constraints)?;
-    let intents = references_json(alloc, &missing.intents)?;
-    json!(in alloc; {
-        "message": words,
-        "missing_constraints": constraints,
-        "missing_operational_intents": intents,
-    })
+    out.begin_object()?;
+    write_text(out, "message", words)?;
+    write_key(out, "missing_constraints")?;
+    write_references(out, alloc, &missing.constraints)?;
+    write_key(out, "missing_operational_intents")?;
+    write_references(out, alloc, &missing.intents)?;
+    out.end_object()
 }
 
 /// Returns the message of a denial: the number and the name of the rule.
@@ -146,32 +186,34 @@ fn rule_text(alloc: Global, rule: Rule) -> Result<String, AllocError>
     format!(in alloc; "P{number} {name}")
 }
 
-fn denied_json(alloc: Global, rule: Rule, missing: &Missing) -> Result<Value, AllocError>
-    ensures { IfOk result (λ v. view v ≡ denied_data rule missing.now) }
+fn write_denied(
+    out: &mut Writer,
+    alloc: Global,
+    rule: Rule,
+    missing: &Missing,
+) -> Result<(), AllocError>
+    ensures kept { out.new.before ≡ out.old.before }
+    ensures adds { OnOk result (out.new.tokens
+        ≡ out.old.tokens ++ tokens_of (denied_data rule missing.now)) }
 {
     let words = rule_text(alloc, rule)?;
     match rule {
-        Rule::Key => missing_json(alloc, words.as_str(), missing),
-        _ => message_json(alloc, words.as_str()),
+        Rule::Key => write_missing(out, alloc, words.as_str(), missing),
+        _ => write_message(out, words.as_str()),
     }
 }
 
-fn reply_json(alloc: Global, reply: &Reply) -> Result<Value, AllocError>
-    ensures { IfOk result (λ v. view v ≡ reply_data reply.now) }
+fn write_reply(out: &mut Writer, alloc: Global, reply: &Reply) -> Result<(), AllocError>
+    ensures kept { out.new.before ≡ out.old.before }
+    ensures adds { OnOk result (out.new.tokens
+        ≡ out.old.tokens ++ tokens_of (reply_data reply.now)) }
 {
     match reply {
-        Reply::Done(answer) => answer_json(alloc, answer),
-        Reply::Denied(rule, missing) => denied_json(alloc, *rule, missing),
-        Reply::Fault => message_json(alloc, "fault"),
-        Reply::Stopped => message_json(alloc, "stopped"),
+        Reply::Done(answer) => write_answer(out, alloc, answer),
+        Reply::Denied(rule, missing) => write_denied(out, alloc, *rule, missing),
+        Reply::Fault => write_message(out, "fault"),
+        Reply::Stopped => write_message(out, "stopped"),
     }
-}
-
-fn body_text(alloc: Global, reply: &Reply) -> Result<String, AllocError>
-    ensures { IfOk result (λ s. string_bytes s ≡ reply_text reply.now) }
-{
-    let value = reply_json(alloc, reply)?;
-    value.to_string(alloc)
 }
 
 /// Returns the body of the response for a reply.
@@ -181,7 +223,9 @@ fn body_text(alloc: Global, reply: &Reply) -> Result<String, AllocError>
 pub fn reply_text(alloc: Global, reply: &Reply) -> Result<Vec<u8>, AllocError>
     ensures { IfOk result (λ text. text.items ≡ reply_text reply.now) }
 {
-    Ok(body_text(alloc, reply)?.into_bytes())
+    let mut out = Writer::new(Vec::new(alloc));
+    write_reply(&mut out, alloc, reply)?;
+    Ok(out.into_inner())
 }
 
 fn answer_status(answer: &Answer) -> u16

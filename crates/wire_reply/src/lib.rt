@@ -7,3 +7,4 @@ mod naming;
 pub mod reference;
 mod sub_view;
 mod subscribers;
+mod writing;

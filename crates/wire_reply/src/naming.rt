@@ -1,11 +1,14 @@
 //! The subscription that an intent references, as JSON.
-ghost use Rattle.std.specs.Prelude.{◌≡◌, codes, OnOk};
+ghost use Rattle.std.specs.Prelude.{◌≡◌, ◌++◌, codes, OnOk};
 ghost use Rattle.serde_json.specs.Data.{string, put};
 ghost use Rattle.serde_json.specs.View.{members_view};
 ghost use Rattle.wire_body.specs.Naming.{naming_text};
+ghost use Rattle.wire_reply.specs.Tokens.{text_tokens};
 
 use crate::members::put_text;
+use crate::writing::{write_id, write_text};
 use entity_core::entity_id::EntityId;
+use json::Writer;
 use serde_json::{Map, Value};
 use std::alloc::{AllocError, Global};
 
@@ -28,5 +31,21 @@ pub(crate) fn put_naming(
             put_text(members, alloc, "subscription_id", text.as_str())
         }
         None => put_text(members, alloc, "subscription_id", NO_SUBSCRIPTION),
+    }
+}
+
+/// Writes the reference of an intent to a subscription, as a member.
+pub(crate) fn write_naming(
+    out: &mut Writer,
+    alloc: Global,
+    named: Option<EntityId>,
+) -> Result<(), AllocError>
+    ensures kept { out.new.before ≡ out.old.before }
+    ensures adds { OnOk result (out.new.tokens
+        ≡ out.old.tokens ++ text_tokens (codes "subscription_id") (naming_text named)) }
+{
+    match named {
+        Some(id) => write_id(out, alloc, "subscription_id", id),
+        None => write_text(out, "subscription_id", NO_SUBSCRIPTION),
     }
 }

@@ -1,13 +1,16 @@
 //! References of entities, as JSON.
-ghost use Rattle.std.specs.Prelude.{◌≡◌, IfOk, OnOk};
-ghost use Rattle.serde_json.specs.View.{view, members_view};
-ghost use Rattle.wire_reply.specs.Built.{with_ovn, with_nature, reference_data, references_data};
+ghost use Rattle.std.specs.Prelude.{◌≡◌, ◌++◌, OnOk};
+ghost use Rattle.serde_json.specs.View.{members_view};
+ghost use Rattle.wire_reply.specs.Built.{with_nature, reference_data, references_data};
 ghost use Rattle.wire_reply.specs.Reference.{reference_name, references_name};
+ghost use Rattle.wire_reply.specs.Tokens.{nature_tokens, ovn_tokens, tokens_of};
 
-use crate::members::{put_number, put_text};
-use crate::naming::put_naming;
+use crate::members::put_text;
+use crate::naming::{put_naming, write_naming};
+use crate::writing::{write_id, write_number, write_text};
 use entity_core::nature::{Kind, Nature};
 use entity_core::ovn::Ovn;
+use json::Writer;
 use policy_core::reference::{Reference, References};
 use serde_json::{Map, Value};
 use std::alloc::{AllocError, Global};
@@ -33,21 +36,6 @@ pub(crate) fn references_name(kind: Kind) -> &'static str
     }
 }
 
-// Adds the OVN, if the caller may see it.
-fn put_ovn(
-    members: &mut Map<String, Value>,
-    alloc: Global,
-    ovn: &Option<Ovn>,
-) -> Result<(), AllocError>
-    ensures { OnOk result (members_view members.new.entries
-        ≡ with_ovn ovn.now (members_view members.old.entries)) }
-{
-    match ovn {
-        Some(ovn) => put_text(members, alloc, "ovn", ovn.text()),
-        None => Ok(()),
-    }
-}
-
 /// Adds the members that only references of one kind have.
 pub fn put_nature(
     members: &mut Map<String, Value>,
@@ -66,33 +54,66 @@ pub fn put_nature(
     }
 }
 
-/// Builds the JSON of a reference.
-pub(crate) fn reference_json(alloc: Global, reference: &Reference) -> Result<Value, AllocError>
-    ensures { IfOk result (λ v. view v ≡ reference_data reference.now) }
+fn write_ovn(out: &mut Writer, ovn: &Option<Ovn>) -> Result<(), AllocError>
+    ensures kept { out.new.before ≡ out.old.before }
+    ensures adds { OnOk result (out.new.tokens ≡ out.old.tokens ++ ovn_tokens ovn.now) }
 {
-    let id = reference.id.text(alloc)?;
-    let mut members = Map::new(alloc);
-    put_text(&mut members, alloc, "id", id.as_str())?;
-    put_text(&mut members, alloc, "manager", reference.manager.text())?;
-    put_ovn(&mut members, alloc, &reference.ovn)?;
-    put_nature(&mut members, alloc, reference.nature)?;
-    put_number(&mut members, alloc, "time_end", reference.time_end)?;
-    put_number(&mut members, alloc, "time_start", reference.time_start)?;
-    let availability = availability::name_of(reference.availability);
-    put_text(&mut members, alloc, "uss_availability", availability)?;
-    put_text(&mut members, alloc, "uss_base_url", reference.url.text())?;
-    let version = u64::from(reference.version.number());
-    put_number(&mut members, alloc, "version", version)?;
-    Ok(Value::from(members))
+    match ovn {
+        Some(ovn) => write_text(out, "ovn", ovn.text()),
+        None => Ok(()),
+    }
 }
 
-/// Builds the JSON of references, in the same order.
-pub(crate) fn references_json(alloc: Global, references: &References) -> Result<Value, AllocError>
-    ensures { IfOk result (λ v. view v ≡ references_data references.now) }
+fn write_nature(out: &mut Writer, alloc: Global, nature: Nature) -> Result<(), AllocError>
+    ensures kept { out.new.before ≡ out.old.before }
+    ensures adds { OnOk result (out.new.tokens ≡ out.old.tokens ++ nature_tokens nature) }
 {
-    let mut values = Vec::new(alloc);
-    for reference in references.items() {
-        values.push(reference_json(alloc, reference)?)?;
+    match nature {
+        Nature::Intent(state, named) => {
+            write_text(out, "state", state.name())?;
+            write_naming(out, alloc, named)
+        }
+        Nature::Constraint => Ok(()),
     }
-    Ok(Value::from(values))
+}
+
+/// Writes a reference.
+pub(crate) fn write_reference(
+    out: &mut Writer,
+    alloc: Global,
+    reference: &Reference,
+) -> Result<(), AllocError>
+    ensures kept { out.new.before ≡ out.old.before }
+    ensures adds { OnOk result (out.new.tokens
+        ≡ out.old.tokens ++ tokens_of (reference_data reference.now)) }
+{
+    out.begin_object()?;
+    write_id(out, alloc, "id", reference.id)?;
+    write_text(out, "manager", reference.manager.text())?;
+    write_ovn(out, &reference.ovn)?;
+    write_nature(out, alloc, reference.nature)?;
+    write_number(out, "time_end", reference.time_end)?;
+    write_number(out, "time_start", reference.time_start)?;
+    let availability = availability::name_of(reference.availability);
+    write_text(out, "uss_availability", availability)?;
+    write_text(out, "uss_base_url", reference.url.text())?;
+    write_number(out, "version", u64::from(reference.version.number()))?;
+    out.end_object()
+}
+
+/// Writes references, in the same order.
+pub(crate) fn write_references(
+    out: &mut Writer,
+    alloc: Global,
+    references: &References,
+) -> Result<(), AllocError>
+    ensures kept { out.new.before ≡ out.old.before }
+    ensures adds { OnOk result (out.new.tokens
+        ≡ out.old.tokens ++ tokens_of (references_data references.now)) }
+{
+    out.begin_array()?;
+    for reference in references.items() {
+        write_reference(out, alloc, reference)?;
+    }
+    out.end_array()
 }

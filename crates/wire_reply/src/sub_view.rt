@@ -1,77 +1,64 @@
 //! Subscriptions as their managers see them, as JSON.
-ghost use Rattle.std.specs.Prelude.{◌≡◌, IfOk};
-ghost use Rattle.serde_json.specs.View.{view};
+ghost use Rattle.std.specs.Prelude.{◌≡◌, ◌++◌, OnOk};
 ghost use Rattle.wire_reply.specs.Built.{id_data, ids_data, sub_data, subs_data};
+ghost use Rattle.wire_reply.specs.Tokens.{tokens_of};
 
-use crate::members::{put_flag, put_number, put_text};
+use crate::writing::{begin_with, write_flag, write_id, write_number, write_text};
 use entity_core::entity_id::EntityId;
 use entity_core::nature::Kind;
+use json::Writer;
 use policy_core::sub_view::{EntityIds, SubView, SubViews};
-use serde_json::{Map, Value, put};
 use std::alloc::{AllocError, Global};
 
-fn id_json(alloc: Global, id: EntityId) -> Result<Value, AllocError>
-    ensures { IfOk result (λ v. view v ≡ id_data id) }
+fn write_item(out: &mut Writer, alloc: Global, id: EntityId) -> Result<(), AllocError>
+    ensures kept { out.new.before ≡ out.old.before }
+    ensures adds { OnOk result (out.new.tokens ≡ out.old.tokens ++ tokens_of (id_data id)) }
 {
     let text = id.text(alloc)?;
-    Value::try_from_str(alloc, text.as_str())
+    out.string(text.as_str())
 }
 
-// Builds the JSON of ids, in the same order.
-fn ids_json(alloc: Global, ids: &EntityIds) -> Result<Value, AllocError>
-    ensures { IfOk result (λ v. view v ≡ ids_data ids.now) }
+// Writes ids, in the same order.
+fn write_ids(out: &mut Writer, alloc: Global, ids: &EntityIds) -> Result<(), AllocError>
+    ensures kept { out.new.before ≡ out.old.before }
+    ensures adds { OnOk result (out.new.tokens ≡ out.old.tokens ++ tokens_of (ids_data ids.now)) }
 {
-    let mut values = Vec::new(alloc);
+    out.begin_array()?;
     for id in ids.items() {
-        values.push(id_json(alloc, *id)?)?;
+        write_item(out, alloc, *id)?;
     }
-    Ok(Value::from(values))
+    out.end_array()
 }
 
-/// Builds the JSON of a subscription. It is never implicit.
-pub(crate) fn sub_json(alloc: Global, sub: &SubView) -> Result<Value, AllocError>
-    ensures { IfOk result (λ v. view v ≡ sub_data sub.now) }
+/// Writes a subscription. It is never implicit.
+pub(crate) fn write_sub(out: &mut Writer, alloc: Global, sub: &SubView) -> Result<(), AllocError>
+    ensures kept { out.new.before ≡ out.old.before }
+    ensures adds { OnOk result (out.new.tokens ≡ out.old.tokens ++ tokens_of (sub_data sub.now)) }
 {
-    let dependents = ids_json(alloc, &sub.dependents)?;
-    let id = id_json(alloc, sub.id)?;
-    let mut members = Map::new(alloc);
-    put(
-        &mut members,
-        alloc,
-        "dependent_operational_intents",
-        dependents,
-    )?;
-    put(&mut members, alloc, "id", id)?;
-    put_flag(&mut members, alloc, "implicit_subscription", false)?;
-    put_number(
-        &mut members,
-        alloc,
-        "notification_index",
-        sub.index.number(),
-    )?;
+    begin_with(out, "dependent_operational_intents")?;
+    write_ids(out, alloc, &sub.dependents)?;
+    write_id(out, alloc, "id", sub.id)?;
+    write_flag(out, "implicit_subscription", false)?;
+    write_number(out, "notification_index", sub.index.number())?;
     let constraints = sub.interest.wants(Kind::Constraint);
-    put_flag(&mut members, alloc, "notify_for_constraints", constraints)?;
+    write_flag(out, "notify_for_constraints", constraints)?;
     let intents = sub.interest.wants(Kind::Intent);
-    put_flag(
-        &mut members,
-        alloc,
-        "notify_for_operational_intents",
-        intents,
-    )?;
-    put_number(&mut members, alloc, "time_end", sub.time_end)?;
-    put_number(&mut members, alloc, "time_start", sub.time_start)?;
-    put_text(&mut members, alloc, "uss_base_url", sub.url.text())?;
-    put_text(&mut members, alloc, "version", sub.version.text())?;
-    Ok(Value::from(members))
+    write_flag(out, "notify_for_operational_intents", intents)?;
+    write_number(out, "time_end", sub.time_end)?;
+    write_number(out, "time_start", sub.time_start)?;
+    write_text(out, "uss_base_url", sub.url.text())?;
+    write_text(out, "version", sub.version.text())?;
+    out.end_object()
 }
 
-/// Builds the JSON of subscriptions, in the same order.
-pub(crate) fn subs_json(alloc: Global, subs: &SubViews) -> Result<Value, AllocError>
-    ensures { IfOk result (λ v. view v ≡ subs_data subs.now) }
+/// Writes subscriptions, in the same order.
+pub(crate) fn write_subs(out: &mut Writer, alloc: Global, subs: &SubViews) -> Result<(), AllocError>
+    ensures kept { out.new.before ≡ out.old.before }
+    ensures adds { OnOk result (out.new.tokens ≡ out.old.tokens ++ tokens_of (subs_data subs.now)) }
 {
-    let mut values = Vec::new(alloc);
+    out.begin_array()?;
     for sub in subs.items() {
-        values.push(sub_json(alloc, sub)?)?;
+        write_sub(out, alloc, sub)?;
     }
-    Ok(Value::from(values))
+    out.end_array()
 }

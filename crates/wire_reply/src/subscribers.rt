@@ -1,48 +1,62 @@
 //! The subscribers to notify of a change, as JSON.
-ghost use Rattle.std.specs.Prelude.{◌≡◌, IfOk};
-ghost use Rattle.serde_json.specs.View.{view};
+ghost use Rattle.std.specs.Prelude.{◌≡◌, ◌++◌, OnOk};
 ghost use Rattle.wire_reply.specs.Built.{state_data, states_data, notify_data, subscribers_data};
+ghost use Rattle.wire_reply.specs.Tokens.{tokens_of};
 
+use crate::writing::{begin_with, write_id, write_number, write_text};
 use entity_core::entity_id::EntityId;
-use serde_json::{Value, json};
+use json::Writer;
 use service_notify::notice::{Notices, Notify, SubIndexes};
 use std::alloc::{AllocError, Global};
 
-fn state_json(alloc: Global, state: (EntityId, u64)) -> Result<Value, AllocError>
-    ensures { IfOk result (λ v. view v ≡ state_data state) }
+fn write_state(out: &mut Writer, alloc: Global, state: (EntityId, u64)) -> Result<(), AllocError>
+    ensures kept { out.new.before ≡ out.old.before }
+    ensures adds { OnOk result (out.new.tokens ≡ out.old.tokens ++ tokens_of (state_data state)) }
 {
     let (id, index) = state;
-    let id = id.text(alloc)?;
-    let id = id.as_str();
-    json!(in alloc; {"notification_index": index, "subscription_id": id})
+    out.begin_object()?;
+    write_number(out, "notification_index", index)?;
+    write_id(out, alloc, "subscription_id", id)?;
+    out.end_object()
 }
 
-// Builds the JSON of notified subscriptions, in the same order.
-fn states_json(alloc: Global, states: &SubIndexes) -> Result<Value, AllocError>
-    ensures { IfOk result (λ v. view v ≡ states_data states.now) }
+// Writes notified subscriptions, in the same order.
+fn write_states(out: &mut Writer, alloc: Global, states: &SubIndexes) -> Result<(), AllocError>
+    ensures kept { out.new.before ≡ out.old.before }
+    ensures adds { OnOk result (out.new.tokens
+        ≡ out.old.tokens ++ tokens_of (states_data states.now)) }
 {
-    let mut values = Vec::new(alloc);
+    out.begin_array()?;
     for state in states.items() {
-        values.push(state_json(alloc, *state)?)?;
+        write_state(out, alloc, *state)?;
     }
-    Ok(Value::from(values))
+    out.end_array()
 }
 
-fn notify_json(alloc: Global, notify: &Notify) -> Result<Value, AllocError>
-    ensures { IfOk result (λ v. view v ≡ notify_data notify.now) }
+fn write_notify(out: &mut Writer, alloc: Global, notify: &Notify) -> Result<(), AllocError>
+    ensures kept { out.new.before ≡ out.old.before }
+    ensures adds { OnOk result (out.new.tokens
+        ≡ out.old.tokens ++ tokens_of (notify_data notify.now)) }
 {
-    let states = states_json(alloc, &notify.states)?;
-    let url = notify.url.text();
-    json!(in alloc; {"subscriptions": states, "uss_base_url": url})
+    begin_with(out, "subscriptions")?;
+    write_states(out, alloc, &notify.states)?;
+    write_text(out, "uss_base_url", notify.url.text())?;
+    out.end_object()
 }
 
-/// Builds the JSON of all notices, in the same order.
-pub(crate) fn subscribers_json(alloc: Global, notices: &Notices) -> Result<Value, AllocError>
-    ensures { IfOk result (λ v. view v ≡ subscribers_data notices.now) }
+/// Writes all notices, in the same order.
+pub(crate) fn write_subscribers(
+    out: &mut Writer,
+    alloc: Global,
+    notices: &Notices,
+) -> Result<(), AllocError>
+    ensures kept { out.new.before ≡ out.old.before }
+    ensures adds { OnOk result (out.new.tokens
+        ≡ out.old.tokens ++ tokens_of (subscribers_data notices.now)) }
 {
-    let mut values = Vec::new(alloc);
+    out.begin_array()?;
     for notify in notices.items() {
-        values.push(notify_json(alloc, notify)?)?;
+        write_notify(out, alloc, notify)?;
     }
-    Ok(Value::from(values))
+    out.end_array()
 }
