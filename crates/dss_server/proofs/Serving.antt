@@ -108,11 +108,11 @@ module _ {S M : Type 0} (g : spaces.Ghosts S) (k : settles.Ghosts S) (m : moment
   serves_nothing old new clock clock' h = record {
     all = [];
     batches = [];
-    told = h.1;
+    told = h.1.0;
     requests = All-nil (IsAskedBy callers);
     calls = refl;
     made = h.0;
-    clock_told = h.2;
+    clock_told = h.1.1;
     moments = tt;
   }
 

@@ -3,6 +3,7 @@
 #![tactic(auto)]
 
 mod acceptance;
+mod client_set;
 mod deferred_clients;
 mod event_loop;
 mod response_record;

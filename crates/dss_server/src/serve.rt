@@ -4,6 +4,7 @@ ghost use Rattle.dss_server.specs.Serve.{ServesAll};
 
 use crate::event_loop::EventLoop;
 use admin_http::build::BuildInfo;
+use server_base::backups::MakeBackups;
 use server_base::limits::Limits;
 use server_base::server_log::ServerLog;
 use server_base::sockets::Sockets;
@@ -34,14 +35,14 @@ fn in_force<'a>(first: &'a TokenTable, newer: &'a Option<TokenTable>) -> &'a Tok
 /// accepted and the last of them is closed. Without such a number it runs on.
 ///
 /// Calls are executed one after the other, in one order for all clients. Each is made by a request
-/// that bears the token of its caller. Each client that has something to do has a turn before any
-/// client has its second.
+/// that bears the token of its caller. Clients have turns in the order of the fair queue, each at
+/// most one in an iteration.
 ///
-/// Calls are made in batches, of one turn of each client. The changes of a batch are committed at
-/// its end, all or none. No response to a change, nor one that reflects it, is sent before that. If
-/// the commit fails, each of those responses is replaced by a fault: several clients then get
-/// status 500, or 503 if the service has stopped. When the function returns, every batch has ended
-/// in this way.
+/// Calls are made in batches. The changes of a batch are committed at its end, all or none. No
+/// response to a change, nor one that reflects it, is sent before that. If the commit fails, each of
+/// those responses is replaced by a fault: several clients then get status 500, or 503 if the
+/// service has stopped. When the function returns, every batch has ended in this way. The contracts
+/// of `ClientConnection` state this for each client.
 ///
 /// Each call is made at a time of the clock, which is read once for each request. A request is not
 /// executed only if the clock fails or memory runs out.
@@ -54,9 +55,10 @@ fn in_force<'a>(first: &'a TokenTable, newer: &'a Option<TokenTable>) -> &'a Tok
 /// intents, constraints and subscriptions, a chunk at a time, between two batches. Without a
 /// retention nothing is purged.
 ///
-/// With a retention or an admin port the clock is read each second. While it has jumped against the monotonic clock nothing is purged,
-/// nor after a start that is later than the retention and a day after `changed`, the last change of
-/// the database, until the clock returns or an operator confirms it.
+/// With a retention or an admin port the clock is read each second. Nothing is purged while it has
+/// jumped against the monotonic clock, nor after a start that is later than the retention and a day
+/// after `changed`, the last change of the database. This ends when the clock returns or an operator
+/// confirms it.
 ///
 /// With a build there is an admin port, whose connections are answered in the same iterations. An
 /// admin request is no call of the service. It reads the service by `&`, so the service is the same
@@ -69,6 +71,7 @@ pub fn serve_clients<
     S: PurgeEnded + SnapshotSource + Drop,
     M: Moments,
     N: Sockets + Drop,
+    B: MakeBackups + Drop,
     T: TokenSource + Drop,
     J: ServerLog,
 >(
@@ -78,7 +81,8 @@ pub fn serve_clients<
     mut watch: TokenWatch<T>,
     service: &mut Service<S>,
     moments: &mut M,
-    sockets: N,
+    sockets: &mut N,
+    backups: Option<B>,
     limits: Limits,
     keep: Option<u64>,
     changed: Option<u64>,
@@ -92,27 +96,27 @@ pub fn serve_clients<
     let mut newer = None;
     let is_counted = limits.count.is_some();
     let clock = ClockWatch::new(keep, changed, keep.is_some() || operated.is_some());
-    let mut port = EventLoop::new(alloc, sockets, limits, operated.is_some(), clock)?;
-    let mut now = port.time()?;
+    let mut event_loop = EventLoop::<N, B>::new(alloc, limits, operated.is_some(), backups, clock)?;
+    let mut now = sockets.monotonic_time()?;
     for _ in 0..u64::MAX {
-        if is_counted && port.is_done() {
+        if is_counted && event_loop.is_done() {
             return Ok(());
         }
-        port.wait(now)?;
-        now = port.time()?;
-        port.accept(now, journal)?;
+        event_loop.wait(sockets, now)?;
+        now = sockets.monotonic_time()?;
+        event_loop.accept(sockets, now, journal)?;
         newer = watch.look(alloc, tokens, now, journal).or(newer);
-        port.show_tokens(watch.tokens());
+        event_loop.show_tokens(watch.tokens());
         let context = RequestContext {
             alloc,
             routes,
             tokens: in_force(tokens, &newer),
         };
-        port.run_once(context, service, moments, now, journal);
-        port.flush_log(journal);
-        port.purge(keep, service, moments, now, journal);
-        port.look(now, journal);
-        if port.serve_operators(operated, service, now) {
+        event_loop.run_once(sockets, context, service, moments, now, journal);
+        event_loop.flush_log(journal);
+        event_loop.purge(keep, service, moments, now, journal);
+        event_loop.look(sockets, now, journal);
+        if event_loop.serve_operators(sockets, operated, service, now) {
             return Ok(());
         }
     }

@@ -8,7 +8,7 @@ use admin_http::backup::{BackupResult, name_in};
 use admin_http::request::{RequestParse, parse_admin_request};
 use server_base::limits::{ADMIN_CHUNK, ADMIN_REQUEST_BYTES, LAST_CHUNKS, OPERATOR_STEPS};
 use server_base::phase::Phase;
-use server_base::sockets::{Socket, SocketEvent};
+use server_base::sockets::{AdminSocket, SocketEvent};
 use std::alloc::{AllocError, Global};
 use std::io::ErrorKind;
 use std::mem;
@@ -49,7 +49,7 @@ pub(crate) struct AdminConnection<T> {
     waits: bool,
 }
 
-impl<T: Socket> AdminConnection<T> {
+impl<T: AdminSocket> AdminConnection<T> {
     /// Creates a connection that has received nothing.
     pub(crate) fn new(alloc: Global, socket: T, now: Duration) -> AdminConnection<T> {
         AdminConnection {

@@ -1,13 +1,16 @@
 //! All connections to the admin port.
+ghost use Rattle.std.specs.Prelude.{◌≡◌};
+
 use crate::admin_connection::{AdminConnection, AdminTurnOutcome};
 use crate::admin_context::AdminContext;
 use crate::backup_job::BackupJob;
 use admin_http::backup::BackupResult;
+use server_base::backups::MakeBackups;
 use server_base::limits::{
     ADMIN_IDLE_GRACE, ADMIN_SLOTS, FULL, LOOKS, LOOKS_SOON, MAX_ADMIN_CONNECTIONS,
     MAX_IDLE_ADMIN_CONNECTIONS,
 };
-use server_base::sockets::{AcceptFault, EventSource, SocketEvent, Sockets};
+use server_base::sockets::{AcceptFault, SocketEvent, Sockets};
 use slab::Slab;
 use std::alloc::{AllocError, Global};
 use std::mem;
@@ -15,9 +18,9 @@ use std::time::Duration;
 
 /// All connections to the admin port.
 #[derive(Drop)]
-pub struct AdminConnections<N: Sockets> {
+pub struct AdminConnections<N: Sockets, B> {
     alloc: Global,
-    all: Slab<AdminConnection<N::Client>>,
+    all: Slab<AdminConnection<N::Admin>>,
     // True if one may wait to be accepted, and the time until which the system has no room for it.
     waiting: bool,
     full_until: Duration,
@@ -26,12 +29,19 @@ pub struct AdminConnections<N: Sockets> {
     stops: bool,
     // True if one confirmed the clock, until that is taken.
     confirms: bool,
+    // The maker of backups, if there is a backup directory, and the backup in progress.
+    backups: Option<B>,
     backing_up: BackupJob,
 }
 
-impl<N: Sockets + Drop> AdminConnections<N> {
-    /// Creates an empty set. Connections may come only if there is an admin port.
-    pub fn new(alloc: Global, may_come: bool) -> Result<AdminConnections<N>, AllocError> {
+impl<N: Sockets + Drop, B: MakeBackups + Drop> AdminConnections<N, B> {
+    /// Creates an empty set. Connections may come only if there is an admin port, and backups are
+    /// made only if there is a maker of backups.
+    pub fn new(
+        alloc: Global,
+        may_come: bool,
+        backups: Option<B>,
+    ) -> Result<AdminConnections<N, B>, AllocError> {
         let room = if may_come { ADMIN_SLOTS } else { 0 };
         Ok(AdminConnections {
             alloc,
@@ -41,6 +51,7 @@ impl<N: Sockets + Drop> AdminConnections<N> {
             again: false,
             stops: false,
             confirms: false,
+            backups,
             backing_up: BackupJob::new(),
         })
     }
@@ -120,12 +131,11 @@ impl<N: Sockets + Drop> AdminConnections<N> {
     }
 
     // Adds a connection. Closes it if it cannot be watched or stored.
-    fn take_in(&mut self, sockets: &mut N, mut socket: N::Client, now: Duration) {
+    fn take_in(&mut self, sockets: &mut N, mut socket: N::Admin, now: Duration)
+        ensures { N.history sockets.new ≡ N.history sockets.old }
+    {
         let key = self.all.vacant_key();
-        if sockets
-            .watch(&mut socket, EventSource::Operator(key))
-            .is_ok()
-        {
+        if sockets.watch_admin(&mut socket, key).is_ok() {
             let _ = self
                 .all
                 .insert(AdminConnection::new(self.alloc, socket, now));
@@ -157,10 +167,17 @@ impl<N: Sockets + Drop> AdminConnections<N> {
         }
     }
 
+    /// Returns true if there is a maker of backups.
+    pub fn has_backups(&self) -> bool {
+        self.backups.is_some()
+    }
+
     /// Accepts waiting connections, as far as there is room: one more than the maximum, so that
     /// stalled connections do not keep a new one out. Idle connections make room for them. Returns
     /// true if the system had no room.
-    pub fn accept(&mut self, sockets: &mut N, now: Duration) -> bool {
+    pub fn accept(&mut self, sockets: &mut N, now: Duration) -> bool
+        ensures { N.history sockets.new ≡ N.history sockets.old }
+    {
         for _ in 0..ADMIN_SLOTS {
             if self.waiting && self.all.len() > MAX_ADMIN_CONNECTIONS {
                 self.close_oldest_idle(0, now);
@@ -168,7 +185,7 @@ impl<N: Sockets + Drop> AdminConnections<N> {
             if !self.has_room() || now < self.full_until {
                 return false;
             }
-            match sockets.accept_operator() {
+            match sockets.accept_admin() {
                 Ok(socket) => {
                     self.take_in(sockets, socket, now);
                     self.close_oldest_idle(MAX_IDLE_ADMIN_CONNECTIONS, now);
@@ -201,27 +218,29 @@ impl<N: Sockets + Drop> AdminConnections<N> {
     }
 
     /// Runs the turn of each connection, and one step of the requested backup.
-    pub fn run_once(&mut self, admin_context: AdminContext<'_>, sockets: &mut N, now: Duration) {
+    pub fn run_once(&mut self, admin_context: AdminContext<'_>, now: Duration) {
         self.again = false;
         for key in 0..ADMIN_SLOTS {
             self.turn(key, admin_context, now);
-            self.begin_wanted(key, sockets, now);
+            self.begin_wanted(key, now);
         }
-        if let Some((key, backup)) = self.backing_up.go_on(sockets.backups()) {
+        if let Some((key, backup)) = self.backing_up.go_on(self.backups.as_mut()) {
             self.tell(key, backup, now);
         }
         self.again = self.again || self.backing_up.is_running();
     }
 
     // Begins the backup that a connection requested.
-    fn begin_wanted(&mut self, key: usize, sockets: &mut N, now: Duration) {
+    fn begin_wanted(&mut self, key: usize, now: Duration) {
         let Some(operator) = self.all.get_mut(key) else {
             return;
         };
         let Some(name) = operator.take_requested_backup() else {
             return;
         };
-        let told = self.backing_up.begin(key, name.as_str(), sockets.backups());
+        let told = self
+            .backing_up
+            .begin(key, name.as_str(), self.backups.as_mut());
         if let Some(backup) = told {
             self.tell(key, backup, now);
         }
@@ -237,7 +256,7 @@ impl<N: Sockets + Drop> AdminConnections<N> {
     }
 
     /// Aborts the backup in progress, because the service ends.
-    pub fn give_up(&mut self, sockets: &mut N) {
-        self.backing_up.give_up(sockets.backups());
+    pub fn abort(&mut self) {
+        self.backing_up.abort(self.backups.as_mut());
     }
 }

@@ -61,11 +61,11 @@ impl BackupJob {
     }
 
     /// Aborts the backup in progress, because the service ends.
-    pub(crate) fn give_up<B: MakeBackups>(&mut self, backups: Option<&mut B>) {
+    pub(crate) fn abort<B: MakeBackups>(&mut self, backups: Option<&mut B>) {
         if self.requested_by.is_some()
             && let Some(backups) = backups
         {
-            backups.give_up();
+            backups.abort();
         }
         self.requested_by = None;
     }

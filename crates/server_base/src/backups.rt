@@ -21,5 +21,5 @@ pub trait MakeBackups {
     fn go_on(&mut self) -> Progress;
 
     /// Aborts the backup in progress and removes its partial file.
-    fn give_up(&mut self);
+    fn abort(&mut self);
 }

@@ -1,6 +1,6 @@
 //! The log of requests, and of faults of clients, of the token file and of the store.
 use crate::phase::Phase;
-use std::net::SocketAddrV4;
+use std::net::SocketAddr;
 use std::time::Duration;
 use token_conf::conf_fault::ConfFault;
 use wire_http::{RequestInfo, StreamFault};
@@ -64,7 +64,7 @@ pub struct LoggedRequest<'a> {
 #[derive(Clone, Copy, Debug)]
 pub struct AbortedConnection {
     /// The address and port of its client, if the system returned them.
-    pub client: Option<SocketAddrV4>,
+    pub client: Option<SocketAddr>,
     /// Its number. Connections count up from 1 since the start.
     pub connection: u64,
     /// The phase in which it was aborted.
@@ -76,7 +76,7 @@ pub struct AbortedConnection {
 /// No such fault ends the service.
 pub trait ServerLog {
     /// Logs a connection that was aborted for that reason.
-    fn connection_failed(&mut self, fault: StreamFault, given_up: AbortedConnection);
+    fn connection_failed(&mut self, fault: StreamFault, aborted: AbortedConnection);
 
     /// Logs a changed token file that was rejected for that reason, with the bytes that were last
     /// checked: those of the file, unless it could not be read or memory ran out. The tokens before

@@ -1,2 +1,7 @@
+pub mod Accounts
 mod Asked
+pub mod CallOrders
+pub mod Events
 mod Queues
+pub mod States
+pub mod Steps

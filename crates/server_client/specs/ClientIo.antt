@@ -1,44 +1,22 @@
--- How bytes move between a client's socket and its connection.
-use Rattle.std.specs.Prelude.{◌≡◌, ◌<◌, ℕ, Bool, true, false, List, [], ◌++◌, length, take, drop, Option, None, Result, Ok, Err, OnOk, OnErr}
-use Rattle.std.specs.Io.KnownBytes.{Appends, Consumes, IsAtEnd, Keeps}
+-- How the bytes of a client move, and which state the client is in.
+use Rattle.std.specs.Prelude.{◌≡◌, ◌<◌, ◌≤◌, ℕ, Bool, true, false, List, [], ◌∷◌, ◌++◌, drop, length, take, Option, None, Result, Ok, Err, OnOk, OnErr}
 use Rattle.service_calls.specs.Service.{reply_of}
 use Rattle.service_step.specs.declared.call_fault.CallFault.TheVariants as halts
 use Rattle.service_step.specs.declared.reply.Reply.{Reply}
 use Rattle.space_core.specs.declared.space.SpaceFault.{SpaceFault}
 use Rattle.wire_http.specs.declared.connection.Connection.{Connection}
 use Rattle.wire_http.specs.Connection.{has_ended, buffered_of, is_done, left_of, output_of, ready_of, slot_of}
-use Rattle.wire_http.specs.Count.{max_requests}
 use Rattle.wire_http.specs.DeferredResponse.{text_at}
+use Rattle.server_base.specs.History.{Extends, HistoryEvent, Received, ReceivedEnd, Sent}
+use Rattle.server_client.specs.declared.client_io.ClientIo.{ClientIo}
 use Rattle.server_client.specs.declared.client_io.ReadOutcome.{ReadOutcome}
 use Rattle.server_client.specs.declared.client_io.ReadOutcome.TheVariants as came
-use Rattle.server_client.specs.declared.client_io.ClientIo.{ClientIo}
 use Rattle.server_client.specs.declared.client_io.WriteOutcome.{WriteOutcome}
 use Rattle.server_client.specs.declared.client_io.WriteOutcome.TheVariants as went
-
-abbrev pub socket_of : {T : Type 0} → ClientIo T → T
-socket_of link = link.socket
+use Rattle.server_client.specs.ClientState.{ClientState, state_of}
 
 abbrev pub connection_of : {T : Type 0} → ClientIo T → Connection
-connection_of link = link.connection
-
--- Holds if no bytes have arrived and no request was made.
-pub record IsFresh (c : Connection) : Type 0 where
-  pub held : buffered_of c ≡ []
-  pub output : output_of c ≡ []
-  pub slot : slot_of c ≡ None
-  pub left : left_of c ≡ max_requests
-  pub ended : has_ended c ≡ false
-  pub done : is_done c ≡ false
-
--- Holds if these bytes arrived and are buffered behind the earlier ones.
-pub record TakesIn (old new : Connection) (bytes : List ℕ) (ended : Bool) : Type 0 where
-  pub held : buffered_of new ≡ buffered_of old ++ bytes
-  pub output : output_of new ≡ output_of old
-  pub ready : ready_of new ≡ ready_of old
-  pub slot : slot_of new ≡ slot_of old
-  pub left : left_of new ≡ left_of old
-  pub ended_is : has_ended new ≡ ended
-  pub done : is_done new ≡ is_done old
+connection_of io = io.connection
 
 -- Holds if all output may be sent and no byte of it changed.
 pub record ReleasesDeferred (old new : Connection) : Type 0 where
@@ -64,6 +42,10 @@ pub record TellsInstead {E : Type 0} (reply : Reply) (old new : Connection)
   pub dropped : OnErr told (output_of new ≡ ready_of old)
   pub ready : ready_of new ≡ output_of new
   pub slot : slot_of new ≡ None
+  pub left : left_of new ≡ left_of old
+  pub ended : has_ended new ≡ has_ended old
+  pub done : OnOk told (is_done new ≡ is_done old)
+  pub aborts : OnErr told (is_done new ≡ true)
 
 -- How a deferred response is sent once its batch ends: unchanged if the changes were committed,
 -- otherwise replaced by the reply to that fault.
@@ -72,40 +54,23 @@ abbrev pub IsAnsweredBy : {E : Type 0} → Result (Unit {0}) SpaceFault → Conn
 IsAnsweredBy (Ok x) old new told = ReleasesDeferred old new
 IsAnsweredBy (Err fault) old new told = TellsInstead (reply_of (halts.Space fault)) old new told
 
-module _ {T : Type 0} (coming gone : T → Option (List ℕ)) (old new : ClientIo T) where
-  -- Holds if the socket returned these bytes and no other byte of it is lost.
-  pub record Moves (bytes : List ℕ) (ended : Bool) : Type 0 where
-    pub consumed : Consumes (coming (socket_of old)) (coming (socket_of new)) bytes
-    pub kept : Keeps (gone (socket_of old)) (gone (socket_of new))
-    pub taken : TakesIn (connection_of old) (connection_of new) bytes ended
+-- The state of the client, whose name its socket has.
+abbrev pub client_state : {T : Type 0} → (name : T → ℕ) → ClientIo T → ClientState
+client_state name io =
+    state_of (name io.socket) io.batch io.aborted io.connection
 
+module _ (l l' : ClientState) (past now : Option (List HistoryEvent)) where
   -- What a read did: each byte that the socket returned is buffered, in order.
-  abbrev pub Receives : ReadOutcome → Type 0
-  Receives (came.Chunk n) = (bytes : List ℕ) × (length bytes ≡ n)
-      × Moves bytes (has_ended (connection_of old))
-  Receives came.End = Moves [] true × IsAtEnd (coming (socket_of new))
-  Receives came.Nothing = (connection_of new ≡ connection_of old)
-      × Keeps (coming (socket_of old)) (coming (socket_of new))
-      × Keeps (gone (socket_of old)) (gone (socket_of new))
+  abbrev pub Reads : ReadOutcome → Type 0
+  Reads (came.Chunk n) = (bytes : List ℕ) × (length bytes ≡ n)
+      × (l' ≡ record l { held = l.held ++ bytes }) × Extends past now (Received l.name bytes ∷ [])
+  Reads came.End = (l' ≡ record l { ended = true }) × Extends past now (ReceivedEnd l.name ∷ [])
+  Reads came.Nothing = (l' ≡ l) × (now ≡ past)
 
-  -- Holds if the socket took the first bytes that may be sent, and the rest is still to be sent. No
-  -- byte of a deferred response is among them.
-  pub record HandsOver (count : ℕ) : Type 0 where
-    pub some : 0 < count
-    pub sent : Appends (gone (socket_of old)) (gone (socket_of new))
-        (take count (ready_of (connection_of old)))
-    pub kept : Keeps (coming (socket_of old)) (coming (socket_of new))
-    pub output : output_of (connection_of new) ≡ drop count (output_of (connection_of old))
-    pub ready : ready_of (connection_of new) ≡ drop count (ready_of (connection_of old))
-    pub slot : slot_of (connection_of new) ≡ slot_of (connection_of old)
-    pub held : buffered_of (connection_of new) ≡ buffered_of (connection_of old)
-    pub left : left_of (connection_of new) ≡ left_of (connection_of old)
-    pub ended : has_ended (connection_of new) ≡ has_ended (connection_of old)
-    pub done : is_done (connection_of new) ≡ is_done (connection_of old)
-
-  -- What a write did.
-  abbrev pub Sends : WriteOutcome → Type 0
-  Sends went.Some = (count : ℕ) × HandsOver count
-  Sends went.Nothing = (connection_of new ≡ connection_of old)
-      × Keeps (gone (socket_of old)) (gone (socket_of new))
-      × Keeps (coming (socket_of old)) (coming (socket_of new))
+  -- What a write did: the socket took some of the first bytes that may be sent, and the rest is
+  -- still to be sent. No byte of a deferred response is among them.
+  abbrev pub Writes : WriteOutcome → Type 0
+  Writes went.Some = (count : ℕ) × (0 < count) × (count ≤ length l.ready)
+      × (l' ≡ record l { output = drop count l.output; ready = drop count l.ready })
+      × Extends past now (Sent l.name (take count l.ready) ∷ [])
+  Writes went.Nothing = (l' ≡ l) × (now ≡ past)

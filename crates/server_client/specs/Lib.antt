@@ -1,2 +1,8 @@
+pub mod Account
+pub mod CallOrder
+pub mod ClientConnection
+pub mod ClientEvents
 pub mod ClientIo
+pub mod ClientState
+pub mod CommitRecord
 pub mod FairQueue

@@ -1,8 +1,13 @@
 //! One client connection: its phase, and what a turn of it does.
+ghost use Rattle.std.specs.Prelude.{◌≡◌};
 ghost use Rattle.token_conf.specs.TokenFile.{callers_of};
 ghost use Rattle.server_base.specs.Calls.{GoesOn};
+ghost use Rattle.server_client.specs.ClientEvents.{ClientRuns, served_client};
+ghost use Rattle.server_client.specs.ClientConnection.{state_of_client};
+ghost use Rattle.server_client.specs.ClientState.{ClientSteps, StepsWithoutCommit, new_client};
 
 use crate::client_io::{ClientIo, ReadOutcome, WriteOutcome};
+use crate::commit_record::CommitRecord;
 use crate::fair_queue::{ClassMember, FairQueue};
 use crate::request_context::RequestContext;
 use server_base::limits::{
@@ -11,10 +16,9 @@ use server_base::limits::{
 use server_base::phase::Phase;
 use server_base::response_info::ResponseInfo;
 use server_base::server_log::AbortedConnection;
-use server_base::sockets::{Socket, SocketEvent};
+use server_base::sockets::{ClientSocket, SocketEvent, Sockets};
 use service_calls::service::Service;
 use space_core::group_commit::GroupCommit;
-use space_core::space::SpaceFault;
 use std::alloc::Global;
 use std::time::Duration;
 use token_conf::token_table::TokenTable;
@@ -31,8 +35,8 @@ pub enum TurnOutcome {
     Ready,
     /// Its response is deferred until the batch ends.
     Deferred,
-    /// It waits for one of the slots of large requests.
-    WantsPlace,
+    /// It waits for one of the large buffers.
+    WantsLargeBuffer,
     /// Its connection is to be closed.
     Gone,
     /// It is aborted for this reason.
@@ -51,7 +55,7 @@ fn again_if(ready: bool) -> TurnOutcome {
 /// A client connection.
 #[derive(Drop)]
 pub struct ClientConnection<T> {
-    link: ClientIo<T>,
+    io: ClientIo<T>,
     // The number of its connection.
     number: u64,
     phase: Phase,
@@ -64,7 +68,7 @@ pub struct ClientConnection<T> {
     reset: bool,
     // True if no complete request is buffered, so that the socket is read before the next request.
     lacks: bool,
-    // True if it has a slot for a large request, and true if it waits for one.
+    // True if it has a large buffer, and true if it waits for one.
     has_large_buffer: bool,
     wants_large_buffer: bool,
     // True if it is queued for its next turn.
@@ -80,11 +84,13 @@ pub struct ClientConnection<T> {
     asked: Option<Duration>,
 }
 
-impl<T: Socket> ClientConnection<T> {
+impl<T: ClientSocket> ClientConnection<T> {
     /// Creates a client that has sent nothing.
-    pub fn new(alloc: Global, socket: T, number: u64, now: Duration) -> ClientConnection<T> {
+    pub fn new(alloc: Global, socket: T, number: u64, now: Duration) -> ClientConnection<T>
+        ensures { state_of_client T.name result ≡ new_client (T.name socket) }
+    {
         ClientConnection {
-            link: ClientIo::new(alloc, socket),
+            io: ClientIo::new(alloc, socket),
             number,
             phase: Phase::Idle,
             until: now.saturating_add(Duration::from_millis(FIRST_REQUEST_TIMEOUT)),
@@ -106,9 +112,9 @@ impl<T: Socket> ClientConnection<T> {
     }
 
     /// Returns its description for the log, as an aborted connection.
-    pub fn given_up(&self) -> AbortedConnection {
+    pub fn aborted(&self) -> AbortedConnection {
         AbortedConnection {
-            client: self.link.client(),
+            client: self.io.client(),
             connection: self.number,
             phase: self.phase,
         }
@@ -121,11 +127,13 @@ impl<T: Socket> ClientConnection<T> {
 
     /// Returns the request of its last response.
     pub fn noted(&self) -> Option<&RequestInfo> {
-        self.link.noted()
+        self.io.noted()
     }
 
     /// Records a socket event.
-    pub fn note(&mut self, told: SocketEvent) {
+    pub fn note(&mut self, told: SocketEvent)
+        ensures { state_of_client T.name self.new ≡ state_of_client T.name self.old }
+    {
         self.readable = self.readable || told.readable || told.ended || told.reset;
         self.writable = self.writable || told.writable;
         self.ended = self.ended || told.ended || told.reset;
@@ -138,12 +146,14 @@ impl<T: Socket> ClientConnection<T> {
     }
 
     /// Sets whether it is queued for its next turn.
-    pub fn set_queued(&mut self, queued: bool) {
+    pub fn set_queued(&mut self, queued: bool)
+        ensures { state_of_client T.name self.new ≡ state_of_client T.name self.old }
+    {
         self.queued = queued;
     }
 
-    /// Returns true if its timeout has passed. A client that waits for its turn, or for a slot, is
-    /// never late, because the service keeps it waiting.
+    /// Returns true if its timeout has passed. A client that waits for its turn, or for a large
+    /// buffer, is never late, because the service keeps it waiting.
     pub fn is_late(&self, now: Duration) -> bool {
         !self.queued
             && !self.member.waits
@@ -161,7 +171,7 @@ impl<T: Socket> ClientConnection<T> {
             return true;
         };
         let count = self
-            .link
+            .io
             .buffered_bytes()
             .saturating_sub(self.phase_begun_with);
         let Ok(count) = u64::try_from(count) else {
@@ -173,24 +183,23 @@ impl<T: Socket> ClientConnection<T> {
 
     /// Returns the number of unsent bytes of its responses, with a deferred one.
     pub fn unsent(&self) -> usize {
-        self.link.unsent()
+        self.io.unsent()
     }
 
     // Returns what the buffered bytes give next, with the caller of the next request.
-    fn peek<'t>(&mut self, tokens: &'t TokenTable) -> Peeked<'t> {
-        let peeked = self.link.peek(tokens);
+    fn peek<'t>(&mut self, tokens: &'t TokenTable) -> Peeked<'t>
+        ensures { state_of_client T.name self.new ≡ state_of_client T.name self.old }
+    {
+        let peeked = self.io.peek(tokens);
         self.lacks = matches!(peeked, Peeked::NeedsInput | Peeked::Head(_));
         peeked
     }
 
     /// Determines the class of its next request. Queues it there under that key, if the request is
     /// complete or the stream ends.
-    pub fn classify(
-        &mut self,
-        fair: &mut FairQueue,
-        key: usize,
-        tokens: &TokenTable,
-    ) -> TurnOutcome {
+    pub fn classify(&mut self, fair: &mut FairQueue, key: usize, tokens: &TokenTable) -> TurnOutcome
+        ensures { state_of_client T.name self.new ≡ state_of_client T.name self.old }
+    {
         if self.member.waits {
             return TurnOutcome::Ready;
         }
@@ -216,35 +225,41 @@ impl<T: Socket> ClientConnection<T> {
         self.phase == Phase::Ending
     }
 
-    /// Returns true if it waits for a slot.
+    /// Returns true if it waits for a large buffer.
     pub fn wants_large_buffer(&self) -> bool {
         self.wants_large_buffer
     }
 
-    /// Returns true if it has a slot.
+    /// Returns true if it has a large buffer.
     pub fn has_large_buffer(&self) -> bool {
         self.has_large_buffer
     }
 
-    /// Returns true if it has a slot and no large request.
+    /// Returns true if it has a large buffer and no large request.
     pub fn can_return_large_buffer(&self) -> bool {
-        self.has_large_buffer && self.link.buffered_bytes() <= SMALL
+        self.has_large_buffer && self.io.buffered_bytes() <= SMALL
     }
 
-    /// Makes it wait for a slot.
-    pub fn request_large_buffer(&mut self) {
+    /// Makes it wait for a large buffer.
+    pub fn request_large_buffer(&mut self)
+        ensures { state_of_client T.name self.new ≡ state_of_client T.name self.old }
+    {
         self.wants_large_buffer = true;
     }
 
-    /// Gives it a slot, and restarts the timeout of its request.
-    pub fn take_large_buffer(&mut self, now: Duration) {
+    /// Gives it a large buffer, and restarts the timeout of its request.
+    pub fn take_large_buffer(&mut self, now: Duration)
+        ensures { state_of_client T.name self.new ≡ state_of_client T.name self.old }
+    {
         self.has_large_buffer = true;
         self.wants_large_buffer = false;
         self.wait(Phase::Sending, now);
     }
 
-    /// Takes its slot away.
-    pub fn return_large_buffer(&mut self) {
+    /// Takes its large buffer away.
+    pub fn return_large_buffer(&mut self)
+        ensures { state_of_client T.name self.new ≡ state_of_client T.name self.old }
+    {
         self.has_large_buffer = false;
     }
 
@@ -259,16 +274,20 @@ impl<T: Socket> ClientConnection<T> {
     }
 
     // Enters a phase and restarts its timeout.
-    fn wait(&mut self, phase: Phase, now: Duration) {
+    fn wait(&mut self, phase: Phase, now: Duration)
+        ensures { self.new.io ≡ self.old.io }
+    {
         self.phase = phase;
         self.until = now.saturating_add(phase.patience());
         self.phase_begun = now;
-        self.phase_begun_with = self.link.buffered_bytes();
+        self.phase_begun_with = self.io.buffered_bytes();
     }
 
     // Waits for the next request.
-    fn restart_request_timeout(&mut self, now: Duration) {
-        if self.link.holds_any() {
+    fn restart_request_timeout(&mut self, now: Duration)
+        ensures { self.new.io ≡ self.old.io }
+    {
+        if self.io.holds_any() {
             self.wait(Phase::Sending, now);
         } else {
             self.wait(Phase::Idle, now);
@@ -279,8 +298,12 @@ impl<T: Socket> ClientConnection<T> {
     ///
     /// A socket that is closed before all its bytes were read resets the connection. The client
     /// then loses responses that it has not read.
-    pub fn end(&mut self, now: Duration) -> TurnOutcome {
-        if self.reset || !self.link.end_sending() {
+    pub fn end<N: Sockets<Client = T>>(&mut self, sockets: &mut N, now: Duration) -> TurnOutcome
+        ensures { StepsWithoutCommit
+            (state_of_client T.name self.old) (state_of_client T.name self.new)
+            (N.history sockets.old) (N.history sockets.new) }
+    {
+        if self.reset || !self.io.end_sending(sockets) {
             return TurnOutcome::Gone;
         }
         self.wait(Phase::Ending, now);
@@ -290,11 +313,20 @@ impl<T: Socket> ClientConnection<T> {
     }
 
     /// Returns its outcome while the service ends: it is closed once it has all its responses.
-    pub fn end_after(&mut self, turned: TurnOutcome, now: Duration) -> TurnOutcome {
-        if self.is_ending() || self.link.wants_write() {
+    pub fn end_after<N: Sockets<Client = T>>(
+        &mut self,
+        sockets: &mut N,
+        turned: TurnOutcome,
+        now: Duration,
+    ) -> TurnOutcome
+        ensures { StepsWithoutCommit
+            (state_of_client T.name self.old) (state_of_client T.name self.new)
+            (N.history sockets.old) (N.history sockets.new) }
+    {
+        if self.is_ending() || self.io.wants_write() {
             return turned;
         }
-        self.end(now)
+        self.end(sockets, now)
     }
 
     /// Returns the response prepared in its turn, if it is not logged yet.
@@ -303,7 +335,9 @@ impl<T: Socket> ClientConnection<T> {
     }
 
     /// Takes the response prepared in its turn, so that it is logged once.
-    pub fn take_response(&mut self) -> Option<ResponseInfo> {
+    pub fn take_response(&mut self) -> Option<ResponseInfo>
+        ensures { state_of_client T.name self.new ≡ state_of_client T.name self.old }
+    {
         let answer = self.answer;
         self.answer = None;
         answer
@@ -316,7 +350,9 @@ impl<T: Socket> ClientConnection<T> {
 
     /// Begins its turn at this time, if it waits in the class. Returns false if it does not: another
     /// client may have had its key before.
-    pub fn begin_turn(&mut self, class: usize, clock: Option<Duration>) -> bool {
+    pub fn begin_turn(&mut self, class: usize, clock: Option<Duration>) -> bool
+        ensures { state_of_client T.name self.new ≡ state_of_client T.name self.old }
+    {
         if !self.member.waits || self.member.class != class {
             return false;
         }
@@ -326,11 +362,15 @@ impl<T: Socket> ClientConnection<T> {
     }
 
     // Reads and discards one chunk of what the client still sends.
-    fn skip(&mut self, now: Duration) -> TurnOutcome {
+    fn skip<N: Sockets<Client = T>>(&mut self, sockets: &mut N, now: Duration) -> TurnOutcome
+        ensures { StepsWithoutCommit
+            (state_of_client T.name self.old) (state_of_client T.name self.new)
+            (N.history sockets.old) (N.history sockets.new) }
+    {
         if !self.readable {
             return TurnOutcome::Rests;
         }
-        match self.link.skip() {
+        match self.io.skip(sockets) {
             Ok(ReadOutcome::Nothing) => {
                 self.readable = false;
                 TurnOutcome::Rests
@@ -349,18 +389,26 @@ impl<T: Socket> ClientConnection<T> {
 
     // Returns how many bytes may be read now.
     fn most(&self) -> usize {
-        let room = self.link.room().min(CHUNK);
+        let room = self.io.room().min(CHUNK);
         if self.has_large_buffer {
             return room;
         }
-        room.min(SMALL.saturating_sub(self.link.buffered_bytes()))
+        room.min(SMALL.saturating_sub(self.io.buffered_bytes()))
     }
 
     // Sends as much of the responses as the socket takes. Each byte taken restarts the timeout.
-    fn send(&mut self, now: Duration) -> Result<(), StreamFault> {
-        match self.link.send()? {
+    fn send<N: Sockets<Client = T>>(
+        &mut self,
+        sockets: &mut N,
+        now: Duration,
+    ) -> Result<(), StreamFault>
+        ensures { StepsWithoutCommit
+            (state_of_client T.name self.old) (state_of_client T.name self.new)
+            (N.history sockets.old) (N.history sockets.new) }
+    {
+        match self.io.send(sockets)? {
             WriteOutcome::Some => {
-                if self.link.wants_write() {
+                if self.io.wants_write() {
                     self.wait(Phase::Taking, now);
                 }
             }
@@ -375,15 +423,23 @@ impl<T: Socket> ClientConnection<T> {
     }
 
     // Reads one chunk of a request. Returns the outcome of the turn if nothing arrived.
-    fn receive(&mut self, now: Duration) -> Result<Option<TurnOutcome>, StreamFault> {
+    fn receive<N: Sockets<Client = T>>(
+        &mut self,
+        sockets: &mut N,
+        now: Duration,
+    ) -> Result<Option<TurnOutcome>, StreamFault>
+        ensures { StepsWithoutCommit
+            (state_of_client T.name self.old) (state_of_client T.name self.new)
+            (N.history sockets.old) (N.history sockets.new) }
+    {
         if !self.readable {
             return Ok(Some(TurnOutcome::Rests));
         }
         let most = self.most();
         if most == 0 {
-            return Ok(Some(TurnOutcome::WantsPlace));
+            return Ok(Some(TurnOutcome::WantsLargeBuffer));
         }
-        match self.link.receive(most)? {
+        match self.io.receive(sockets, most)? {
             ReadOutcome::Nothing => {
                 self.readable = false;
                 return Ok(Some(TurnOutcome::Rests));
@@ -400,124 +456,185 @@ impl<T: Socket> ClientConnection<T> {
         Ok(None)
     }
 
-    // Sends pending output, and reads if no complete request is buffered. Returns the outcome of
-    // the turn if no request is to be answered yet.
-    fn prepare(&mut self, now: Duration) -> Result<Option<TurnOutcome>, StreamFault> {
-        if self.link.wants_write() {
-            if !self.writable {
-                return Ok(Some(TurnOutcome::Rests));
-            }
-            self.send(now)?;
-            if self.link.wants_write() {
-                return Ok(Some(again_if(self.writable)));
-            }
-            self.restart_request_timeout(now);
-        }
-        if self.link.is_done() || !self.lacks {
+    // Sends pending output. Returns the outcome of the turn if some of it is left.
+    fn send_pending<N: Sockets<Client = T>>(
+        &mut self,
+        sockets: &mut N,
+        now: Duration,
+    ) -> Result<Option<TurnOutcome>, StreamFault>
+        ensures { StepsWithoutCommit
+            (state_of_client T.name self.old) (state_of_client T.name self.new)
+            (N.history sockets.old) (N.history sockets.new) }
+    {
+        if !self.io.wants_write() {
             return Ok(None);
         }
-        self.receive(now)
+        if !self.writable {
+            return Ok(Some(TurnOutcome::Rests));
+        }
+        self.send(sockets, now)?;
+        if self.io.wants_write() {
+            return Ok(Some(again_if(self.writable)));
+        }
+        self.restart_request_timeout(now);
+        Ok(None)
+    }
+
+    // Sends pending output, and reads if no complete request is buffered. Returns the outcome of
+    // the turn if no request is to be answered yet.
+    fn prepare<N: Sockets<Client = T>>(
+        &mut self,
+        sockets: &mut N,
+        now: Duration,
+    ) -> Result<Option<TurnOutcome>, StreamFault>
+        ensures { StepsWithoutCommit
+            (state_of_client T.name self.old) (state_of_client T.name self.new)
+            (N.history sockets.old) (N.history sockets.new) }
+    {
+        if let Some(turned) = self.send_pending(sockets, now)? {
+            return Ok(Some(turned));
+        }
+        if self.io.is_done() || !self.lacks {
+            return Ok(None);
+        }
+        self.receive(sockets, now)
     }
 
     // Returns the outcome of a client whose response is sent as far as possible.
-    fn answered(&mut self, now: Duration) -> Result<TurnOutcome, StreamFault> {
-        self.answer = self.link.answer();
-        if self.link.wants_write() {
+    fn answered<N: Sockets<Client = T>>(
+        &mut self,
+        sockets: &mut N,
+        now: Duration,
+    ) -> Result<TurnOutcome, StreamFault>
+        ensures { StepsWithoutCommit
+            (state_of_client T.name self.old) (state_of_client T.name self.new)
+            (N.history sockets.old) (N.history sockets.new) }
+    {
+        self.answer = self.io.answer();
+        if self.io.wants_write() {
             if self.writable {
-                self.send(now)?;
+                self.send(sockets, now)?;
             } else {
                 self.wait(Phase::Taking, now);
             }
         }
-        if self.link.wants_write() {
+        if self.io.wants_write() {
             return Ok(again_if(self.writable));
         }
         self.restart_request_timeout(now);
-        Ok(again_if(self.readable || !self.lacks || self.link.is_done()))
+        Ok(again_if(self.readable || !self.lacks || self.io.is_done()))
     }
 
     // Sends pending output, and reads one chunk if no complete request is buffered.
-    fn move_bytes(&mut self, now: Duration) -> Result<TurnOutcome, StreamFault> {
-        if let Some(turned) = self.prepare(now)? {
+    fn move_bytes<N: Sockets<Client = T>>(
+        &mut self,
+        sockets: &mut N,
+        now: Duration,
+    ) -> Result<TurnOutcome, StreamFault>
+        ensures { StepsWithoutCommit
+            (state_of_client T.name self.old) (state_of_client T.name self.new)
+            (N.history sockets.old) (N.history sockets.new) }
+    {
+        if let Some(turned) = self.prepare(sockets, now)? {
             return Ok(turned);
         }
-        if self.link.is_done() {
-            return Ok(self.end(now));
+        if self.io.is_done() {
+            return Ok(self.end(sockets, now));
         }
-        if self.link.holds_back() {
+        if self.io.holds_back() {
             return Ok(TurnOutcome::Deferred);
         }
         Ok(TurnOutcome::Ready)
     }
 
     /// Moves bytes without answering a request: reads at most one chunk and sends at most one.
-    pub fn move_on(&mut self, now: Duration) -> TurnOutcome {
+    pub fn move_on<N: Sockets<Client = T>>(&mut self, sockets: &mut N, now: Duration) -> TurnOutcome
+        ensures { StepsWithoutCommit
+            (state_of_client T.name self.old) (state_of_client T.name self.new)
+            (N.history sockets.old) (N.history sockets.new) }
+    {
         if self.is_ending() {
-            return self.skip(now);
+            return self.skip(sockets, now);
         }
         if self.reset {
             return TurnOutcome::Failed(StreamFault::Read);
         }
-        match self.move_bytes(now) {
+        match self.move_bytes(sockets, now) {
             Ok(turned) => turned,
             Err(fault) => TurnOutcome::Failed(fault),
         }
     }
 
     // Answers the next request. Reads one chunk for it if it is not buffered.
-    fn serve<S: GroupCommit + Drop, M: Moments>(
+    fn serve<S: GroupCommit + Drop, M: Moments, N: Sockets<Client = T>>(
         &mut self,
         context: RequestContext<'_>,
         service: &mut Service<S>,
         moments: &mut M,
+        sockets: &mut N,
+        commit: CommitRecord,
         now: Duration,
     ) -> Result<TurnOutcome, StreamFault>
-        ensures { GoesOn S.Space S.GroupCommit.own M.Moments (callers_of context.entry.tokens.now)
+        ensures runs { ClientRuns S.Space S.GroupCommit.own M.Moments
+            context.entry.tokens.now commit
+            (served_client service.old moments.old (state_of_client T.name self.old))
+            (served_client service.new moments.new (state_of_client T.name self.new))
+            (N.history sockets.old) (N.history sockets.new) }
+        ensures is_running { GoesOn S.Space S.GroupCommit.own M.Moments
+            (callers_of context.entry.tokens.now)
             service.old service.new moments.old moments.new }
     {
-        if let Some(turned) = self.prepare(now)? {
+        if let Some(turned) = self.prepare(sockets, now)? {
             return Ok(turned);
         }
-        if self.link.is_done() {
-            return Ok(self.end(now));
+        if self.io.is_done() {
+            return Ok(self.end(sockets, now));
         }
-        if self.link.holds_back() {
+        if self.io.holds_back() {
             return Ok(TurnOutcome::Deferred);
         }
-        let step = self.link.ask(context, service, moments)?;
+        let step = self.io.ask(context, service, moments, commit)?;
         self.lacks = match step {
             Step::NeedsInput => true,
-            Step::Answered(left) => left > 0 && !self.link.holds_any(),
+            Step::Answered(left) => left > 0 && !self.io.holds_any(),
             Step::Ended(_) => false,
         };
         if step == Step::NeedsInput {
             return Ok(again_if(self.readable));
         }
-        if self.link.holds_back() {
+        if self.io.holds_back() {
             return Ok(TurnOutcome::Deferred);
         }
-        self.answered(now)
+        self.answered(sockets, now)
     }
 
     /// Runs one turn: reads at most one chunk, answers one request and sends twice. Answers no
-    /// request of a client that is known to be gone.
-    pub fn turn<S: GroupCommit + Drop, M: Moments>(
+    /// request of a client that is known to be gone. `commit` is the record of the last commit.
+    pub fn turn<S: GroupCommit + Drop, M: Moments, N: Sockets<Client = T>>(
         &mut self,
         context: RequestContext<'_>,
         service: &mut Service<S>,
         moments: &mut M,
+        sockets: &mut N,
+        commit: CommitRecord,
         now: Duration,
     ) -> TurnOutcome
-        ensures { GoesOn S.Space S.GroupCommit.own M.Moments (callers_of context.entry.tokens.now)
+        ensures runs { ClientRuns S.Space S.GroupCommit.own M.Moments
+            context.entry.tokens.now commit
+            (served_client service.old moments.old (state_of_client T.name self.old))
+            (served_client service.new moments.new (state_of_client T.name self.new))
+            (N.history sockets.old) (N.history sockets.new) }
+        ensures is_running { GoesOn S.Space S.GroupCommit.own M.Moments
+            (callers_of context.entry.tokens.now)
             service.old service.new moments.old moments.new }
     {
         if self.is_ending() {
-            return self.skip(now);
+            return self.skip(sockets, now);
         }
         if self.reset {
             return TurnOutcome::Failed(StreamFault::Read);
         }
-        match self.serve(context, service, moments, now) {
+        match self.serve(context, service, moments, sockets, commit, now) {
             Ok(turned) => turned,
             Err(fault) => TurnOutcome::Failed(fault),
         }
@@ -525,20 +642,26 @@ impl<T: Socket> ClientConnection<T> {
 
     /// Returns the size of the deferred response in bytes.
     pub fn deferred_bytes(&self) -> usize {
-        self.link.deferred_bytes()
+        self.io.deferred_bytes()
     }
 
-    /// Completes its turn once the batch has ended: sends its response.
-    pub fn tell(
+    /// Completes its turn once the batch has ended: sends its response, which depends on the outcome
+    /// of the commit.
+    pub fn tell<N: Sockets<Client = T>>(
         &mut self,
         alloc: Global,
-        committed: Result<(), SpaceFault>,
+        sockets: &mut N,
+        commit: CommitRecord,
         now: Duration,
-    ) -> TurnOutcome {
-        if self.link.tell(alloc, committed).is_err() {
+    ) -> TurnOutcome
+        ensures { ClientSteps commit
+            (state_of_client T.name self.old) (state_of_client T.name self.new)
+            (N.history sockets.old) (N.history sockets.new) }
+    {
+        if self.io.tell(alloc, commit).is_err() {
             return TurnOutcome::Failed(StreamFault::Memory);
         }
-        match self.answered(now) {
+        match self.answered(sockets, now) {
             Ok(turned) => turned,
             Err(fault) => TurnOutcome::Failed(fault),
         }

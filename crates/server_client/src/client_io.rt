@@ -1,20 +1,25 @@
 //! A client's socket with its HTTP connection, and the bytes that move between the two.
-ghost use Rattle.std.specs.Prelude.{◌≡◌};
+ghost use Rattle.std.specs.Prelude.{◌≡◌, IfErr, IfOk};
 ghost use Rattle.service_calls.specs.Service.{reply_of};
 ghost use Rattle.service_step.specs.declared.call_fault.CallFault.TheVariants as halts;
-ghost use Rattle.server_client.specs.ClientIo.{connection_of, socket_of, ReleasesUnless, IsFresh, IsAnsweredBy, ReleasesDeferred, Receives, Sends};
+ghost use Rattle.server_client.specs.ClientIo.{IsAnsweredBy, Reads, ReleasesUnless, Writes};
+ghost use Rattle.server_client.specs.ClientIo.{client_state, connection_of};
+ghost use Rattle.server_client.specs.ClientState.{ClientSteps, IsCommitOf, StepsWithoutCommit};
+ghost use Rattle.server_client.specs.ClientState.{new_client};
+ghost use Rattle.server_client.specs.CommitRecord.{outcome_of};
 
+use crate::commit_record::CommitRecord;
 use crate::request_context::RequestContext;
 use server_base::limits::{CHUNK, SEND_CHUNK};
 use server_base::response_info::ResponseInfo;
-use server_base::sockets::Socket;
+use server_base::sockets::{ClientSocket, Sockets};
 use service_calls::service::Service;
 use service_step::reply::Reply;
 use space_core::group_commit::GroupCommit;
 use space_core::space::SpaceFault;
 use std::alloc::{AllocError, Global};
 use std::io::ErrorKind;
-use std::net::SocketAddrV4;
+use std::net::SocketAddr;
 use token_conf::token_table::TokenTable;
 use wire_http::{Connection, Moments, Peeked, RequestInfo, Step, StreamFault};
 
@@ -53,31 +58,38 @@ fn reply_to(fault: SpaceFault) -> Reply
 pub(crate) struct ClientIo<T> {
     socket: T,
     connection: Connection,
+    // How many commits there were when its last request was answered.
+    batch: u64,
+    // True if no more requests are answered, whatever the connection says.
+    aborted: bool,
 }
 
-impl<T: Socket> ClientIo<T> {
-    ghost use Rattle.std.specs.Prelude.{◌<◌, ◌-◌, ◌↔◌, ◌||◌, false, length, IfOk, IfErr, IsTrue, option_map};
+impl<T: ClientSocket> ClientIo<T> {
+    ghost use Rattle.std.specs.Prelude.{◌<◌, ◌-◌, ◌↔◌, ◌||◌, false, true, length, IsTrue, List, Option, option_map};
     ghost use Rattle.token_conf.specs.TokenFile.{callers_of};
     ghost use Rattle.service_calls.specs.Held.{Stays, space_of};
-    ghost use Rattle.wire_http.specs.Connection.{buffered_of, deferred_of, has_ended, holds_back, is_done, left_of, noted_of, ready_of, IsSame, IsStep, IsStepPart};
-    ghost use Rattle.wire_http.specs.Peek.{IsPeek};
     ghost use Rattle.wire_http.specs.declared.connection.Connection.{Connection};
+    ghost use Rattle.wire_http.specs.Connection.{buffered_of, deferred_of, has_ended, holds_back, left_of, noted_of, ready_of, IsStep, IsStepPart};
+    ghost use Rattle.wire_http.specs.Peek.{IsPeek};
     ghost use Rattle.wire_http.specs.BufferState.{max_buffered};
     ghost use Rattle.server_base.specs.Calls.{GoesOn};
+    ghost use Rattle.server_base.specs.History.{HistoryEvent};
+    ghost use Rattle.server_client.specs.ClientEvents.{ClientRuns, served_client};
 
     /// Creates a client that has sent nothing.
     pub(crate) fn new(alloc: Global, socket: T) -> ClientIo<T>
-        ensures socket { socket_of result ≡ socket }
-        ensures fresh { IsFresh (connection_of result) }
+        ensures { client_state T.name result ≡ new_client (T.name socket) }
     {
         ClientIo {
             socket,
             connection: Connection::new(alloc),
+            batch: 0,
+            aborted: false,
         }
     }
 
     /// Returns the address and port of the client, if the system returned them.
-    pub(crate) fn client(&self) -> Option<SocketAddrV4> {
+    pub(crate) fn client(&self) -> Option<SocketAddr> {
         self.socket.client()
     }
 
@@ -113,8 +125,7 @@ impl<T: Socket> ClientIo<T> {
     pub(crate) fn peek<'t>(&mut self, tokens: &'t TokenTable) -> Peeked<'t>
         ensures peeked { IsPeek (callers_of tokens.now) (left_of (connection_of self.old))
             (has_ended (connection_of self.old)) (buffered_of (connection_of self.old)) result }
-        ensures same { IsSame (connection_of self.old) (connection_of self.new) }
-        ensures socket { socket_of self.new ≡ socket_of self.old }
+        ensures client { client_state T.name self.new ≡ client_state T.name self.old }
     {
         self.connection.peek(tokens)
     }
@@ -162,29 +173,43 @@ impl<T: Socket> ClientIo<T> {
 
     /// Returns true if no more requests are answered.
     pub(crate) fn is_done(&self) -> bool
-        ensures { result ≡ is_done (connection_of self.now) }
+        ensures { result ≡ (client_state T.name self.now).done }
     {
-        self.connection.is_done()
+        self.aborted || self.connection.is_done()
     }
 
     /// Reads at most `most` bytes of requests, and no more than there is room for.
-    pub(crate) fn receive(&mut self, most: usize) -> Result<ReadOutcome, StreamFault>
-        ensures { IfOk result (Receives T.coming T.gone self.old self.new) }
+    pub(crate) fn receive<N: Sockets<Client = T>>(
+        &mut self,
+        sockets: &mut N,
+        most: usize,
+    ) -> Result<ReadOutcome, StreamFault>
+        ensures steps { StepsWithoutCommit
+            (client_state T.name self.old) (client_state T.name self.new)
+            (N.history sockets.old) (N.history sockets.new) }
+        ensures read { IfOk result (Reads (client_state T.name self.old)
+            (client_state T.name self.new) (N.history sockets.old) (N.history sockets.new)) }
     {
         let mut chunk = [0; CHUNK];
         let most = most.min(self.connection.remaining_capacity()).min(CHUNK);
         if most == 0 {
             return Ok(ReadOutcome::Nothing);
         }
-        match self.socket.receive(&mut chunk[..most]) {
-            Ok(0) => {
-                self.connection.end_of_input();
-                Ok(ReadOutcome::End)
+        let part = &mut chunk[..most];
+        match sockets.receive(&mut self.socket, part) {
+            Ok(count) => {
+                if count == 0 {
+                    self.connection.end_of_input();
+                    return Ok(ReadOutcome::End);
+                }
+                match self.connection.receive(&part[..count]) {
+                    Ok(()) => Ok(ReadOutcome::Chunk(count)),
+                    Err(_) => {
+                        self.aborted = true;
+                        Err(StreamFault::Memory)
+                    }
+                }
             }
-            Ok(count) => match self.connection.receive(&chunk[..count]) {
-                Ok(()) => Ok(ReadOutcome::Chunk(count)),
-                Err(_) => Err(StreamFault::Memory),
-            },
             Err(cause) => match cause.kind() {
                 ErrorKind::WouldBlock => Ok(ReadOutcome::Nothing),
                 _ => Err(StreamFault::Read),
@@ -192,13 +217,21 @@ impl<T: Socket> ClientIo<T> {
         }
     }
 
-    /// Sends at most one chunk of the responses, as much of it as the socket takes.
-    pub(crate) fn send(&mut self) -> Result<WriteOutcome, StreamFault>
-        ensures { IfOk result (Sends T.coming T.gone self.old self.new) }
+    /// Sends at most one chunk of the responses, as much of it as the socket takes. No byte of a
+    /// deferred response is in it.
+    pub(crate) fn send<N: Sockets<Client = T>>(
+        &mut self,
+        sockets: &mut N,
+    ) -> Result<WriteOutcome, StreamFault>
+        ensures steps { StepsWithoutCommit
+            (client_state T.name self.old) (client_state T.name self.new)
+            (N.history sockets.old) (N.history sockets.new) }
+        ensures written { IfOk result (Writes (client_state T.name self.old)
+            (client_state T.name self.new) (N.history sockets.old) (N.history sockets.new)) }
     {
         let output = self.connection.output();
         let chunk = &output[..output.len().min(SEND_CHUNK)];
-        match self.socket.send(chunk) {
+        match sockets.send(&mut self.socket, chunk) {
             Ok(0) => Err(StreamFault::Write),
             Ok(count) => {
                 self.connection.mark_sent(count);
@@ -215,7 +248,7 @@ impl<T: Socket> ClientIo<T> {
     fn release_unless(&mut self, waited: bool, waits: bool)
         ensures goes { ReleasesUnless (waited || waits)
             (connection_of self.old) (connection_of self.new) }
-        ensures socket { socket_of self.new ≡ socket_of self.old }
+        ensures same { self.new ≡ record self.old { connection = connection_of self.new } }
     {
         if waited {
             return;
@@ -227,32 +260,38 @@ impl<T: Socket> ClientIo<T> {
     }
 
     /// Answers the next request if it is complete, or ends the requests of the connection. Defers
-    /// the response if changes are pending before the call or after it.
+    /// the response if changes are pending before the call or after it. `commit` is the record of
+    /// the last commit.
     pub(crate) fn ask<S: GroupCommit + Drop, M: Moments>(
         &mut self,
         context: RequestContext<'_>,
         service: &mut Service<S>,
         moments: &mut M,
+        commit: CommitRecord,
     ) -> Result<Step, StreamFault>
-        requires open { is_done (connection_of self.old) ≡ false }
+        requires open { (client_state T.name self.old).done ≡ false }
         requires none_back { holds_back (connection_of self.old) ≡ false }
         ensures step { IfOk result (λ step. (c : Connection)
             × IsStep S.Space M.gives (callers_of context.entry.tokens.now)
             service.old service.new moments.old moments.new (connection_of self.old) c step
-            × ReleasesUnless
-            (S.is_pending (space_of service.old) || S.is_pending (space_of service.new))
+            × ReleasesUnless (S.GroupCommit.is_pending (space_of service.old)
+            || S.GroupCommit.is_pending (space_of service.new))
             c (connection_of self.new)) }
         ensures part { IfErr result (IsStepPart S.Space M.gives
             (callers_of context.entry.tokens.now)
             service.old service.new moments.old moments.new
             (connection_of self.old) (connection_of self.new)) }
-        ensures socket { socket_of self.new ≡ socket_of self.old }
+        ensures runs { (past : Option (List HistoryEvent))
+            → ClientRuns S.Space S.GroupCommit.own M.Moments context.entry.tokens.now commit
+            (served_client service.old moments.old (client_state T.name self.old))
+            (served_client service.new moments.new (client_state T.name self.new)) past past }
         ensures is_running { GoesOn S.Space S.GroupCommit.own M.Moments
             (callers_of context.entry.tokens.now)
             service.old service.new moments.old moments.new }
         ensures stays { Stays S.Space service.old service.new }
     {
         let waited = service.has_pending();
+        self.batch = commit.number();
         let step = self.connection.advance(
             context.alloc,
             context.routes,
@@ -265,18 +304,25 @@ impl<T: Socket> ClientIo<T> {
         Ok(step)
     }
 
-    /// Releases or replaces the deferred response, given the result of its commit. If memory runs
-    /// out, nothing of it is sent.
-    pub(crate) fn tell(
-        &mut self,
-        alloc: Global,
-        committed: Result<(), SpaceFault>,
-    ) -> Result<(), AllocError>
-        ensures told { IsAnsweredBy committed (connection_of self.old)
-            (connection_of self.new) result }
-        ensures socket { socket_of self.new ≡ socket_of self.old }
+    /// Releases or replaces the deferred response, given the record of its commit. If memory runs
+    /// out, or the commit was not that of its batch, nothing of it is sent.
+    pub(crate) fn tell(&mut self, alloc: Global, commit: CommitRecord) -> Result<(), AllocError>
+        ensures steps { (past : Option (List HistoryEvent))
+            → ClientSteps commit (client_state T.name self.old) (client_state T.name self.new)
+            past past }
+        ensures told { holds_back (connection_of self.old) ≡ true
+            → IsCommitOf commit (client_state T.name self.old)
+            → IsAnsweredBy (outcome_of commit)
+            (connection_of self.old) (connection_of self.new) result }
     {
-        match committed {
+        if !self.connection.has_deferred() {
+            return Ok(());
+        }
+        if !commit.is_of_batch(self.batch) {
+            self.aborted = true;
+            return Err(AllocError);
+        }
+        match commit.outcome() {
             Ok(()) => {
                 self.connection.release_deferred();
                 Ok(())
@@ -285,17 +331,33 @@ impl<T: Socket> ClientIo<T> {
         }
     }
 
-    /// Ends sending. Returns false if the client is gone.
-    pub(crate) fn end_sending(&mut self) -> bool {
-        self.socket.end_sending().is_ok()
+    /// Ends sending, after which no more requests are answered. Returns false if the client is gone.
+    pub(crate) fn end_sending<N: Sockets<Client = T>>(&mut self, sockets: &mut N) -> bool
+        ensures { StepsWithoutCommit (client_state T.name self.old) (client_state T.name self.new)
+            (N.history sockets.old) (N.history sockets.new) }
+    {
+        self.aborted = true;
+        sockets.end_sending(&mut self.socket).is_ok()
     }
 
-    /// Reads and discards one chunk.
-    pub(crate) fn skip(&mut self) -> Result<ReadOutcome, StreamFault> {
+    /// Reads and discards one chunk, after which no more requests are answered.
+    pub(crate) fn skip<N: Sockets<Client = T>>(
+        &mut self,
+        sockets: &mut N,
+    ) -> Result<ReadOutcome, StreamFault>
+        ensures { StepsWithoutCommit (client_state T.name self.old) (client_state T.name self.new)
+            (N.history sockets.old) (N.history sockets.new) }
+    {
+        self.aborted = true;
         let mut chunk = [0; CHUNK];
-        match self.socket.receive(&mut chunk) {
-            Ok(0) => Ok(ReadOutcome::End),
-            Ok(count) => Ok(ReadOutcome::Chunk(count)),
+        match sockets.receive(&mut self.socket, &mut chunk) {
+            Ok(count) => {
+                if count == 0 {
+                    self.connection.end_of_input();
+                    return Ok(ReadOutcome::End);
+                }
+                Ok(ReadOutcome::Chunk(count))
+            }
             Err(cause) => match cause.kind() {
                 ErrorKind::WouldBlock => Ok(ReadOutcome::Nothing),
                 _ => Err(StreamFault::Read),

@@ -3,5 +3,7 @@
 
 pub mod client_connection;
 mod client_io;
+pub mod commit_record;
 pub mod fair_queue;
+pub mod laws;
 pub mod request_context;

@@ -1,8 +1,8 @@
 use Rattle.dss_server.proofs.Serving.{all_none, up_to_looked, up_to_none}
 use Rattle.dss_server.proofs.serve.serve_clients.Goals as goal
 
-pub returns-in_err-port-clause-serves : goal.returns-in_err-port-clause-serves
-returns-in_err-port-clause-serves g c = all_none g.S.Space g.S.GroupCommit g.M.Moments g.T.TokenSource.gives c.args.keep c.args.tokens.now c.args.service.now c.args.moments.now
+pub returns-in_err-event_loop-clause-serves : goal.returns-in_err-event_loop-clause-serves
+returns-in_err-event_loop-clause-serves g c = all_none g.S.Space g.S.GroupCommit g.M.Moments g.T.TokenSource.gives c.args.keep c.args.tokens.now c.args.service.now c.args.moments.now
 
 pub returns-in_err-now-clause-serves : goal.returns-in_err-now-clause-serves
 returns-in_err-now-clause-serves g c = all_none g.S.Space g.S.GroupCommit g.M.Moments g.T.TokenSource.gives c.args.keep c.args.tokens.now c.args.service.now c.args.moments.now

@@ -1,7 +1,4 @@
-use Rattle.std.specs.Prelude.{◌≡◌, ◌<◌, ◌≤◌, ℕ, true, IfSome, Some}
-use Rattle.std.specs.List.{slice_get}
-use Rattle.server_client.specs.FairQueue.{may_be_next}
-use Rattle.server_client.specs.declared.fair_queue.UssClass.{UssClass}
+use Rattle.std.specs.Prelude.{IfSome}
 use Rattle.server_client.proofs.Queues.{IsFound, IsLeastOf}
 use Rattle.server_client.proofs.fair_queue.FairQueue.next_class.Given as goal
 

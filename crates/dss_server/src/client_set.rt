@@ -1,0 +1,355 @@
+//! All clients of a port, and which of them goes on next.
+use crate::deferred_clients::DeferredClients;
+use server_base::limits::{LARGE_BUFFERS, Limits, MAX_CONNECTIONS};
+use server_base::sockets::{ClientSocket, SocketEvent, Sockets};
+use server_client::client_connection::{ClientConnection, TurnOutcome};
+use server_client::fair_queue::{ClassMember, FairQueue, WITHOUT_TOKEN};
+use slab::Slab;
+use std::alloc::{AllocError, Global};
+use std::collections::VecDeque;
+use std::mem;
+use std::time::Duration;
+use token_conf::token_table::TokenTable;
+use wire_http::StreamFault;
+
+/// The clients of a port, under their keys, with the queues in which they wait.
+#[derive(Drop)]
+pub(crate) struct ClientSet<T> {
+    alloc: Global,
+    pub(crate) connections: Slab<ClientConnection<T>>,
+    // The maximum number of clients.
+    most: usize,
+    // The keys of the clients that have a turn next, a spare vector for the next turns, the keys of
+    // the clients that wait for a large buffer, and the number of free large buffers.
+    next: Vec<usize>,
+    spare: Vec<usize>,
+    wanting: VecDeque<usize>,
+    large_buffers: usize,
+    /// The order in which requests are answered.
+    pub(crate) fair: FairQueue,
+    /// The clients whose responses are deferred in a batch. Empty after it.
+    pub(crate) deferred: DeferredClients,
+    // How many clients have their last response.
+    ending: usize,
+}
+
+impl<T: ClientSocket> ClientSet<T> {
+    /// Creates a set without clients. Allocates the memory for the maximum number of clients here,
+    /// so that no client is dropped later for lack of it.
+    pub(crate) fn new(alloc: Global, limits: Limits) -> Result<ClientSet<T>, AllocError> {
+        let most = limits.clients.min(MAX_CONNECTIONS);
+        let connections = Slab::with_capacity(alloc, most)?;
+        let next = Vec::with_capacity(alloc, most)?;
+        let spare = Vec::with_capacity(alloc, most)?;
+        let wanting = VecDeque::with_capacity(alloc, most)?;
+        let deferred = DeferredClients::new(alloc)?;
+        let fair = FairQueue::new(alloc, limits.response_memory)?;
+        Ok(ClientSet {
+            alloc,
+            connections,
+            most,
+            next,
+            spare,
+            wanting,
+            large_buffers: LARGE_BUFFERS,
+            fair,
+            deferred,
+            ending: 0,
+        })
+    }
+
+    /// Returns the number of clients.
+    pub(crate) fn len(&self) -> usize {
+        self.connections.len()
+    }
+
+    /// Returns true if there is no client.
+    pub(crate) fn is_empty(&self) -> bool {
+        self.connections.is_empty()
+    }
+
+    /// Returns true if there are fewer clients than the maximum.
+    pub(crate) fn has_room(&self) -> bool {
+        self.connections.len() < self.most
+    }
+
+    /// Returns true if a client can go on at once.
+    pub(crate) fn has_next(&self) -> bool {
+        !self.next.is_empty() || self.fair.has_next()
+    }
+
+    /// Returns true if a client has its last response.
+    pub(crate) fn is_any_ending(&self) -> bool {
+        self.ending > 0
+    }
+
+    /// Queues a client for its next turn.
+    pub(crate) fn queue(&mut self, key: usize) {
+        let Some(client) = self.connections.get_mut(key) else {
+            return;
+        };
+        if client.is_queued() {
+            return;
+        }
+        client.set_queued(self.next.push(key).is_ok());
+    }
+
+    /// Queues all clients for their next turn.
+    pub(crate) fn queue_all(&mut self) {
+        for key in 0..MAX_CONNECTIONS {
+            self.queue(key);
+        }
+    }
+
+    /// Returns the keys of the queued clients, which are queued no more.
+    pub(crate) fn take_queued(&mut self) -> Vec<usize> {
+        let spare = mem::replace(&mut self.spare, Vec::new(self.alloc));
+        mem::replace(&mut self.next, spare)
+    }
+
+    /// Keeps the memory of keys that were taken.
+    pub(crate) fn return_queued(&mut self, mut keys: Vec<usize>) {
+        keys.clear();
+        self.spare = keys;
+    }
+
+    /// Records an event of a client's socket, and queues the client.
+    pub(crate) fn note(&mut self, key: usize, told: SocketEvent) {
+        let Some(client) = self.connections.get_mut(key) else {
+            return;
+        };
+        client.note(told);
+        self.queue(key);
+    }
+
+    /// Returns the key of the next client that is added.
+    pub(crate) fn vacant_key(&self) -> usize {
+        self.connections.vacant_key()
+    }
+
+    /// Adds a client. Returns false if memory runs out.
+    pub(crate) fn insert(&mut self, socket: T, number: u64, now: Duration) -> bool {
+        let client = ClientConnection::new(self.alloc, socket, number, now);
+        let Ok(key) = self.connections.insert(client) else {
+            return false;
+        };
+        // Read what it sent with its connection before the next call.
+        self.queue(key);
+        true
+    }
+
+    // Gives a free large buffer to a client that waits for one, unless its class has its maximum.
+    fn grant_large_buffer(&mut self, key: usize, now: Duration) {
+        let Some(client) = self.connections.get_mut(key) else {
+            return;
+        };
+        if !client.wants_large_buffer() {
+            return;
+        }
+        if !self.fair.may_take_large_buffer(client.member.class) {
+            let _ = self.wanting.push_back(key);
+            return;
+        }
+        client.take_large_buffer(now);
+        self.fair.take_large_buffer(&mut client.member);
+        self.large_buffers = self.large_buffers.saturating_sub(1);
+        self.queue(key);
+    }
+
+    // Gives free large buffers to the clients that wait for one, in the order of their arrival.
+    // Passes over a client whose class has its maximum.
+    fn grant_large_buffers(&mut self, now: Duration) {
+        for _ in 0..self.wanting.len() {
+            if self.large_buffers == 0 {
+                return;
+            }
+            let Some(key) = self.wanting.pop_front() else {
+                return;
+            };
+            self.grant_large_buffer(key, now);
+        }
+    }
+
+    // Makes a client wait for a large buffer. If memory runs out, the client times out.
+    fn await_large_buffer(&mut self, key: usize) {
+        let Some(client) = self.connections.get_mut(key) else {
+            return;
+        };
+        if client.wants_large_buffer() || self.wanting.push_back(key).is_err() {
+            return;
+        }
+        client.request_large_buffer();
+    }
+
+    // Makes a client wait for a large buffer, and gives it one if it can have it now.
+    fn request_large_buffer(&mut self, key: usize, now: Duration) {
+        self.await_large_buffer(key);
+        self.grant_large_buffers(now);
+    }
+
+    // Frees the large buffer of a client that no longer needs it.
+    fn free_large_buffer(&mut self, key: usize, now: Duration) {
+        let Some(client) = self.connections.get_mut(key) else {
+            return;
+        };
+        if !client.can_return_large_buffer() {
+            return;
+        }
+        client.return_large_buffer();
+        let member = client.member;
+        self.add_large_buffer(member, now);
+    }
+
+    // Adds the large buffer that a client returned, and gives it to a client that waits for one.
+    fn add_large_buffer(&mut self, member: ClassMember, now: Duration) {
+        self.fair.return_large_buffer(member);
+        self.large_buffers = self.large_buffers.saturating_add(1);
+        self.grant_large_buffers(now);
+    }
+
+    /// Returns how many clients wait for a large buffer.
+    pub(crate) fn waiting_for_buffers(&self) -> usize {
+        let mut count = 0_usize;
+        for key in &self.wanting {
+            if let Some(client) = self.connections.get(*key)
+                && client.wants_large_buffer()
+            {
+                count = count.saturating_add(1);
+            }
+        }
+        count
+    }
+
+    // Closes a client.
+    fn close(&mut self, key: usize, now: Duration) {
+        let Some(mut client) = self.connections.try_remove(key) else {
+            return;
+        };
+        if client.is_ending() {
+            self.ending = self.ending.saturating_sub(1);
+        }
+        self.fair.set_unsent(&mut client.member, 0);
+        if client.has_large_buffer() {
+            self.add_large_buffer(client.member, now);
+        }
+    }
+
+    /// Aborts a client. It can still read what was sent before.
+    pub(crate) fn abort<N: Sockets<Client = T>>(
+        &mut self,
+        sockets: &mut N,
+        key: usize,
+        now: Duration,
+    ) -> TurnOutcome {
+        match self.connections.get_mut(key) {
+            Some(client) => client.end(sockets, now),
+            None => TurnOutcome::Gone,
+        }
+    }
+
+    /// Closes a client while the service ends, once it has all its responses.
+    pub(crate) fn end_after<N: Sockets<Client = T>>(
+        &mut self,
+        sockets: &mut N,
+        key: usize,
+        turned: TurnOutcome,
+        now: Duration,
+    ) -> TurnOutcome {
+        match self.connections.get_mut(key) {
+            Some(client) => client.end_after(sockets, turned, now),
+            None => TurnOutcome::Gone,
+        }
+    }
+
+    // Makes a client wait for the end of the batch.
+    fn hold_back(&mut self, key: usize) -> TurnOutcome {
+        let Some(client) = self.connections.get(key) else {
+            return TurnOutcome::Gone;
+        };
+        let cost = client.member.cost;
+        if self.deferred.push(key, client.deferred_bytes(), cost) {
+            TurnOutcome::Deferred
+        } else {
+            TurnOutcome::Failed(StreamFault::Memory)
+        }
+    }
+
+    /// Makes a client wait for the end of the batch if its response is deferred.
+    pub(crate) fn hold_back_deferred(&mut self, key: usize, turned: TurnOutcome) -> TurnOutcome {
+        match turned {
+            TurnOutcome::Deferred => self.hold_back(key),
+            _ => turned,
+        }
+    }
+
+    /// Queues a client, makes it wait for a large buffer, or closes it.
+    pub(crate) fn schedule(&mut self, key: usize, turned: TurnOutcome, now: Duration) {
+        match turned {
+            TurnOutcome::Again => {
+                self.queue(key);
+                self.free_large_buffer(key, now);
+            }
+            TurnOutcome::Rests | TurnOutcome::Deferred | TurnOutcome::Ready => {
+                self.free_large_buffer(key, now);
+            }
+            TurnOutcome::WantsLargeBuffer => self.request_large_buffer(key, now),
+            TurnOutcome::Gone | TurnOutcome::Failed(_) => self.close(key, now),
+        }
+    }
+
+    /// Counts a client that got its last response in this turn.
+    pub(crate) fn count_ending(&mut self, key: usize, was_ending: bool) {
+        if let Some(client) = self.connections.get(key)
+            && client.is_ending()
+            && !was_ending
+        {
+            self.ending = self.ending.saturating_add(1);
+        }
+    }
+
+    /// Counts the unsent bytes of a client for its class.
+    pub(crate) fn count_unsent(&mut self, key: usize) {
+        let Some(client) = self.connections.get_mut(key) else {
+            return;
+        };
+        let unsent = client.unsent();
+        self.fair.set_unsent(&mut client.member, unsent);
+    }
+
+    /// Charges the class of a client its share of a commit that took so long.
+    pub(crate) fn charge_share(&mut self, key: usize, took: u64, cost: u64) {
+        if let Some(client) = self.connections.get(key) {
+            self.fair.charge_share(client.member, took, cost);
+        }
+    }
+
+    // Determines the class of a client's next request, and queues the client there if the request
+    // is complete or the stream ends.
+    fn classify(&mut self, key: usize, tokens: &TokenTable) -> TurnOutcome {
+        match self.connections.get_mut(key) {
+            Some(client) => client.classify(&mut self.fair, key, tokens),
+            None => TurnOutcome::Gone,
+        }
+    }
+
+    /// Returns the class of a client.
+    pub(crate) fn class_of(&self, key: usize) -> usize {
+        match self.connections.get(key) {
+            Some(client) => client.member.class,
+            None => WITHOUT_TOKEN,
+        }
+    }
+
+    /// Determines the class of a client's next request if there is one.
+    pub(crate) fn classify_ready(
+        &mut self,
+        key: usize,
+        tokens: &TokenTable,
+        moved: TurnOutcome,
+    ) -> TurnOutcome {
+        match moved {
+            TurnOutcome::Ready => self.classify(key, tokens),
+            _ => moved,
+        }
+    }
+}
