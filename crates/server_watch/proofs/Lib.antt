@@ -1,1 +1,2 @@
 mod Salts
+mod Watches

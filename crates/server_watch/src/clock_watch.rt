@@ -1,6 +1,7 @@
 //! The watch over the clock. A jump of the clock holds purges, since a wrong time ends flights.
-ghost use Rattle.std.specs.Prelude.{◌≡◌, IfNone, IfSome};
-ghost use Rattle.server_watch.specs.ClockWatch.{IsDrift, IsJump, IsNear, is_held_in};
+ghost use Rattle.std.specs.Prelude.{◌≡◌, ◌↔◌, IfNone, IfSome, IsTrue, true, false};
+ghost use Rattle.server_watch.specs.ClockWatch.{IsDrift, IsDue, IsJump, IsNear, IsPlausible, IsWrong, ReportsWrong, confirmed, expected_at, held_after, is_held_in, jumps_after, jumps_of, last_change, news_of_right, state_of};
+ghost use Rattle.server_watch.specs.declared.clock_watch.ClockState.TheVariants as state;
 
 use admin_http::clock::ClockMetrics;
 use server_base::server_log::ClockEvent;
@@ -77,7 +78,9 @@ fn jump(moment: u64, expected: u64) -> Option<ClockEvent>
 }
 
 // Returns the time that the clock should return `now`, if it returned `last` then.
-fn expected_at(last: u64, then: Duration, now: Duration) -> u64 {
+fn expected_at(last: u64, then: Duration, now: Duration) -> u64
+    ensures { result ≡ expected_at last then now }
+{
     last.saturating_add(now.saturating_sub(then).as_secs())
 }
 
@@ -97,7 +100,10 @@ pub struct ClockWatch {
 impl ClockWatch {
     /// Creates a watch for a service with this retention, over a database that was last changed at
     /// this time. `is_watched` says whether the clock is read without a purge, too.
-    pub fn new(keep: Option<u64>, changed: Option<u64>, is_watched: bool) -> ClockWatch {
+    pub fn new(keep: Option<u64>, changed: Option<u64>, is_watched: bool) -> ClockWatch
+        ensures state { state_of result ≡ state.Unread (last_change keep changed) }
+        ensures jumps { jumps_of result ≡ 0 }
+    {
         let last = match (keep, changed) {
             (Some(keep), Some(changed)) => Some(LastChange {
                 changed,
@@ -124,7 +130,10 @@ impl ClockWatch {
     }
 
     /// Returns the metrics of the clock.
-    pub fn metrics(&self) -> ClockMetrics {
+    pub fn metrics(&self) -> ClockMetrics
+        ensures held { result.is_held ≡ is_held_in self.now }
+        ensures jumps { result.jumps ≡ jumps_of self.now }
+    {
         ClockMetrics {
             jumps: self.jumps,
             is_held: self.is_held(),
@@ -132,7 +141,11 @@ impl ClockWatch {
     }
 
     /// Records that an operator confirms the clock.
-    pub fn confirm(&mut self) {
+    pub fn confirm(&mut self)
+        ensures held { is_held_in self.new ≡ false }
+        ensures state { state_of self.new ≡ confirmed (state_of self.old) }
+        ensures jumps { jumps_of self.new ≡ jumps_of self.old }
+    {
         if self.is_held() {
             self.state = ClockState::Confirmed;
             self.looked = None;
@@ -140,7 +153,9 @@ impl ClockWatch {
     }
 
     /// Returns true if the clock is watched, and was not read for a second.
-    pub fn is_due(&self, now: Duration) -> bool {
+    pub fn is_due(&self, now: Duration) -> bool
+        ensures { IsTrue result ↔ IsDue self.now now }
+    {
         if !self.is_watched {
             return false;
         }
@@ -151,7 +166,19 @@ impl ClockWatch {
     }
 
     /// Records a time of the clock. Returns what became known of the clock, if anything.
-    pub fn look(&mut self, moment: u64, now: Duration) -> Option<ClockEvent> {
+    pub fn look(&mut self, moment: u64, now: Duration) -> Option<ClockEvent>
+        ensures held { (is_held_in self.new ≡ true) ↔ IsWrong (state_of self.old) moment now }
+        ensures free { is_held_in self.new ≡ false → IsPlausible (state_of self.old) moment now }
+        ensures wrong { IsWrong (state_of self.old) moment now
+            → state_of self.new ≡ held_after (state_of self.old) }
+        ensures right { IsPlausible (state_of self.old) moment now
+            → state_of self.new ≡ state.Right moment now }
+        ensures wrong_event { IsWrong (state_of self.old) moment now
+            → ReportsWrong (state_of self.old) moment now result }
+        ensures right_event { IsPlausible (state_of self.old) moment now
+            → result ≡ news_of_right (state_of self.old) }
+        ensures jumps { jumps_of self.new ≡ jumps_after result (jumps_of self.old) }
+    {
         self.looked = Some(now);
         let right = ClockState::Right(moment, now);
         match self.state {

@@ -1,7 +1,8 @@
 //! When ended entities are purged, and how many at once.
-ghost use Rattle.std.specs.Prelude.{◌≡◌, Some, true};
-ghost use Rattle.server_watch.specs.ClockWatch.{is_held_in};
-ghost use Rattle.server_watch.specs.Purger.{MayPurge, PurgesNothing, ReadsClock};
+ghost use Rattle.std.specs.Prelude.{◌≡◌, ◌⊎◌, Some, false, true};
+ghost use Rattle.server_watch.specs.ClockWatch.{confirmed, is_held_in, jumps_of, state_of};
+ghost use Rattle.server_watch.specs.Purger.{MayPurge, PurgesNothing, PurgesPlausibly, ReadsClock};
+ghost use Rattle.server_watch.specs.Purger.{WatchesClock, clock_of, is_held_by};
 
 use crate::clock_watch::ClockWatch;
 use admin_http::clock::ClockMetrics;
@@ -46,7 +47,9 @@ fn read_clock<M: Moments>(
     moments: &mut M,
     now: Duration,
 ) -> Option<ClockEvent>
-    ensures { ReadsClock M.Moments moments.old moments.new }
+    ensures reads { ReadsClock M.Moments moments.old moments.new }
+    ensures watches { WatchesClock M.Moments now (state_of clock.old) (state_of clock.new)
+        moments.old moments.new }
 {
     if !clock.is_due(now) {
         return None;
@@ -70,6 +73,12 @@ fn chunk<S: PurgeEnded + Drop, M: Moments>(
         service.old service.new moments.old moments.new }
     ensures held { is_held_in clock.new ≡ true → PurgesNothing S.Space S.GroupCommit.own M.Moments
         service.old service.new moments.old moments.new }
+    ensures plausible { PurgesNothing S.Space S.GroupCommit.own M.Moments
+        service.old service.new moments.old moments.new
+        ⊎ PurgesPlausibly S.Space S.GroupCommit.own M.Moments (Some keep) (state_of clock.old) now
+        service.old service.new moments.old moments.new }
+    ensures watches { WatchesClock M.Moments now (state_of clock.old) (state_of clock.new)
+        moments.old moments.new }
 {
     let moment = match moments.next() {
         Ok(moment) => moment,
@@ -103,7 +112,9 @@ pub struct Purger {
 
 impl Purger {
     /// Creates a schedule whose first purge is due at once, unless the clock holds it.
-    pub fn new(clock: ClockWatch) -> Purger {
+    pub fn new(clock: ClockWatch) -> Purger
+        ensures { clock_of result ≡ clock }
+    {
         Purger {
             clock,
             due: Duration::from_secs(0),
@@ -119,19 +130,27 @@ impl Purger {
     }
 
     /// Returns the metrics of the clock.
-    pub fn clock_metrics(&self) -> ClockMetrics {
+    pub fn clock_metrics(&self) -> ClockMetrics
+        ensures held { result.is_held ≡ is_held_by self.now }
+        ensures jumps { result.jumps ≡ jumps_of (clock_of self.now) }
+    {
         self.clock.metrics()
     }
 
     /// Records that an operator confirms the clock, so that purges are no longer held.
-    pub fn confirm_clock(&mut self) {
+    pub fn confirm_clock(&mut self)
+        ensures held { is_held_by self.new ≡ false }
+        ensures state { state_of (clock_of self.new) ≡ confirmed (state_of (clock_of self.old)) }
+    {
         self.clock.confirm();
         self.due = Duration::from_secs(0);
     }
 
     // Records the result of a chunk, and plans the next one. Returns how many items a purge removed
     // that ended with this chunk, if any.
-    fn plan(&mut self, purged: Option<Result<usize, PurgeFault>>, now: Duration) -> Option<usize> {
+    fn plan(&mut self, purged: Option<Result<usize, PurgeFault>>, now: Duration) -> Option<usize>
+        ensures { clock_of self.new ≡ clock_of self.old }
+    {
         let count = match purged {
             Some(Ok(count)) => count,
             Some(Err(_)) | None => 0,
@@ -158,8 +177,19 @@ impl Purger {
         moments: &mut M,
         now: Duration,
     ) -> PurgeStep
-        ensures { MayPurge S.Space S.GroupCommit.own M.Moments keep
+        ensures purges { MayPurge S.Space S.GroupCommit.own M.Moments keep
             service.old service.new moments.old moments.new }
+        ensures held { is_held_by self.new ≡ true
+            → PurgesNothing S.Space S.GroupCommit.own M.Moments
+            service.old service.new moments.old moments.new }
+        ensures plausible { PurgesNothing S.Space S.GroupCommit.own M.Moments
+            service.old service.new moments.old moments.new
+            ⊎ PurgesPlausibly S.Space S.GroupCommit.own M.Moments
+            keep (state_of (clock_of self.old)) now
+            service.old service.new moments.old moments.new }
+        ensures watches { WatchesClock M.Moments now
+            (state_of (clock_of self.old)) (state_of (clock_of self.new))
+            moments.old moments.new }
     {
         let rests = mem::replace(&mut self.rests, false);
         let Some(keep) = keep else {
@@ -179,7 +209,10 @@ impl Purger {
 
     // Reads the clock, if a reading is due.
     fn look<M: Moments>(&mut self, moments: &mut M, now: Duration) -> PurgeStep
-        ensures { ReadsClock M.Moments moments.old moments.new }
+        ensures reads { ReadsClock M.Moments moments.old moments.new }
+        ensures watches { WatchesClock M.Moments now
+            (state_of (clock_of self.old)) (state_of (clock_of self.new))
+            moments.old moments.new }
     {
         PurgeStep {
             clock: read_clock(&mut self.clock, moments, now),
