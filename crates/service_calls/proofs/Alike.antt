@@ -217,7 +217,7 @@ read_like m a b uss None (Some f) l = l
 read_like m a b uss (Some e) None l = l
 read_like m a b uss (Some e) (Some f) l = l
 
--- The effect of a call leaves airspaces alike, whoever the caller is.
+-- The effect of a call leaves airspaces alike, for each caller.
 effect_like : (m salt : List ℕ) (a b : Airspace) (caller : Option Caller) (op : Operation) → IsLike m a b → IsLike m (effect salt a caller op).0 (effect salt b caller op).0
 effect_like m salt a b None op l = l
 effect_like m salt a b (Some caller) NoRoute l = l

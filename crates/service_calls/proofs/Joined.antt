@@ -20,7 +20,7 @@ stops_then (Fault ∷ rs) qs h = stops_then rs qs h
 stops_then (Done x ∷ rs) qs h = stops_then rs qs h
 stops_then (Denied p m ∷ rs) qs h = stops_then rs qs h
 
-told_then : (rs qs : List Reply) → has_stopped rs ≡ false → delivered_replies (rs ++ qs) ≡ delivered_replies rs ++ delivered_replies qs
+pub told_then : (rs qs : List Reply) → has_stopped rs ≡ false → delivered_replies (rs ++ qs) ≡ delivered_replies rs ++ delivered_replies qs
 told_then [] qs h = refl
 told_then (Stopped ∷ rs) qs h = absurd (false≢true (sym h))
 told_then (Fault ∷ rs) qs h = told_then rs qs h
@@ -36,7 +36,7 @@ answered_then (c ∷ cs) (Fault ∷ rs) ds qs e h = answered_then cs rs ds qs (o
 answered_then (c ∷ cs) (Done x ∷ rs) ds qs e h = ap (λ (xs : List TimedCall). c ∷ xs) (answered_then cs rs ds qs (one_less (Done x) c rs cs e) h)
 answered_then (c ∷ cs) (Denied p m ∷ rs) ds qs e h = ap (λ (xs : List TimedCall). c ∷ xs) (answered_then cs rs ds qs (one_less (Denied p m) c rs cs e) h)
 
-replies_then : (salt : List ℕ) (a : Airspace) (cs ds : List TimedCall) → replies_of salt a (cs ++ ds) ≡ replies_of salt a cs ++ replies_of salt (airspace_after salt a cs) ds
+pub replies_then : (salt : List ℕ) (a : Airspace) (cs ds : List TimedCall) → replies_of salt a (cs ++ ds) ≡ replies_of salt a cs ++ replies_of salt (airspace_after salt a cs) ds
 replies_then salt a [] ds = refl
 replies_then salt a (c ∷ cs) ds = ap (λ (xs : List Reply). (step salt a c.0 c.1).1 ∷ xs) (replies_then salt (step salt a c.0 c.1).0 cs ds)
 

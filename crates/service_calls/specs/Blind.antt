@@ -35,7 +35,7 @@ CallIsBlind = (salt m : List ℕ) (a b : Airspace) (now : ℕ) (c : Call) → Is
     → ((step salt a now c).1 ≡ (step salt b now c).1)
     × IsLike m (step salt a now c).0 (step salt b now c).0
 
--- States that over any list of calls, whoever makes them, the USS gets the same replies, and the
+-- States that over any list of calls, by any callers, the USS gets the same replies, and the
 -- airspaces stay alike.
 abbrev pub RunIsBlind : Type 0
 RunIsBlind = (salt m : List ℕ) (cs : List TimedCall) (a b : Airspace) → IsLike m a b

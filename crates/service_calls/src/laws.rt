@@ -34,7 +34,7 @@ pub fn call_is_blind()
     ensures { CallIsBlind }
 {}
 
-/// States the same over any list of calls, whoever makes them.
+/// States the same over any list of calls, by any callers.
 ///
 /// Over batches, the delivered replies are those of the policy over the calls that did not fail
 /// (`batches_are_the_policy`). The law applies to these.

@@ -25,6 +25,7 @@ use Rattle.service_calls.specs.Run.{Answered, AskedInOrder, MayHaveStepped, Time
 use Rattle.service_calls.proofs.Runs.{answered}
 use Rattle.space_sql_schema.specs.declared.format.Format.TheVariants.{Two}
 use Rattle.space_sql_open.specs.declared.open_fault.OpenFault.{OpenFault}
+use Rattle.space_sql.specs.Closing.{ClosesTrees}
 use Rattle.space_sql.specs.Found.{FilesSpell, FindsSpelt, RefusesFound}
 use Rattle.space_sql.specs.Holding.{SqlSpaceModel, holds_of, is_sound_of, is_whole_of}
 use Rattle.space_sql.specs.Restart.{ClosesFiles, FilesHave, FilesLeft, LeavesFiles, LeavesTrees, without_log}
@@ -64,19 +65,25 @@ module _ {D : Type 0} {g : disk.Ghosts D} (before : Image) (old new : Service (S
         (λ a stands. ∥∥₁_map (found a stands) (λ it. (it.0, kept sound a stands it.0 it.1, inl (Two, it.3)))),
       )
 
-module _ {D : Type 0} {g : disk.Ghosts D} (before after : Image) (back : Held (FileStore D g)) (fault : OpenFault) (refuses : RefusesFound before (file_state back) fault) where
-  stands_on : HasCleanDisk (file_state back) → (a : Airspace) → StandFor before a → (db : Trees) → (file_state back).may_leave db → HoldsDatabase after db → StandFor after a
-  stands_on clean a (inl it) db may holds = elim (refuses.spelt clean it.0 a it.1 db may) [
+module _ {D : Type 0} {g : disk.Ghosts D} (before : Image) (back : Held (FileStore D g)) (fault : OpenFault) (refuses : RefusesFound before (file_state back) fault) where
+  stands_on : (after : Image) → HasCleanDisk (file_state back) → (a : Airspace) → StandFor before a → (db : Trees) → (file_state back).may_leave db → HoldsDatabase after db → StandFor after a
+  stands_on after clean a (inl it) db may holds = elim (refuses.spelt clean it.0 a it.1 db may) [
     | inl same ↦ inl (it.0, (db, holds, same))
     | inr second ↦ inl (Two, (db, holds, second))
   ]
-  stands_on clean a (inr it) db may holds = elim (refuses.unmade clean it.0 db may) [
+  stands_on after clean a (inr it) db may holds = elim (refuses.unmade clean it.0 db may) [
     | inl empty ↦ inr (inr (db, holds, empty), it.1)
     | inr made ↦ inl (Two, subst (λ b. FilesSpell Two after b) (sym it.1) (db, holds, made))
   ]
 
-  pub refused : (last : FileStore D g) → LeavesTrees back last → IsClean (store.view last) → FilesLeft last after → Continues before unasked after
-  refused last left clean may a stands = ∥∥₁_map (left.found clean after may) (λ it. (a, refl, stands_on (left.clean clean) a stands it.0 it.1 it.2))
+  pub refused : (after : Image) (last : FileStore D g) → LeavesTrees back last → IsClean (store.view last) → FilesLeft last after → Continues before unasked after
+  refused after last left clean may a stands = ∥∥₁_map (left.found clean after may) (λ it. (a, refl, stands_on after (left.clean clean) a stands it.0 it.1 it.2))
+
+  pub refused_closed : (after : Image) (files : Files D) → ClosesTrees back files → AreClean g files.log files.db → FilesHave g files after → Continues before unasked after × Continues before unasked (without_log after)
+  refused_closed after files closes clean have = (
+    (λ a stands. ∥∥₁_map (closes.found clean after have) (λ it. (a, refl, stands_on after (closes.clean clean) a stands it.0 it.1 it.2))),
+    (λ a stands. ∥∥₁_map (closes.found clean after have) (λ it. (a, refl, stands_on (without_log after) (closes.clean clean) a stands it.0 it.1 it.3))),
+  )
 
 pub life_leaves : (before after : Image) (runs : List Run) (a : Airspace) → StandFor before a → Lives before runs after → ∥ ((b : Airspace) × MayComeOfAll a runs b × StandFor after b) ∥₁
 life_leaves before after [] a stands same = ∣ (a, refl, subst (λ image. StandFor image a) (sym same) stands) ∣₁

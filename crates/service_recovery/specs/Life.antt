@@ -23,6 +23,7 @@ use Rattle.service_calls.specs.Run.{AskedInOrder, MayHaveStepped, TimedCall, air
 use Rattle.service_calls.specs.Purged.{MayHavePersistedPurged, Segment, airspace_after_batches, all_delivered_in}
 use Rattle.space_sql_schema.specs.declared.format.Format.{Format}
 use Rattle.space_sql_open.specs.declared.open_fault.OpenFault.{OpenFault}
+use Rattle.space_sql.specs.Closing.{ClosesTrees}
 use Rattle.space_sql.specs.Found.{AreUnmade, FilesSpell, FindsSpelt, RefusesFound}
 use Rattle.space_sql.specs.Holding.{SqlSpaceModel}
 use Rattle.space_sql.specs.Restart.{ClosesFiles, FilesHave, FilesLeft, LeavesFiles, LeavesTrees, without_log}
@@ -125,6 +126,15 @@ ContinuesRefused {D} g =
     → RefusesFound before (file_state back) fault
     → LeavesTrees back last → IsClean (store.view last) → FilesLeft last after
     → Continues before unasked after
+
+-- The same if `FailedOpen::close` closed the connection and returned its files, even if the log is
+-- gone then.
+abbrev pub ContinuesRefusedClosed : {D : Type 0} → disk.Ghosts D → Type 0
+ContinuesRefusedClosed {D} g =
+    (before after : Image) (back : Held (FileStore D g)) (fault : OpenFault) (files : Files D)
+    → RefusesFound before (file_state back) fault
+    → ClosesTrees back files → AreClean g files.log files.db → FilesHave g files after
+    → Continues before unasked after × Continues before unasked (without_log after)
 
 -- Holds if the runs follow each other, each over what the previous one left.
 abbrev pub Lives : Image → List Run → Image → Type 0

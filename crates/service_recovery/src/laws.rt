@@ -3,7 +3,7 @@
 ghost use Rattle.service_calls.specs.Purged.{OpenSegmentIsNotDurable};
 ghost use Rattle.service_recovery.specs.Crash.{CrashAfterCall, CrashAfterGroupedCall, CrashAfterBatch, quota_pending_of};
 ghost use Rattle.service_recovery.specs.InBatches.{ContinuesInBatches, ContinuesInBatchesClosed, SomeIsHeld};
-ghost use Rattle.service_recovery.specs.Life.{AloneIsStepped, AskedOn, ContinuesClosed, ContinuesRefused, ContinuesServed, LifeIsFound, LifeLeaves, PurgeRunIsPartly, UnstoppedIsExpected, UnstoppedIsDuePurged};
+ghost use Rattle.service_recovery.specs.Life.{AloneIsStepped, AskedOn, ContinuesClosed, ContinuesRefused, ContinuesRefusedClosed, ContinuesServed, LifeIsFound, LifeLeaves, PurgeRunIsPartly, UnstoppedIsExpected, UnstoppedIsDuePurged};
 ghost use Rattle.service_recovery.specs.Restart.{RestartAfterCall};
 
 use space_core::space::Space;
@@ -107,6 +107,15 @@ pub fn closed_run_in_batches_continues<S: Start>()
 /// `space_sql::laws::trees_left` returns.
 pub fn refusal_continues<S: Start>()
     ensures { ContinuesRefused ⟦<FileFrom<S> as Disk>⟧ }
+{}
+
+/// States the same if the connection is closed, which is what the program does, even if the log is
+/// then removed.
+///
+/// It applies if a failed `SqlSpace::open` returned a connection, and `FailedOpen::close` closed it
+/// and returned its files.
+pub fn closed_refusal_continues<S: Start>()
+    ensures { ContinuesRefusedClosed ⟦<FileFrom<S> as Disk>⟧ }
 {}
 
 /// States the effects of a whole life: runs in sequence, each over what a stop or a crash of the

@@ -8,3 +8,4 @@ pub mod Wholes
 pub mod Founds
 pub mod Restarts
 pub mod Remainders
+pub mod Closings

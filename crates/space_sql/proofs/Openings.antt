@@ -43,7 +43,7 @@ of_format schema P own stands f format e =
     let is : own ≡ format = cc in
     subst (λ (x : Format). schema ≡ schema_of x → P x) is f e
 
--- ---- what is told of an upgrade
+-- ---- whether an opening upgraded the database
 
 pub tells_first : (upgraded : Bool) (presence : Presence) → upgraded ≡ true → presence ≡ Whole One → (IsTrue upgraded ↔ (presence ≡ Whole One))
 tells_first upgraded presence is stands = ((λ yes. stands), (λ one. is))

@@ -1,20 +1,17 @@
 -- Proofs that relate one run to the next.
 use Rattle.std.specs.Prelude.{◌≡◌, IsTrue, false}
-use Rattle.std.proofs.Common.{inl, inr, arith, sym, subst}
-use Rattle.std.proofs.Math.Logic.{∥∥₁_elim, ∥∥₁_map}
+use Rattle.std.proofs.Common.{inl, inr, arith, subst}
+use Rattle.std.proofs.Math.Logic.{∥∥₁_map}
 use Rattle.std.proofs.lemmas.Grind.{not_there}
 use Rattle.sqlite_disk.specs.declared.Disk as disk
-use Rattle.sqlite_disk.specs.declared.Files.{Files}
 use Rattle.sqlite_store.specs.declared.store.FileStore.{FileStore}
 use Rattle.sqlite_store.specs.FileStore as store
 use Rattle.sqlite_trees.specs.View.{IsClean, IsQuiet}
-use Rattle.sqlite.specs.Closing.{HoldsAlone, IsCopied}
 use Rattle.sqlite.specs.Files.{file_state, over_files}
 use Rattle.sqlite_trees.specs.declared.store.Store as stores
 use Rattle.sqlite.specs.Held.{AreDatabases, Held, state}
 use Rattle.sqlite.specs.Recovery.{Image}
 use Rattle.sqlite.specs.State.{State, HasCleanDisk}
-use Rattle.sqlite.specs.WalReads.{AreClean}
 use Rattle.sqlite.proofs.Theorems.{opens_again}
 use Rattle.entity_core.specs.Airspace.{Airspace}
 use Rattle.space_core.specs.Space.{IsContent}
@@ -24,8 +21,8 @@ use Rattle.space_sql_schema.specs.declared.format.Format.TheVariants.{Two}
 use Rattle.space_sql_open.specs.declared.open_fault.OpenFault.{OpenFault}
 use Rattle.space_sql_open.specs.declared.open_fault.OpenFault.TheVariants.{Store}
 use Rattle.space_sql.specs.Found.{FilesSpell, FindsSpelt, RefusesFound, tables_of}
-use Rattle.space_sql.specs.Holding.{SqlSpaceModel, Rests, holds_of, is_whole_of}
-use Rattle.space_sql.specs.Restart.{ClosesFiles, FilesHave, FilesLeft, LeavesFiles, LeavesTrees, NextFinds, without_log}
+use Rattle.space_sql.specs.Holding.{SqlSpaceModel, holds_of, is_whole_of}
+use Rattle.space_sql.specs.Restart.{FilesLeft, LeavesFiles, LeavesTrees, NextFinds}
 use Rattle.space_sql.proofs.Crashes.{is_store, not_refused}
 
 module _ {D : Type 0} {g : disk.Ghosts D} (conn : Held (FileStore D g)) (last : FileStore D g) (numbered : IsClean (store.view last) → IsTrue (store.view last).is_numbered) (sound : IsClean (store.view last) → AreDatabases (store.recovers last)) (quiet : IsQuiet store.view store.faults store.recovers store.is_shielded conn.store last) where
@@ -47,27 +44,6 @@ module _ {D : Type 0} {g : disk.Ghosts D} (k : SqlSpaceModel (FileStore D g)) (l
     trees = left;
     held = found_held;
     content = λ clean whole a is image may. ∥∥₁_map (found_held clean whole image may) (λ it. subst (λ b. FilesSpell Two image b) (is.only it.0 it.1) it.2);
-  }
-
-module _ {D : Type 0} {g : disk.Ghosts D} (k : SqlSpaceModel (FileStore D g)) (files : Files D) (rests : Rests (file_state k.conn)) (copied : AreClean g files.log files.db → IsCopied k.conn files) where
-  is_copied : AreClean g files.log files.db → (image : Image) → FilesHave g files image → HoldsAlone image (file_state k.conn).committed.trees
-  is_copied clean image have = elim have [
-    | inl seen ↦ subst (λ i. HoldsAlone i (file_state k.conn).committed.trees) (sym seen) (copied clean).seen
-    | inr left ↦ (copied clean).left image left
-  ]
-
-  closes_held : AreClean g files.log files.db → is_whole_of over_files k → (image : Image) → FilesHave g files image → ∥ ((a : Airspace) × holds_of over_files k a × FilesSpell Two image a × FilesSpell Two (without_log image) a) ∥₁
-  closes_held clean whole image have =
-      let trees = (file_state k.conn).committed.trees in
-      let stays = rests.stays (copied clean).was_open in
-      let kept = whole trees stays in
-      let it = is_copied clean image have in
-      ∥∥₁_elim it.both squash₁ (λ both. ∥∥₁_map it.alone (λ alone. (kept.0, (trees, stays, kept.1), (trees, both, kept.1), (trees, alone, kept.1))))
-
-  pub closes_files : ClosesFiles k files
-  closes_files = record {
-    sound = λ clean. record { clean = (copied clean).was_clean; live = λ works. (copied clean).was_open };
-    held = closes_held;
   }
 
 next_held : {S : Type 0} (space : Ghosts (SqlSpaceModel S)) (image : Image) (a : Airspace) → ∥ FilesSpell Two image a ∥₁ → (next : SqlSpaceModel S) → FindsSpelt image space next → space.is_sound next → ∥ IsContent space.holds next a ∥₁

@@ -7,3 +7,4 @@ pub mod Load
 pub mod Found
 pub mod FailedOpen
 pub mod Restart
+pub mod Closing

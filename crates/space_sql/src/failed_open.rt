@@ -1,4 +1,7 @@
 //! The files of a database that was not adopted.
+ghost use Rattle.space_sql.specs.Closing.{ClosesRemains};
+
+use crate::left_files::{LeftFiles, close_connection};
 use sqlite::{Connection, FileStore, Leftover};
 use sqlite_disk::Disk;
 
@@ -13,14 +16,17 @@ pub enum FailedOpen<D: Disk> {
 }
 
 impl<D: Disk + Drop> FailedOpen<D> {
-    /// Closes what is open.
-    pub fn close(self) {
+    /// Closes what is open, and returns what is left of the files.
+    pub fn close(self) -> LeftFiles<D>
+        ensures { ClosesRemains self result }
+    {
         match self {
-            FailedOpen::Nothing => {}
-            FailedOpen::Files(left) => drop(left.into_files()),
-            FailedOpen::Connection(conn) => {
-                let _ = conn.close();
-            }
+            FailedOpen::Nothing => LeftFiles::Nothing,
+            FailedOpen::Files(left) => LeftFiles::Closed(left.into_files()),
+            FailedOpen::Connection(conn) => match close_connection(conn) {
+                Ok(files) => LeftFiles::Closed(files),
+                Err(store) => LeftFiles::Unclosed(store),
+            },
         }
     }
 }

@@ -5,6 +5,7 @@ mod answers;
 pub mod batch;
 pub mod failed_open;
 pub mod laws;
+pub mod left_files;
 mod load;
 pub mod open;
 pub mod purge;

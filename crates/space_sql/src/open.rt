@@ -23,10 +23,12 @@ ghost use Rattle.space_sql.specs.Found.{FindsSpelt, IsOver, RefusesFound};
 ghost use Rattle.space_sql.specs.FailedOpen.{RefusesOpening};
 ghost use Rattle.space_sql.specs.Load.{IsAllOf};
 ghost use Rattle.space_sql.specs.OpenResult.{HoldsEmpty, HoldsSpelt, HoldsSpeltAs, IsDueFault, IsDueFaultAs, IsFresh, IsUnwritten, IsUnwrittenAs, MayBeOpened, is_format_1};
+ghost use Rattle.space_sql.specs.Closing.{KeepsFiles};
 ghost use Rattle.space_sql.specs.Restart.{ClosesFiles};
 
 use crate::answers::at_rest;
 use crate::failed_open::FailedOpen;
+use crate::left_files::close_connection;
 use crate::load::is_ours;
 use crate::space::SqlSpace;
 use space_core::space::{Space, SpaceFault};
@@ -372,32 +374,17 @@ impl<S: Start> SqlSpace<FileStore<FileFrom<S>>> {
 
     /// Closes the files and returns them.
     ///
-    /// Returns `Broken` if that fails. Then the space is gone, too, and nothing is said of the
-    /// files.
-    pub fn close_files(self) -> Result<Files<FileFrom<S>>, SpaceFault>
-        ensures broken { IfErr result (λ fault. fault ≡ SpaceFault.Broken) }
+    /// Returns `Broken` if that fails, with the store that is left of the files. A crash then leaves
+    /// of them only what the space held.
+    pub fn close_files(self) -> Result<Files<FileFrom<S>>, (SpaceFault, FileStore<FileFrom<S>>)>
+        ensures broken { IfErr result (λ e. e.0 ≡ SpaceFault.Broken) }
         ensures closed { IfOk result (λ files. ClosesFiles self files) }
+        ensures left { IfErr result (λ e. KeepsFiles self e.1) }
     {
-        let conn = self.release();
-        at_rest(&conn);
-        match conn.close_files() {
+        let _broken = self.broken;
+        match close_connection(self.release()) {
             Ok(files) => Ok(files),
-            Err((_, store)) => {
-                drop(store.close());
-                Err(SpaceFault::Broken)
-            }
-        }
-    }
-
-    /// Closes the space and its files.
-    ///
-    /// Returns `Broken` like `close_files`.
-    pub fn close(self) -> Result<(), SpaceFault>
-        ensures broken { IfErr result (λ fault. fault ≡ SpaceFault.Broken) }
-    {
-        match self.close_files() {
-            Ok(_) => Ok(()),
-            Err(fault) => Err(fault),
+            Err(store) => Err((SpaceFault::Broken, store)),
         }
     }
 }

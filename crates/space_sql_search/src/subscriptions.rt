@@ -87,7 +87,7 @@ pub fn find_subscriptions_of<S: Alter>(
 }
 
 /// Returns the subscriptions for a kind whose volume meets an area, in ascending order of ids,
-/// whoever manages them. Otherwise it behaves like `find_subscriptions_of`.
+/// of all managers. Otherwise it behaves like `find_subscriptions_of`.
 pub fn find_subscribers<S: Alter>(
     alloc: Global,
     conn: &mut Connection<S>,
