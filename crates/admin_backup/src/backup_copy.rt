@@ -8,10 +8,11 @@ use std::io::ErrorKind;
 use std::os::unix::fs::{DirBuilderExt, FileExt, OpenOptionsExt};
 use std::{io, mem};
 
-// The names of the files in a backup.
-const FILE_NAME: &str = "dss.db";
+/// The name of the database file in a backup.
+pub(crate) const FILE_NAME: &str = "dss.db";
 
-const LOG_NAME: &str = "dss.db-wal";
+/// The name of the log in a backup.
+pub(crate) const LOG_NAME: &str = "dss.db-wal";
 
 // The maximum number of bytes of changed pages that are copied at once with the log.
 const LAST_PAGES: u64 = 2_097_152;
@@ -41,8 +42,8 @@ pub(crate) fn unwritten(cause: io::Error) -> BackupResult {
     }
 }
 
-// Creates a file that only its owner can read.
-fn new_file(rt: &HostRuntime, name: &str) -> io::Result<File> {
+/// Creates a file that only its owner can read.
+pub(crate) fn new_file(rt: &HostRuntime, name: &str) -> io::Result<File> {
     OpenOptions::new()
         .write(true)
         .create_new(true)
@@ -59,8 +60,8 @@ fn begun_files(rt: &HostRuntime, begun: &str) -> io::Result<(File, File)> {
     Ok((copied, backup_log))
 }
 
-// Syncs a directory.
-fn sync_folder(rt: &HostRuntime, name: &str) -> io::Result<()> {
+/// Syncs a directory.
+pub(crate) fn sync_folder(rt: &HostRuntime, name: &str) -> io::Result<()> {
     File::open(rt, name)?.sync_all()
 }
 
@@ -148,7 +149,7 @@ impl BackupCopy {
     }
 
     /// Removes the partial backup.
-    pub(crate) fn give_up(self, rt: &HostRuntime) {
+    pub(crate) fn abort(self, rt: &HostRuntime) {
         let _ = fs::remove_dir_all(rt, self.places.begun.as_str());
     }
 
@@ -159,17 +160,17 @@ impl BackupCopy {
             return Err(io::Error::from(ErrorKind::InvalidData));
         };
         if header == self.header {
-            self.frames = header.mark_from(&self.log, self.frames, &mut self.logged)?;
+            self.frames = header.mark_from(&self.file, &self.log, self.frames, &mut self.logged)?;
             return Ok(true);
         }
         let mut logged = PageSet::new(alloc);
-        let frames = header.mark_from(&self.log, 0, &mut logged)?;
+        let frames = header.mark_from(&self.file, &self.log, 0, &mut logged)?;
         let overwritten = header.length(frames).saturating_add(WRITTEN_AHEAD);
         let is_known = header.is_next_of(self.header)
             && overwritten <= self.header.length(self.frames);
         if is_known {
             self.header
-                .mark_from(&self.log, self.frames, &mut self.logged)?;
+                .mark_from(&self.file, &self.log, self.frames, &mut self.logged)?;
             self.changed.absorb(&mut self.logged)?;
         }
         self.header = header;

@@ -140,7 +140,7 @@ impl<'a> BackupDir<'a> {
             }
             Ok(Some(size)) => Some(BackupResult::Made(size)),
             Err(backup) => {
-                copy.give_up(self.rt);
+                copy.abort(self.rt);
                 Some(backup)
             }
         }
@@ -149,7 +149,7 @@ impl<'a> BackupDir<'a> {
     /// Aborts the backup in progress and removes its partial files.
     pub fn abort(&mut self) {
         if let Some(copy) = self.copy.take() {
-            copy.give_up(self.rt);
+            copy.abort(self.rt);
         }
     }
 }

@@ -15,7 +15,8 @@ use Rattle.admin_http.specs.declared.web_page.OwnHosts.{OwnHosts}
 -- Returns true if the value of a field Host names the admin port.
 abbrev pub is_own_host : OwnHosts → List ℕ → Bool
 is_own_host hosts value =
-    bytes_eq value (string_bytes hosts.address) || bytes_eq value (string_bytes hosts.name)
+    bytes_eq value (string_bytes hosts.address)
+    || (bytes_eq value (string_bytes hosts.ipv6) || bytes_eq value (string_bytes hosts.name))
 
 -- Returns true if a field names another host.
 abbrev pub names_other_host : OwnHosts → (List ℕ × List ℕ) → Bool
@@ -60,6 +61,7 @@ HasAllowedHead hosts bytes (parse.Invalid rule) = Unit {0}
 
 -- The body of the response to a forbidden request.
 abbrev pub text_of : Forbidden → List ℕ
-text_of why.Host = codes "forbidden: the field Host must be 127.0.0.1 or localhost, with the port\n"
+text_of why.Host =
+    codes "forbidden: the field Host must be 127.0.0.1, [::1] or localhost, with the port\n"
 text_of why.Page = codes "forbidden: a web page sent the request\n"
 text_of why.Unconfirmed = codes "forbidden: a POST requires the field X-Dss-Admin: 1\n"

@@ -21,4 +21,5 @@ pub mod requests;
 pub mod service_metrics;
 pub mod store_metrics;
 pub mod tokens;
+pub mod uss_metrics;
 pub mod web_page;

@@ -39,6 +39,7 @@ pub(crate) fn metrics(
     let mut text = Exposition::new(alloc);
     figures.connections.put(&mut text)?;
     figures.requests.put(&mut text, alloc)?;
+    figures.suppliers.put(&mut text)?;
     figures.faults.put(&mut text)?;
     figures.kept.put(&mut text)?;
     figures.purged.put(&mut text)?;

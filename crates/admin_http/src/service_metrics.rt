@@ -12,6 +12,8 @@ use crate::purged::PurgeMetrics;
 use crate::requests::RequestMetrics;
 use crate::store_metrics::StoreMetrics;
 use crate::tokens::TokenMetrics;
+use crate::uss_metrics::UssMetrics;
+use std::alloc::Global;
 
 /// Converts a number from any address width.
 pub(crate) fn wide(number: usize) -> u64 {
@@ -23,12 +25,14 @@ pub(crate) fn wide(number: usize) -> u64 {
 
 /// The metrics and the health of a service. Each group of metrics has a module of its own, with its
 /// lines.
-#[derive(Clone, Copy, Debug)]
+#[derive(Debug, Drop)]
 pub struct ServiceMetrics {
     /// The metrics of clients' connections.
     pub connections: ConnectionMetrics,
     /// The metrics of requests and their responses.
     pub requests: RequestMetrics,
+    /// The metrics of requests by USS.
+    pub suppliers: UssMetrics,
     /// The metrics of failures of the machine.
     pub faults: FailureMetrics,
     /// The metrics of the stored airspace.
@@ -46,12 +50,13 @@ pub struct ServiceMetrics {
 
 impl ServiceMetrics {
     /// Creates metrics of zero, for a service that answers calls.
-    pub fn new() -> ServiceMetrics
+    pub fn new(alloc: Global) -> ServiceMetrics
         ensures { health_of result ≡ health.Serving }
     {
         ServiceMetrics {
             connections: ConnectionMetrics::new(),
             requests: RequestMetrics::new(),
+            suppliers: UssMetrics::new(alloc),
             faults: FailureMetrics::new(),
             kept: StoreMetrics::unknown(),
             purged: PurgeMetrics::new(),

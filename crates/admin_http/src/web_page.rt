@@ -10,11 +10,12 @@ ghost use Rattle.admin_http.specs.WebPage.{IsAllowed, IsForbidden, comes_from_pa
 use httparse::spans::HeaderSpan;
 use std::alloc::{AllocError, Global};
 
-/// The values of the field `Host` that name the admin port: its address or `localhost`, with the
-/// port.
+/// The values of the field `Host` that name the admin port: an address of the loopback interface or
+/// `localhost`, with the port.
 #[derive(Debug, Drop)]
 pub struct OwnHosts {
     address: String,
+    ipv6: String,
     name: String,
 }
 
@@ -23,11 +24,14 @@ impl OwnHosts {
     pub fn new(alloc: Global, port: u16) -> Result<OwnHosts, AllocError>
         ensures address { IfOk result (λ hosts.
             string_bytes hosts.address ≡ codes "127.0.0.1:" ++ decimal port) }
+        ensures ipv6 { IfOk result (λ hosts.
+            string_bytes hosts.ipv6 ≡ codes "[::1]:" ++ decimal port) }
         ensures name { IfOk result (λ hosts.
             string_bytes hosts.name ≡ codes "localhost:" ++ decimal port) }
     {
         Ok(OwnHosts {
             address: format!(in alloc; "127.0.0.1:{port}")?,
+            ipv6: format!(in alloc; "[::1]:{port}")?,
             name: format!(in alloc; "localhost:{port}")?,
         })
     }
@@ -36,7 +40,9 @@ impl OwnHosts {
     fn has(&self, value: &[u8]) -> bool
         ensures { result ≡ is_own_host self.now value.now }
     {
-        value == self.address.as_bytes() || value == self.name.as_bytes()
+        value == self.address.as_bytes()
+            || value == self.ipv6.as_bytes()
+            || value == self.name.as_bytes()
     }
 }
 
@@ -157,7 +163,7 @@ pub(crate) fn forbidden_text(why: Forbidden) -> &'static str
 {
     match why {
         Forbidden::Host => {
-            "forbidden: the field Host must be 127.0.0.1 or localhost, with the port\n"
+            "forbidden: the field Host must be 127.0.0.1, [::1] or localhost, with the port\n"
         }
         Forbidden::Page => "forbidden: a web page sent the request\n",
         Forbidden::Unconfirmed => "forbidden: a POST requires the field X-Dss-Admin: 1\n",

@@ -28,12 +28,12 @@ fn copy_file(rt: &HostRuntime, name: &str, to: &str) -> Result<(), Fault> {
             Ok(true) => {}
             Ok(false) => return copying.finish(),
             Err(fault) => {
-                copying.give_up();
+                copying.abort();
                 return Err(fault);
             }
         }
     }
-    copying.give_up();
+    copying.abort();
     Err(Fault::Copy(BackupFault::Read))
 }
 

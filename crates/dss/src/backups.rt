@@ -26,7 +26,7 @@ impl<'a> MakeBackups for PortBackups<'a> {
         progress_of(self.folder.step())
     }
 
-    fn give_up(&mut self) {
+    fn abort(&mut self) {
         self.folder.abort();
     }
 }

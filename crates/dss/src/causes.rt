@@ -4,7 +4,7 @@ use os::RangeLock;
 use space_sql_open::open_fault::OpenFault;
 use std::fs::OpenOptions;
 use std::io::{ErrorKind, Read};
-use std::net::Ipv4Addr;
+use std::net::SocketAddr;
 use std::os::fd::AsRawFd;
 use std::{fs, io};
 
@@ -88,9 +88,9 @@ impl<'a> Causes<'a> {
     }
 
     /// Prints the system's error for a port.
-    pub(crate) fn print_port_cause(self, address: Ipv4Addr, port: u16, cause: &io::Error) {
+    pub(crate) fn print_port_cause(self, address: SocketAddr, cause: &io::Error) {
         if self.are_told {
-            let _ = eprintln!(self.rt; "dss: cause: {address}:{port}: {cause}");
+            let _ = eprintln!(self.rt; "dss: cause: {address}: {cause}");
         }
     }
 

@@ -20,7 +20,7 @@ use server_base::limits::{Limits, MAX_CONNECTIONS};
 use server_watch::token_watch::TokenWatch;
 use sqlite::Start;
 use std::io::Write;
-use std::net::Ipv4Addr;
+use std::net::SocketAddr;
 use std::{fs, io};
 use token_conf::token_table::TokenTable;
 use wire_http::Moments;
@@ -60,37 +60,42 @@ struct Ports<'a> {
 impl<'a> Listen for Ports<'a> {
     type Sockets = PortSockets<'a>;
 
+    type Backups = PortBackups<'a>;
+
     type Log = SystemLog<'a>;
 
     fn log(&mut self) -> Option<SystemLog<'a>> {
         self.log.take()
     }
 
+    fn backups(&mut self) -> Option<PortBackups<'a>> {
+        self.backups.take()
+    }
+
     fn listen(
         self,
-        address: Ipv4Addr,
-        port: u16,
-        operators: Option<u16>,
+        addresses: &[SocketAddr],
+        operators: Option<SocketAddr>,
     ) -> io::Result<PortSockets<'a>> {
         let Ports {
             rt,
             log: _,
-            backups,
+            backups: _,
             database,
             causes,
         } = self;
-        PortSockets::listen(rt, address, port, operators, backups, database, causes)
+        PortSockets::listen(rt, addresses, operators, database, causes)
     }
 }
 
 // Returns the admin port of a command line. If the system returns no time, the start is at 0.
 fn operated(rt: &HostRuntime, given: &ServeArgs<'_>) -> Option<AdminListener> {
-    let port = given.admin_port?;
+    let address = given.admin_port?;
     let started = match SystemClock::new(rt).next() {
         Ok(moment) => moment,
         Err(_) => 0,
     };
-    Some(AdminListener { port, started })
+    Some(AdminListener { address, started })
 }
 
 // Opens the backup directory of a command line.
@@ -187,7 +192,10 @@ pub(crate) fn serve<F: Start, E: Write>(
     let changed = last_change(rt, given.database);
     let (space, listed) = match open_database(rt, given.database, start) {
         Ok(taken) => taken,
-        Err(fault) => {
+        Err(failure) => {
+            // Drops the files first. Otherwise `dss` would report their locks as those of another
+            // process.
+            let fault = Fault::from(failure);
             causes.print_database_cause(given.database, &fault);
             return Err(fault);
         }
@@ -201,8 +209,7 @@ pub(crate) fn serve<F: Start, E: Write>(
     };
     let answering = ServeConfig {
         tokens: &tokens,
-        address: given.listen,
-        port: given.port,
+        addresses: given.listen.as_slice(),
         limits: limits_of(rt, given),
         keep: given.retention,
         changed,

@@ -137,13 +137,13 @@ impl<'a> Copying<'a> {
     pub(crate) fn finish(self) -> Result<(), Fault> {
         let put = self.put();
         if put.is_err() {
-            self.give_up();
+            self.abort();
         }
         put
     }
 
     /// Removes the copy.
-    pub(crate) fn give_up(self) {
+    pub(crate) fn abort(self) {
         let _ = remove(self.rt, self.begun.as_str());
     }
 }

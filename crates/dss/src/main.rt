@@ -8,6 +8,7 @@ mod clock;
 mod connections;
 mod copying;
 mod descriptors;
+mod live;
 mod log_file;
 mod loopback;
 mod machine;

@@ -1,7 +1,7 @@
 //! The commands on this system.
 use crate::loopback::{self, SelfArgs};
 use crate::run::{self, RunArgs};
-use crate::{backup, connections, purge, tokens_command};
+use crate::{backup, connections, live, purge, tokens_command};
 use dss_args::serve_args::ServeArgs;
 use dss_command::fault::Fault;
 use dss_command::line::Commands;
@@ -70,9 +70,16 @@ impl<'a, F: Start> Commands for Program<'a, F> {
         Ok(())
     }
 
-    fn backup(self, database: &str, to: &str) -> Result<(), Fault> {
+    fn backup(self, database: &str, to: &str, live: bool) -> Result<(), Fault> {
         let Program { rt, start } = self;
+        if live {
+            return live::back_up(rt, database, to);
+        }
         backup::backup(rt, database, to, start)
+    }
+
+    fn verify<W: Write>(self, file: &str, output: &mut W) -> Result<(), Fault> {
+        live::verify(self.rt, file, output)
     }
 
     fn upgrade<W: Write>(self, database: &str, output: &mut W) -> Result<(), Fault> {

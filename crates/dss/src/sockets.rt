@@ -1,24 +1,26 @@
 //! The sockets of the system, watched together.
-use crate::backups::PortBackups;
 use crate::causes::Causes;
 use crate::machine::machine_metrics;
 use admin_http::machine::MachineMetrics;
 use mio::event::Event;
 use mio::net::{TcpListener, TcpStream};
 use mio::{Events, Interest, Poll, Token};
-use server_base::sockets::{AcceptFault, EventSource, Socket, SocketEvent, Sockets};
+use server_base::sockets::{
+    AcceptFault, AdminSocket, ClientSocket, EventSource, SocketEvent, Sockets,
+};
 use std::io;
 use std::io::{ErrorKind, Read, Write};
-use std::net::{Ipv4Addr, Shutdown, SocketAddr, SocketAddrV4};
+use std::net::{Shutdown, SocketAddr};
 use std::time::{Duration, Instant};
 
-// The tokens of the listeners. The token of a client is its key, which is less. The token of an
-// admin connection is its key plus the last constant.
+// The token of the listeners for clients, and that of the admin port's listener. The token of a
+// client is its key, which is less. The token of an admin connection is its key plus the last
+// constant.
 const LISTENER: usize = 1_000_000;
 
-const OPERATORS_LISTENER: usize = 1_000_001;
+const ADMIN_LISTENER: usize = 1_000_001;
 
-const OPERATORS: usize = 2_000_000;
+const ADMIN_CONNECTIONS: usize = 2_000_000;
 
 // The maximum number of events taken at once.
 const EVENTS: usize = 1_024;
@@ -39,21 +41,22 @@ pub(crate) struct Client {
     address: SocketAddr,
 }
 
-impl Socket for Client {
-    ghost use Rattle.std.specs.Prelude.{None};
+impl ClientSocket for Client {
+    // The history of these sockets is unknown, so that no name is in it.
+    ghost name = { λ _. 0 };
 
-    // the bytes of a socket are unknown
-    ghost coming = { λ _. None };
-
-    ghost gone = { λ _. None };
-
-    fn client(&self) -> Option<SocketAddrV4> {
-        match self.address {
-            SocketAddr::V4(address) => Some(address),
-            SocketAddr::V6(_) => None,
-        }
+    fn client(&self) -> Option<SocketAddr> {
+        Some(self.address)
     }
+}
 
+/// The socket of an admin connection.
+#[derive(Drop)]
+pub(crate) struct Admin {
+    stream: TcpStream,
+}
+
+impl AdminSocket for Admin {
     fn receive(&mut self, chunk: &mut [u8]) -> io::Result<usize> {
         self.stream.read(chunk)
     }
@@ -67,19 +70,20 @@ impl Socket for Client {
     }
 }
 
-/// The sockets of a port of this machine.
+/// The sockets of the ports of this machine.
 #[derive(Drop)]
 pub(crate) struct PortSockets<'a> {
     rt: &'a HostRuntime,
     start: Instant,
     poll: Poll,
-    listener: TcpListener,
+    listeners: Vec<TcpListener>,
+    // The index of the listener that is tried next.
+    turn: usize,
     operators: Option<TcpListener>,
     events: Events,
     ready: Vec<SocketEvent>,
     // The number of events already taken.
     taken: usize,
-    backups: Option<PortBackups<'a>>,
     // The name of the database file.
     database: &'a str,
 }
@@ -88,8 +92,8 @@ pub(crate) struct PortSockets<'a> {
 fn watched_as(token: usize) -> EventSource {
     match token {
         LISTENER => EventSource::Port,
-        OPERATORS_LISTENER => EventSource::OperatorsPort,
-        _ if token >= OPERATORS => EventSource::Operator(token - OPERATORS),
+        ADMIN_LISTENER => EventSource::AdminPort,
+        _ if token >= ADMIN_CONNECTIONS => EventSource::AdminConnection(token - ADMIN_CONNECTIONS),
         _ => EventSource::Client(token),
     }
 }
@@ -98,9 +102,9 @@ fn watched_as(token: usize) -> EventSource {
 fn token_of(which: EventSource) -> usize {
     match which {
         EventSource::Port => LISTENER,
-        EventSource::OperatorsPort => OPERATORS_LISTENER,
+        EventSource::AdminPort => ADMIN_LISTENER,
         EventSource::Client(key) => key,
-        EventSource::Operator(key) => OPERATORS.saturating_add(key),
+        EventSource::AdminConnection(key) => ADMIN_CONNECTIONS.saturating_add(key),
     }
 }
 
@@ -108,15 +112,14 @@ fn token_of(which: EventSource) -> usize {
 fn listener_on(
     rt: &HostRuntime,
     poll: &Poll,
-    address: Ipv4Addr,
-    port: u16,
+    address: SocketAddr,
     which: EventSource,
     causes: Causes<'_>,
 ) -> io::Result<TcpListener> {
-    let mut listener = match TcpListener::bind(rt, SocketAddr::from((address, port))) {
+    let mut listener = match TcpListener::bind(rt, address) {
         Ok(listener) => listener,
         Err(cause) => {
-            causes.print_port_cause(address, port, &cause);
+            causes.print_port_cause(address, &cause);
             return Err(cause);
         }
     };
@@ -127,11 +130,11 @@ fn listener_on(
 }
 
 // Accepts the next connection of a listener.
-fn accept_client(listener: &TcpListener) -> Result<Client, AcceptFault> {
+fn accept_stream(listener: &TcpListener) -> Result<(TcpStream, SocketAddr), AcceptFault> {
     match listener.accept() {
         Ok((stream, address)) => {
             let _ = stream.set_nodelay(true);
-            Ok(Client { stream, address })
+            Ok((stream, address))
         }
         Err(cause) => Err(accept_fault(cause)),
     }
@@ -162,70 +165,111 @@ fn accept_fault(cause: io::Error) -> AcceptFault {
 }
 
 impl<'a> PortSockets<'a> {
-    /// Listens on a port of an address, and on the admin port of 127.0.0.1 if there is one. Makes
-    /// backups of the database if there is a directory for them.
+    /// Listens on the ports of these addresses, and on the admin port if there is one.
     pub(crate) fn listen(
         rt: &'a HostRuntime,
-        address: Ipv4Addr,
-        port: u16,
-        operators: Option<u16>,
-        backups: Option<PortBackups<'a>>,
+        addresses: &[SocketAddr],
+        operators: Option<SocketAddr>,
         database: &'a str,
         causes: Causes<'a>,
     ) -> io::Result<PortSockets<'a>> {
         let poll = Poll::new(rt)?;
-        let listener = listener_on(rt, &poll, address, port, EventSource::Port, causes)?;
+        let mut listeners = Vec::with_capacity(rt.alloc(), addresses.len())?;
+        for address in addresses {
+            let listener = listener_on(rt, &poll, *address, EventSource::Port, causes)?;
+            listeners.push(listener)?;
+        }
         let operators = match operators {
-            Some(port) => Some(listener_on(
-                rt,
-                &poll,
-                Ipv4Addr::LOCALHOST,
-                port,
-                EventSource::OperatorsPort,
-                causes,
-            )?),
+            Some(address) => Some(listener_on(rt, &poll, address, EventSource::AdminPort, causes)?),
             None => None,
         };
         Ok(PortSockets {
             rt,
             start: Instant::now(rt)?,
             poll,
-            listener,
+            listeners,
+            turn: 0,
             operators,
             events: Events::with_capacity(rt.alloc(), EVENTS)?,
             ready: Vec::with_capacity(rt.alloc(), EVENTS)?,
             taken: 0,
-            backups,
             database,
         })
     }
 }
 
-impl<'a> Sockets for PortSockets<'a> {
-    type Client = Client;
-
-    type Backups = PortBackups<'a>;
-
-    fn backups(&mut self) -> Option<&mut PortBackups<'a>> {
-        self.backups.as_mut()
-    }
-
-    fn accept(&mut self) -> Result<Client, AcceptFault> {
-        accept_client(&self.listener)
-    }
-
-    fn accept_operator(&mut self) -> Result<Client, AcceptFault> {
-        match &self.operators {
-            Some(listener) => accept_client(listener),
+impl<'a> PortSockets<'a> {
+    // Accepts the next connection of the listener whose turn it is. Each one gets its turn.
+    fn accept_in_turn(&mut self) -> Result<Client, AcceptFault> {
+        let turn = self.turn;
+        let next = turn.saturating_add(1);
+        self.turn = if next < self.listeners.len() { next } else { 0 };
+        match self.listeners.get(turn) {
+            Some(listener) => {
+                let (stream, address) = accept_stream(listener)?;
+                Ok(Client { stream, address })
+            }
             None => Err(AcceptFault::NoneWaits),
         }
     }
 
-    fn watch(&mut self, client: &mut Client, which: EventSource) -> io::Result<()> {
+    // Registers a stream for events from that source.
+    fn register(&mut self, stream: &mut TcpStream, which: EventSource) -> io::Result<()> {
         let interests = Interest::READABLE | Interest::WRITABLE;
         self.poll
             .registry()
-            .register(&mut client.stream, Token(token_of(which)), interests)
+            .register(stream, Token(token_of(which)), interests)
+    }
+}
+
+impl<'a> Sockets for PortSockets<'a> {
+    ghost use Rattle.std.specs.Prelude.{None};
+
+    type Client = Client;
+
+    type Admin = Admin;
+
+    // What arrives at the sockets of the system is not known in advance.
+    ghost history = { λ _. None };
+
+    fn accept(&mut self) -> Result<Client, AcceptFault> {
+        for _ in 0..self.listeners.len() {
+            match self.accept_in_turn() {
+                Err(AcceptFault::NoneWaits) => {}
+                taken => return taken,
+            }
+        }
+        Err(AcceptFault::NoneWaits)
+    }
+
+    fn receive(&mut self, client: &mut Client, chunk: &mut [u8]) -> io::Result<usize> {
+        client.stream.read(chunk)
+    }
+
+    fn send(&mut self, client: &mut Client, bytes: &[u8]) -> io::Result<usize> {
+        client.stream.write(bytes)
+    }
+
+    fn end_sending(&mut self, client: &mut Client) -> io::Result<()> {
+        client.stream.shutdown(Shutdown::Write)
+    }
+
+    fn watch(&mut self, client: &mut Client, key: usize) -> io::Result<()> {
+        self.register(&mut client.stream, EventSource::Client(key))
+    }
+
+    fn accept_admin(&mut self) -> Result<Admin, AcceptFault> {
+        match &self.operators {
+            Some(listener) => {
+                let (stream, _) = accept_stream(listener)?;
+                Ok(Admin { stream })
+            }
+            None => Err(AcceptFault::NoneWaits),
+        }
+    }
+
+    fn watch_admin(&mut self, socket: &mut Admin, key: usize) -> io::Result<()> {
+        self.register(&mut socket.stream, EventSource::AdminConnection(key))
     }
 
     fn wait(&mut self, patience: Option<Duration>) -> io::Result<()> {

@@ -1,26 +1,26 @@
 -- What the getters of `clap`'s matches read from the rows of the matches.
-use Rattle.std.proofs.Common.{◌≡◌, ◌<◌, ◌^◌, ℕ, List, Option, Some, None, codes, refl, sym, subst, inl, inr, ap, ◌∙◌, arith, false}
-use Rattle.std.specs.Prelude.{Bool, IfNone, IfSome, is_some, not, option_map, true, ◌⊎◌}
+use Rattle.std.proofs.Common.{◌≡◌, ◌<◌, ◌^◌, ℕ, List, Option, Some, None, codes, refl, sym, inl, inr, ap, ◌∙◌, arith, false}
+use Rattle.std.specs.Prelude.{Bool, IfNone, IfSome, find, is_some, not, option_and_then, option_map, slice_get, true, ◌⊎◌}
 use Rattle.std.specs.Borrow.{Bor}
-use Rattle.std.specs.Net.Grammar.{IsIpv4Text}
-use Rattle.std.specs.declared.net.ipv4_addr.Ipv4Addr.{Ipv4Addr}
 use Rattle.std.specs.Str.{bytes_eq}
 use Rattle.std.specs.Str.Parse.{IsNumeral, digits_value, without_leading_plus}
 use Rattle.std.proofs.lemmas.Bool.Decides.{not_from_Decides}
 use Rattle.std.proofs.lemmas.Slice.Eq.{bytes_eq-Decides}
 use Rattle.clap.specs.Matches.{one_text}
 use Rattle.clap.specs.Kinds.{IsAmong}
+use Rattle.clap.specs.Values.{read_as}
+use Rattle.clap.specs.Walk.{row_text}
 use Rattle.clap.specs.Words.{Row, Text, first_of, rows_of}
 use Rattle.clap.specs.declared.parser.matches.Found.{Found}
 use Rattle.clap.proofs.WalkLemmas.{one_text-rows}
 use Rattle.clap.specs.declared.error.kind.ErrorKind.{ErrorKind}
 use Rattle.clap.specs.declared.error.kind.ErrorKind.TheVariants.{DisplayHelp, DisplayVersion, OutOfMemory}
-use Rattle.dss_args.specs.CommandArgs.{Asks, AsksNothing, Explains, HasChoice, HasListen, HasNumber, HasNumberIn, HasServing, HasValues, is_set, line_of_options}
+use Rattle.dss_args.specs.CommandArgs.{Asks, AsksNothing, Explains, HasChoice, HasNumber, HasNumberIn, HasServing, HasValues, is_set, line_of_options}
 use Rattle.dss_args.specs.declared.serve_args.ServeArgs.{ServeArgs}
 use Rattle.dss_args.specs.LineFault.{IsFaultOf}
 use Rattle.dss_args.specs.declared.fault.LineFault.{LineFault}
 use Rattle.dss_args.specs.declared.fault.LineFault.TheVariants as fault
-use Rattle.dss_args.specs.declared.command_args.CommandArgs.TheVariants.{Backup, Cell, CheckTokens, Loopback, NewSalt, NewToken, Report, Run, Serve, Purge, Upgrade}
+use Rattle.dss_args.specs.declared.command_args.CommandArgs.TheVariants.{Backup, Cell, CheckTokens, Explain, Loopback, NewSalt, NewToken, Report, Run, Serve, Purge, Upgrade, Verify}
 
 -- A number that was read is that of the argument's text.
 pub number_from_text : (f : Found) (id : Text) (n : ℕ) → (one_text f id ≡ None → Some n ≡ None) → ((t : List ℕ) → one_text f id ≡ Some t → (IsNumeral 10 (without_leading_plus t) × (digits_value 10 (without_leading_plus t) < 2 ^ 64)) × (n ≡ digits_value 10 (without_leading_plus t))) → HasNumber id (rows_of f) n
@@ -53,8 +53,10 @@ nothing_of_run rows none (Run tokens now database requests) asks = none tokens n
 nothing_of_run rows none (Serve given) asks = other _ _ refl asks.0
 nothing_of_run rows none (Loopback tokens now request) asks = other _ _ refl asks.0
 nothing_of_run rows none (Cell token) asks = other _ _ refl asks.0
+nothing_of_run rows none (Explain method target now) asks = other _ _ refl asks.0
 nothing_of_run rows none (Report database places) asks = other _ _ refl asks.0
-nothing_of_run rows none (Backup database to) asks = other _ _ refl asks.0
+nothing_of_run rows none (Backup database to live) asks = other _ _ refl asks.0
+nothing_of_run rows none (Verify file) asks = other _ _ refl asks.0
 nothing_of_run rows none (Upgrade database) asks = other _ _ refl asks.0
 nothing_of_run rows none (Purge database until now) asks = other _ _ refl asks.0
 nothing_of_run rows none (CheckTokens file) asks = other _ _ refl asks.0
@@ -67,8 +69,10 @@ nothing_of_serve rows none (Run tokens now database requests) asks = other _ _ r
 nothing_of_serve rows none (Serve given) asks = none given asks.1
 nothing_of_serve rows none (Loopback tokens now request) asks = other _ _ refl asks.0
 nothing_of_serve rows none (Cell token) asks = other _ _ refl asks.0
+nothing_of_serve rows none (Explain method target now) asks = other _ _ refl asks.0
 nothing_of_serve rows none (Report database places) asks = other _ _ refl asks.0
-nothing_of_serve rows none (Backup database to) asks = other _ _ refl asks.0
+nothing_of_serve rows none (Backup database to live) asks = other _ _ refl asks.0
+nothing_of_serve rows none (Verify file) asks = other _ _ refl asks.0
 nothing_of_serve rows none (Upgrade database) asks = other _ _ refl asks.0
 nothing_of_serve rows none (Purge database until now) asks = other _ _ refl asks.0
 nothing_of_serve rows none (CheckTokens file) asks = other _ _ refl asks.0
@@ -81,8 +85,10 @@ nothing_of_self rows none (Run tokens now database requests) asks = other _ _ re
 nothing_of_self rows none (Serve given) asks = other _ _ refl asks.0
 nothing_of_self rows none (Loopback tokens now request) asks = none tokens now request asks.1
 nothing_of_self rows none (Cell token) asks = other _ _ refl asks.0
+nothing_of_self rows none (Explain method target now) asks = other _ _ refl asks.0
 nothing_of_self rows none (Report database places) asks = other _ _ refl asks.0
-nothing_of_self rows none (Backup database to) asks = other _ _ refl asks.0
+nothing_of_self rows none (Backup database to live) asks = other _ _ refl asks.0
+nothing_of_self rows none (Verify file) asks = other _ _ refl asks.0
 nothing_of_self rows none (Upgrade database) asks = other _ _ refl asks.0
 nothing_of_self rows none (Purge database until now) asks = other _ _ refl asks.0
 nothing_of_self rows none (CheckTokens file) asks = other _ _ refl asks.0
@@ -95,13 +101,31 @@ nothing_of_cell rows none (Run tokens now database requests) asks = other _ _ re
 nothing_of_cell rows none (Serve given) asks = other _ _ refl asks.0
 nothing_of_cell rows none (Loopback tokens now request) asks = other _ _ refl asks.0
 nothing_of_cell rows none (Cell token) asks = none token asks.1
+nothing_of_cell rows none (Explain method target now) asks = other _ _ refl asks.0
 nothing_of_cell rows none (Report database places) asks = other _ _ refl asks.0
-nothing_of_cell rows none (Backup database to) asks = other _ _ refl asks.0
+nothing_of_cell rows none (Backup database to live) asks = other _ _ refl asks.0
+nothing_of_cell rows none (Verify file) asks = other _ _ refl asks.0
 nothing_of_cell rows none (Upgrade database) asks = other _ _ refl asks.0
 nothing_of_cell rows none (Purge database until now) asks = other _ _ refl asks.0
 nothing_of_cell rows none (CheckTokens file) asks = other _ _ refl asks.0
 nothing_of_cell rows none (NewToken uss scopes) asks = other _ _ refl asks.0
 nothing_of_cell rows none NewSalt asks = other _ _ refl asks.0
+
+-- The subcommand `explain` requests nothing if no command line has the values.
+pub nothing_of_explain : (rows : List Row) → ((method target : Bor (List ℕ)) (now : Option ℕ) → HasValues rows (Explain method target now) → ⊥) → AsksNothing (Some (codes "explain", rows))
+nothing_of_explain rows none (Run tokens now database requests) asks = other _ _ refl asks.0
+nothing_of_explain rows none (Serve given) asks = other _ _ refl asks.0
+nothing_of_explain rows none (Loopback tokens now request) asks = other _ _ refl asks.0
+nothing_of_explain rows none (Cell token) asks = other _ _ refl asks.0
+nothing_of_explain rows none (Explain method target now) asks = none method target now asks.1
+nothing_of_explain rows none (Report database places) asks = other _ _ refl asks.0
+nothing_of_explain rows none (Backup database to live) asks = other _ _ refl asks.0
+nothing_of_explain rows none (Verify file) asks = other _ _ refl asks.0
+nothing_of_explain rows none (Upgrade database) asks = other _ _ refl asks.0
+nothing_of_explain rows none (Purge database until now) asks = other _ _ refl asks.0
+nothing_of_explain rows none (CheckTokens file) asks = other _ _ refl asks.0
+nothing_of_explain rows none (NewToken uss scopes) asks = other _ _ refl asks.0
+nothing_of_explain rows none NewSalt asks = other _ _ refl asks.0
 
 -- The subcommand `report` requests nothing if no command line has the values.
 pub nothing_of_report : (rows : List Row) → ((database : Bor (List ℕ)) (places : Bool) → HasValues rows (Report database places) → ⊥) → AsksNothing (Some (codes "report", rows))
@@ -109,8 +133,10 @@ nothing_of_report rows none (Run tokens now database requests) asks = other _ _ 
 nothing_of_report rows none (Serve given) asks = other _ _ refl asks.0
 nothing_of_report rows none (Loopback tokens now request) asks = other _ _ refl asks.0
 nothing_of_report rows none (Cell token) asks = other _ _ refl asks.0
+nothing_of_report rows none (Explain method target now) asks = other _ _ refl asks.0
 nothing_of_report rows none (Report database places) asks = none database places asks.1
-nothing_of_report rows none (Backup database to) asks = other _ _ refl asks.0
+nothing_of_report rows none (Backup database to live) asks = other _ _ refl asks.0
+nothing_of_report rows none (Verify file) asks = other _ _ refl asks.0
 nothing_of_report rows none (Upgrade database) asks = other _ _ refl asks.0
 nothing_of_report rows none (Purge database until now) asks = other _ _ refl asks.0
 nothing_of_report rows none (CheckTokens file) asks = other _ _ refl asks.0
@@ -118,18 +144,36 @@ nothing_of_report rows none (NewToken uss scopes) asks = other _ _ refl asks.0
 nothing_of_report rows none NewSalt asks = other _ _ refl asks.0
 
 -- The subcommand `backup` requests nothing if no command line has the values.
-pub nothing_of_backup : (rows : List Row) → ((database to : Bor (List ℕ)) → HasValues rows (Backup database to) → ⊥) → AsksNothing (Some (codes "backup", rows))
+pub nothing_of_backup : (rows : List Row) → ((database to : Bor (List ℕ)) (live : Bool) → HasValues rows (Backup database to live) → ⊥) → AsksNothing (Some (codes "backup", rows))
 nothing_of_backup rows none (Run tokens now database requests) asks = other _ _ refl asks.0
 nothing_of_backup rows none (Serve given) asks = other _ _ refl asks.0
 nothing_of_backup rows none (Loopback tokens now request) asks = other _ _ refl asks.0
 nothing_of_backup rows none (Cell token) asks = other _ _ refl asks.0
+nothing_of_backup rows none (Explain method target now) asks = other _ _ refl asks.0
 nothing_of_backup rows none (Report database places) asks = other _ _ refl asks.0
-nothing_of_backup rows none (Backup database to) asks = none database to asks.1
+nothing_of_backup rows none (Backup database to live) asks = none database to live asks.1
+nothing_of_backup rows none (Verify file) asks = other _ _ refl asks.0
 nothing_of_backup rows none (Upgrade database) asks = other _ _ refl asks.0
 nothing_of_backup rows none (Purge database until now) asks = other _ _ refl asks.0
 nothing_of_backup rows none (CheckTokens file) asks = other _ _ refl asks.0
 nothing_of_backup rows none (NewToken uss scopes) asks = other _ _ refl asks.0
 nothing_of_backup rows none NewSalt asks = other _ _ refl asks.0
+
+-- The subcommand `verify` requests nothing if no command line has the values.
+pub nothing_of_verify : (rows : List Row) → ((file : Bor (List ℕ)) → HasValues rows (Verify file) → ⊥) → AsksNothing (Some (codes "verify", rows))
+nothing_of_verify rows none (Run tokens now database requests) asks = other _ _ refl asks.0
+nothing_of_verify rows none (Serve given) asks = other _ _ refl asks.0
+nothing_of_verify rows none (Loopback tokens now request) asks = other _ _ refl asks.0
+nothing_of_verify rows none (Cell token) asks = other _ _ refl asks.0
+nothing_of_verify rows none (Explain method target now) asks = other _ _ refl asks.0
+nothing_of_verify rows none (Report database places) asks = other _ _ refl asks.0
+nothing_of_verify rows none (Backup database to live) asks = other _ _ refl asks.0
+nothing_of_verify rows none (Verify file) asks = none file asks.1
+nothing_of_verify rows none (Upgrade database) asks = other _ _ refl asks.0
+nothing_of_verify rows none (Purge database until now) asks = other _ _ refl asks.0
+nothing_of_verify rows none (CheckTokens file) asks = other _ _ refl asks.0
+nothing_of_verify rows none (NewToken uss scopes) asks = other _ _ refl asks.0
+nothing_of_verify rows none NewSalt asks = other _ _ refl asks.0
 
 -- The subcommand `upgrade` requests nothing if no command line has the values.
 pub nothing_of_upgrade : (rows : List Row) → ((database : Bor (List ℕ)) → HasValues rows (Upgrade database) → ⊥) → AsksNothing (Some (codes "upgrade", rows))
@@ -137,8 +181,10 @@ nothing_of_upgrade rows none (Run tokens now database requests) asks = other _ _
 nothing_of_upgrade rows none (Serve given) asks = other _ _ refl asks.0
 nothing_of_upgrade rows none (Loopback tokens now request) asks = other _ _ refl asks.0
 nothing_of_upgrade rows none (Cell token) asks = other _ _ refl asks.0
+nothing_of_upgrade rows none (Explain method target now) asks = other _ _ refl asks.0
 nothing_of_upgrade rows none (Report database places) asks = other _ _ refl asks.0
-nothing_of_upgrade rows none (Backup database to) asks = other _ _ refl asks.0
+nothing_of_upgrade rows none (Backup database to live) asks = other _ _ refl asks.0
+nothing_of_upgrade rows none (Verify file) asks = other _ _ refl asks.0
 nothing_of_upgrade rows none (Upgrade database) asks = none database asks.1
 nothing_of_upgrade rows none (Purge database until now) asks = other _ _ refl asks.0
 nothing_of_upgrade rows none (CheckTokens file) asks = other _ _ refl asks.0
@@ -151,8 +197,10 @@ nothing_of_purge rows none (Run tokens now database requests) asks = other _ _ r
 nothing_of_purge rows none (Serve given) asks = other _ _ refl asks.0
 nothing_of_purge rows none (Loopback tokens now request) asks = other _ _ refl asks.0
 nothing_of_purge rows none (Cell token) asks = other _ _ refl asks.0
+nothing_of_purge rows none (Explain method target now) asks = other _ _ refl asks.0
 nothing_of_purge rows none (Report database places) asks = other _ _ refl asks.0
-nothing_of_purge rows none (Backup database to) asks = other _ _ refl asks.0
+nothing_of_purge rows none (Backup database to live) asks = other _ _ refl asks.0
+nothing_of_purge rows none (Verify file) asks = other _ _ refl asks.0
 nothing_of_purge rows none (Upgrade database) asks = other _ _ refl asks.0
 nothing_of_purge rows none (Purge database until now) asks = none database until now asks.1
 nothing_of_purge rows none (CheckTokens file) asks = other _ _ refl asks.0
@@ -191,8 +239,10 @@ nothing_of_tokens rows check new scopes flag a b c d none (Run tokens now databa
 nothing_of_tokens rows check new scopes flag a b c d none (Serve given) asks = other _ _ refl asks.0
 nothing_of_tokens rows check new scopes flag a b c d none (Loopback tokens now request) asks = other _ _ refl asks.0
 nothing_of_tokens rows check new scopes flag a b c d none (Cell token) asks = other _ _ refl asks.0
+nothing_of_tokens rows check new scopes flag a b c d none (Explain method target now) asks = other _ _ refl asks.0
 nothing_of_tokens rows check new scopes flag a b c d none (Report database places) asks = other _ _ refl asks.0
-nothing_of_tokens rows check new scopes flag a b c d none (Backup database to) asks = other _ _ refl asks.0
+nothing_of_tokens rows check new scopes flag a b c d none (Backup database to live) asks = other _ _ refl asks.0
+nothing_of_tokens rows check new scopes flag a b c d none (Verify file) asks = other _ _ refl asks.0
 nothing_of_tokens rows check new scopes flag a b c d none (Upgrade database) asks = other _ _ refl asks.0
 nothing_of_tokens rows check new scopes flag a b c d none (Purge database until now) asks = other _ _ refl asks.0
 nothing_of_tokens rows check new scopes flag a b c d none (CheckTokens file) (named, has) =
@@ -233,14 +283,6 @@ pub some_too : {A : Type 0} (o : Option A) (P Q : A → Type 0) → ((a : A) →
 some_too None P Q more p = tt
 some_too (Some x) P Q more p = more x p
 
--- A text that is no address is not listened on.
-pub listens_nowhere : (rows : List Row) (text : Text) → first_of (codes "listen") rows ≡ Some text → ((a : Ipv4Addr) → IsIpv4Text text a → ⊥) → (a : Ipv4Addr) → HasListen rows a → ⊥
-listens_nowhere rows text there none a has =
-    elim has [
-      | inl is ↦ let same : Some text ≡ Some is.0 = sym there ∙ is.1 in let texts : is.0 ≡ text = cc in none a (subst (λ (t : Text). IsIpv4Text t a) texts is.2)
-      | inr is ↦ absent _ text is.0 there
-    ]
-
 -- A text is found if it is present.
 pub found_where : (o : Option (Bor (List ℕ))) (found : Option Text) → option_map (λ word. word.now) o ≡ found → is_some found ≡ is_some o
 found_where None found is = ap is_some (sym is)
@@ -260,6 +302,18 @@ no_text (Some word) found none is = let bad : true ≡ false = none in cc
 pub some_text : (o : Option (Bor (List ℕ))) (found : Option Text) → is_some o ≡ true → option_map (λ word. word.now) o ≡ found → found ≡ None → ⊥
 some_text None found some is none = let bad : false ≡ true = some in cc
 some_text (Some word) found some is none = let bad : Some word.now ≡ None = is ∙ none in cc
+
+-- An argument with a number is present.
+pub number_present : (id : Text) (rows : List Row) (n : ℕ) → HasNumber id rows n → first_of id rows ≡ None → ⊥
+number_present id rows n (text, is, numeral, value) none = go (find (λ r. bytes_eq r.id id) rows) is none
+  where
+    more : (r : Row) (o : Option Text) → option_map (read_as r.reading) o ≡ Some text → o ≡ None → ⊥
+    more r None some none = let bad : None ≡ Some text = some in cc
+    more r (Some v) some none = let bad : Some v ≡ None = none in cc
+
+    go : (o : Option Row) → option_and_then row_text o ≡ Some text → option_and_then (λ (r : Row). slice_get r.values 0) o ≡ None → ⊥
+    go None some none = let bad : None ≡ Some text = some in cc
+    go (Some r) some none = more r (slice_get r.values 0) some none
 
 -- An option that is present, and whose value is no number in its range, has no choice.
 pub no_choice : (id : Text) (least greatest : ℕ) (rows : List Row) → ((n : ℕ) → HasNumberIn id least greatest rows n → ⊥) → (first_of id rows ≡ None → ⊥) → (choice : Option ℕ) → HasChoice id least greatest rows choice → ⊥

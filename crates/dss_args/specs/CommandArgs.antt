@@ -24,12 +24,15 @@ use Rattle.std.specs.Prelude.{
 use Rattle.std.specs.Cmp.Lexicographic.{pointwise}
 use Rattle.std.specs.Option.{option_map_or}
 use Rattle.std.specs.Borrow.{Bor}
-use Rattle.std.specs.Net.Addr.{ipv4_octets}
-use Rattle.std.specs.Net.Grammar.{IsIpv4Text}
+use Rattle.std.specs.Net.Addr.{IsLoopbackV6, IsV4And, MatchIp, ipv4_octets}
+use Rattle.std.specs.Net.Grammar.{IsIpText, IsSocketText}
+use Rattle.std.specs.Net.Socket.{IsPlainSocket, socket_ip, socket_port}
+use Rattle.std.specs.declared.net.ip_addr.IpAddr.{IpAddr}
 use Rattle.std.specs.declared.net.ipv4_addr.Ipv4Addr.{Ipv4Addr}
+use Rattle.std.specs.declared.net.socket_addr.SocketAddr.{SocketAddr}
 use Rattle.std.specs.Str.Parse.{IsNumeral, digits_value, without_leading_plus}
 use Rattle.clap.specs.Kinds.{IsAmong}
-use Rattle.clap.specs.Words.{Row, Text, first_of, one_of}
+use Rattle.clap.specs.Words.{Row, Text, all_of, first_of, one_of}
 use Rattle.clap.specs.declared.error.kind.ErrorKind.{ErrorKind}
 use Rattle.dss_args.specs.LineFault.{IsFaultOf}
 use Rattle.dss_args.specs.declared.fault.LineFault.{LineFault}
@@ -48,6 +51,7 @@ use Rattle.dss_args.specs.declared.command_args.CommandArgs.TheVariants.{
   Backup,
   Cell,
   CheckTokens,
+  Explain,
   Loopback,
   NewSalt,
   NewToken,
@@ -56,6 +60,7 @@ use Rattle.dss_args.specs.declared.command_args.CommandArgs.TheVariants.{
   Serve,
   Purge,
   Upgrade,
+  Verify,
 }
 use Rattle.dss_args.specs.declared.serve_args.ServeArgs.{ServeArgs}
 
@@ -83,11 +88,54 @@ abbrev pub HasNumberOr : Text → ℕ → ℕ → ℕ → List Row → ℕ → T
 HasNumberOr id least greatest otherwise rows n =
     HasNumberIn id least greatest rows n ⊎ ((first_of id rows ≡ None) × (n ≡ otherwise))
 
--- The address to listen on: the option's, or 127.0.0.1 by default.
-abbrev pub HasListen : List Row → Ipv4Addr → Type 0
-HasListen rows a =
-    ((text : List ℕ) × (first_of (codes "listen") rows ≡ Some text) × IsIpv4Text text a)
-    ⊎ ((first_of (codes "listen") rows ≡ None) × (ipv4_octets a ≡ 127 ∷ 0 ∷ 0 ∷ 1 ∷ []))
+-- The address 127.0.0.1.
+abbrev pub IsLocalV4 : Ipv4Addr → Type 0
+IsLocalV4 ip = ipv4_octets ip ≡ 127 ∷ 0 ∷ 0 ∷ 1 ∷ []
+
+-- Holds if this is 127.0.0.1 with the port.
+abbrev pub IsLocal : SocketAddr → ℕ → Type 0
+IsLocal a port = IsV4And (socket_ip a) IsLocalV4 × IsPlainSocket a port
+
+-- Holds if this is 127.0.0.1 or ::1.
+abbrev pub IsLoopback : IpAddr → Type 0
+IsLoopback ip = MatchIp ip IsLocalV4 IsLoopbackV6
+
+-- Holds if the text is this address with its port, which is not 0.
+abbrev pub IsAddress : Text → SocketAddr → Type 0
+IsAddress text a = IsSocketText text a × (1 ≤ socket_port a)
+
+-- Holds if the text of `--listen` is this address. A text without a port has that of `--port`.
+abbrev pub IsListen : (port : Option ℕ) → Text → SocketAddr → Type 0
+IsListen port text a =
+    ((n : ℕ) × (port ≡ Some n) × IsIpText text (socket_ip a) × IsPlainSocket a n) ⊎ IsAddress text a
+
+-- Holds if the texts of `--listen` are these addresses, in order.
+abbrev pub AreListens : (port : Option ℕ) → List Text → List SocketAddr → Type 0
+AreListens port [] [] = Unit {0}
+AreListens port [] (a ∷ addresses) = ⊥
+AreListens port (text ∷ rest) [] = ⊥
+AreListens port (text ∷ rest) (a ∷ addresses) =
+    IsListen port text a × AreListens port rest addresses
+
+-- The addresses to listen on: those of `--listen`, or 127.0.0.1 with the port of `--port`.
+abbrev pub ListensOn : (port : Option ℕ) → Option (List Text) → List SocketAddr → Type 0
+ListensOn port None addresses =
+    (a : SocketAddr) × (n : ℕ) × (addresses ≡ a ∷ []) × (port ≡ Some n) × IsLocal a n
+ListensOn port (Some texts) addresses = AreListens port texts addresses
+
+-- The addresses to listen on, of these arguments.
+abbrev pub HasListen : List Row → List SocketAddr → Type 0
+HasListen rows addresses =
+    (port : Option ℕ) × HasChoice (codes "port") 1 MAX_PORT rows port
+    × ListensOn port (all_of (codes "listen") rows) addresses
+
+-- The address of the admin port: 127.0.0.1 with the option's number, or the option's address.
+abbrev pub HasAdmin : List Row → Option SocketAddr → Type 0
+HasAdmin rows None = first_of (codes "admin-port") rows ≡ None
+HasAdmin rows (Some a) =
+    ((n : ℕ) × HasNumberIn (codes "admin-port") 1 MAX_PORT rows n × IsLocal a n)
+    ⊎ ((text : List ℕ) × (first_of (codes "admin-port") rows ≡ Some text) × IsAddress text a
+    × IsLoopback (socket_ip a))
 
 -- True if a flag is set.
 abbrev pub is_set : Text → List Row → Bool
@@ -115,8 +163,7 @@ lacks_port rows =
 pub record HasServing (rows : List Row) (given : ServeArgs) : Type 0 where
   pub tokens : first_of (codes "tokens") rows ≡ Some given.tokens.now
   pub database : first_of (codes "db") rows ≡ Some given.database.now
-  pub listen : HasListen rows given.listen
-  pub port : HasNumberIn (codes "port") 1 MAX_PORT rows given.port
+  pub listen : HasListen rows given.listen.items
   pub count : HasChoice (codes "count") 1 MAX_COUNT rows given.count
   pub max_connections :
       HasNumberOr (codes "max-connections") 1 MAX_CONNECTIONS MAX_CONNECTIONS rows
@@ -126,7 +173,7 @@ pub record HasServing (rows : List Row) (given : ServeArgs) : Type 0 where
       given.response_memory
   pub quota : HasChoice (codes "quota") 1 MAX_QUOTA rows given.quota
   pub retention : HasChoice (codes "retention") 1 MAX_TIME rows given.retention
-  pub admin_port : HasChoice (codes "admin-port") 1 MAX_PORT rows given.admin_port
+  pub admin_port : HasAdmin rows given.admin_port
   pub backup_dir : HasText (codes "backup-dir") rows given.backup_dir
   pub access_log : HasText (codes "access-log") rows given.access_log
   pub copies : lacks_port rows ≡ false
@@ -139,8 +186,10 @@ name_of (Run tokens now database requests) = codes "run"
 name_of (Serve given) = codes "serve"
 name_of (Loopback tokens now request) = codes "self"
 name_of (Cell token) = codes "cell"
+name_of (Explain method target now) = codes "explain"
 name_of (Report database places) = codes "report"
-name_of (Backup database to) = codes "backup"
+name_of (Backup database to live) = codes "backup"
+name_of (Verify file) = codes "verify"
 name_of (Upgrade database) = codes "upgrade"
 name_of (Purge database until now) = codes "purge"
 name_of (CheckTokens file) = codes "tokens"
@@ -160,10 +209,16 @@ HasValues rows (Loopback tokens now request) =
     × HasNumberIn (codes "now") 0 MAX_TIME rows now
     × (first_of (codes "request") rows ≡ Some request.now)
 HasValues rows (Cell token) = first_of (codes "token") rows ≡ Some token.now
+HasValues rows (Explain method target now) =
+    (first_of (codes "method") rows ≡ Some method.now)
+    × (first_of (codes "target") rows ≡ Some target.now)
+    × HasChoice (codes "now") 0 MAX_TIME rows now
 HasValues rows (Report database places) =
     (first_of (codes "db") rows ≡ Some database.now) × (is_set (codes "cells") rows ≡ places)
-HasValues rows (Backup database to) =
+HasValues rows (Backup database to live) =
     (first_of (codes "db") rows ≡ Some database.now) × (first_of (codes "to") rows ≡ Some to.now)
+    × (is_set (codes "live") rows ≡ live)
+HasValues rows (Verify file) = first_of (codes "file") rows ≡ Some file.now
 HasValues rows (Upgrade database) = first_of (codes "db") rows ≡ Some database.now
 HasValues rows (Purge database until now) =
     (first_of (codes "db") rows ≡ Some database.now)

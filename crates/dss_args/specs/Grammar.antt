@@ -15,7 +15,7 @@ use Rattle.clap.specs.Words.{
 use Rattle.clap.specs.declared.builder.command.Command.{Command}
 use Rattle.clap.specs.declared.builder.command.Command.TheViews.{out-Command}
 use Rattle.clap.specs.declared.builder.value_parser.ValueParser.TheVariants.{Unsigned}
-use Rattle.clap.specs.declared.builder.action.ArgAction.TheVariants.{SetTrue}
+use Rattle.clap.specs.declared.builder.action.ArgAction.TheVariants.{Append, SetTrue}
 use Rattle.dss_args.specs.declared.command_args.TheConstants.{
   MAX_QUOTA,
   MAX_TIME,
@@ -60,13 +60,6 @@ database_rule = record (new_rule (codes "db")) { long = Some (codes "db"); value
 abbrev pub store_rule : Rule
 store_rule = record (option_rule (codes "db")) { value_names = 1 }
 
--- The value is a port number, from 1.
-abbrev pub port_rule : Rule
-port_rule = record (option_rule (codes "port")) {
-  value_names = 1;
-  parser = Some (Unsigned 1 MAX_PORT);
-}
-
 -- An optional argument with a number in this range.
 abbrev pub number_rule : Text → ℕ → ℕ → Rule
 number_rule name least greatest = record (new_rule name) {
@@ -78,6 +71,10 @@ number_rule name least greatest = record (new_rule name) {
 -- An optional argument with a value.
 abbrev pub choice_rule : Text → Rule
 choice_rule name = record (new_rule name) { long = Some name; value_names = 1 }
+
+-- The addresses to listen on: an option with a value, as often as it is given.
+abbrev pub listen_rule : Rule
+listen_rule = record (choice_rule (codes "listen")) { action = Some Append }
 
 -- A flag, which is set or not.
 abbrev pub flag_rule : Text → Rule
@@ -96,8 +93,17 @@ request_rule = record (word_rule (codes "request")) { value_names = 1 }
 abbrev pub token_rule : Rule
 token_rule = record (word_rule (codes "token")) { value_names = 1 }
 
+abbrev pub method_rule : Rule
+method_rule = record (word_rule (codes "method")) { value_names = 1 }
+
+abbrev pub target_rule : Rule
+target_rule = record (word_rule (codes "target")) { value_names = 1 }
+
 abbrev pub to_rule : Rule
 to_rule = record (word_rule (codes "to")) { value_names = 1 }
+
+abbrev pub file_rule : Rule
+file_rule = record (word_rule (codes "file")) { value_names = 1 }
 
 -- ---- subcommands
 
@@ -109,17 +115,18 @@ run_app =
 
 -- The required options of `serve`.
 abbrev pub serve_needs : App
-serve_needs =
-    with_rule (with_rule (with_rule (new_app (codes "serve")) tokens_rule) store_rule) port_rule
+serve_needs = with_rule (with_rule (new_app (codes "serve")) tokens_rule) store_rule
 
--- The options of `serve` that limit what it serves and stores.
+-- The port of `serve`, and its options that limit what it serves and stores.
 abbrev pub serve_bounds : App
 serve_bounds =
     with_rule
     (with_rule
     (with_rule
     (with_rule
-    (with_rule serve_needs (number_rule (codes "count") 1 MAX_COUNT))
+    (with_rule
+    (with_rule serve_needs (number_rule (codes "port") 1 MAX_PORT))
+    (number_rule (codes "count") 1 MAX_COUNT))
     (number_rule (codes "max-connections") 1 MAX_CONNECTIONS))
     (number_rule (codes "response-memory") 1 MAX_RESPONSE_MEMORY))
     (number_rule (codes "quota") 1 MAX_QUOTA))
@@ -131,9 +138,9 @@ serve_watch =
     with_rule
     (with_rule
     (with_rule
-    (with_rule serve_bounds (number_rule (codes "admin-port") 1 MAX_PORT))
+    (with_rule serve_bounds (choice_rule (codes "admin-port")))
     (choice_rule (codes "backup-dir")))
-    (choice_rule (codes "listen")))
+    listen_rule)
     (choice_rule (codes "access-log"))
 
 abbrev pub serve_app : App
@@ -147,12 +154,25 @@ self_app =
 abbrev pub cell_app : App
 cell_app = with_rule (new_app (codes "cell")) token_rule
 
+abbrev pub explain_app : App
+explain_app =
+    with_rule
+    (with_rule
+    (with_rule (new_app (codes "explain")) (number_rule (codes "now") 0 MAX_TIME))
+    method_rule)
+    target_rule
+
 abbrev pub report_app : App
 report_app =
     with_rule (with_rule (new_app (codes "report")) store_rule) (flag_rule (codes "cells"))
 
 abbrev pub backup_app : App
-backup_app = with_rule (with_rule (new_app (codes "backup")) store_rule) to_rule
+backup_app =
+    with_rule (with_rule (with_rule (new_app (codes "backup")) store_rule) (flag_rule (codes "live")))
+    to_rule
+
+abbrev pub verify_app : App
+verify_app = with_rule (new_app (codes "verify")) file_rule
 
 abbrev pub upgrade_app : App
 upgrade_app = with_rule (new_app (codes "upgrade")) store_rule
@@ -189,12 +209,16 @@ dss_app =
     (with_subcommand
     (with_subcommand
     (with_subcommand
+    (with_subcommand
+    (with_subcommand
     (with_subcommand own_app run_app.top)
     serve_app.top)
     self_app.top)
     cell_app.top)
+    explain_app.top)
     report_app.top)
     backup_app.top)
+    verify_app.top)
     upgrade_app.top)
     purge_app.top)
     tokens_app.top

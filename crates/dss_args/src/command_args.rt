@@ -1,15 +1,21 @@
 //! What a command line requests.
-ghost use Rattle.std.specs.Net.Grammar.{IsIpv4Text};
-ghost use Rattle.std.specs.declared.net.ipv4_addr.Ipv4Addr.{Ipv4Addr};
+ghost use Rattle.std.specs.Net.Grammar.{IsIpText};
+ghost use Rattle.std.specs.Net.Socket.{socket_ip};
+ghost use Rattle.std.specs.declared.net.ip_addr.IpAddr.{IpAddr};
+ghost use Rattle.std.specs.declared.net.socket_addr.SocketAddr.{SocketAddr};
 ghost use Rattle.std.specs.Prelude.{
   ℕ,
   ◌≤◌,
   ◌≡◌,
+  ◌↔◌,
   [],
   IfErr,
   IfNone,
   IfOk,
   IfSome,
+  IsTrue,
+  List,
+  None,
   Option,
   Some,
   codes,
@@ -18,13 +24,20 @@ ghost use Rattle.clap.specs.Faults.{fault_of as mistakes_of};
 ghost use Rattle.clap.specs.Words.{found_of, rows_of, subcommand_of, subcommand_rows_of};
 ghost use Rattle.dss_args.specs.Grammar.{dss_app};
 ghost use Rattle.dss_args.specs.CommandArgs.{
+  AreListens,
   Asks,
   AsksNothing,
   Explains,
+  HasAdmin,
   HasChoice,
   HasNumberOr,
   HasListen,
   HasNumberIn,
+  IsAddress,
+  IsListen,
+  IsLocal,
+  IsLoopback,
+  ListensOn,
   is_set,
   lacks_port,
   line_of_options,
@@ -35,8 +48,8 @@ use crate::fault::{LineFault, fault_of};
 use crate::grammar::command;
 use crate::serve_args::ServeArgs;
 use clap::ArgMatches;
-use std::alloc::Global;
-use std::net::Ipv4Addr;
+use std::alloc::{AllocError, Global};
+use std::net::{IpAddr, Ipv4Addr, SocketAddr};
 
 /// The last time that a command line can name, in Unix seconds: the end of the year 9999.
 pub const MAX_TIME: u64 = 253_402_300_799;
@@ -58,13 +71,16 @@ pub const RESPONSE_MEMORY: u64 = 64;
 /// The maximum quota of a USS.
 pub const MAX_QUOTA: u64 = 4_294_967_295;
 
-// The error message for arguments that are valid one by one but request no command.
-const NO_LINE: &str =
-    "error: the command line names no whole command, no IPv4 address after --listen, \
-    or --backup-dir without --admin-port\n";
+// The error messages for arguments that are valid one by one but request no command.
+const NO_LINE: &str = "error: the command line names no whole command\n";
+
+const NO_PORT: &str = "error: --port is missing; write it, or a port in each --listen, \
+    as in 127.0.0.1:8080 or [::1]:8080\n";
+
+const NO_ADMIN: &str = "error: --backup-dir without --admin-port; write --admin-port PORT, too\n";
 
 /// A command that a command line requests.
-#[derive(Clone, Copy, Debug, PartialEq, Eq)]
+#[derive(Debug, Drop, PartialEq, Eq)]
 pub enum CommandArgs<'a> {
     /// Serves one stream of requests, in memory or from a database.
     Run {
@@ -93,6 +109,15 @@ pub enum CommandArgs<'a> {
         /// The token as given.
         token: &'a str,
     },
+    /// Prints what is wrong with a request.
+    Explain {
+        /// The method as given.
+        method: &'a str,
+        /// The target as given.
+        target: &'a str,
+        /// The time of the request, in Unix seconds; ended volumes are not told if `None`.
+        now: Option<u64>,
+    },
     /// Prints what a database stores.
     Report {
         /// The name of the database file.
@@ -100,12 +125,19 @@ pub enum CommandArgs<'a> {
         /// True if the cells of each reference are printed.
         places: bool,
     },
-    /// Backs up a database that no process has open.
+    /// Backs up a database.
     Backup {
         /// The name of the database file.
         database: &'a str,
-        /// The name of the backup file.
+        /// The name of the backup file, or of its directory if it is live.
         to: &'a str,
+        /// True if another process may have the database open.
+        live: bool,
+    },
+    /// Checks a database without changing it, and prints what it stores.
+    Verify {
+        /// The name of the database file, or of the directory of a backup.
+        file: &'a str,
     },
     /// Upgrades a database to the newest format, and prints its previous format.
     Upgrade {
@@ -169,14 +201,14 @@ fn run_line<'a>(matches: &ArgMatches<'a>) -> Option<CommandArgs<'a>>
     })
 }
 
-// Returns the port, if it is present and in range.
-fn port_in(matches: &ArgMatches<'_>) -> Option<u16>
-    ensures some { IfSome result (HasNumberIn (codes "port") 1 MAX_PORT
+// Returns the port of an argument, if it has one.
+fn port_in(matches: &ArgMatches<'_>, name: &str) -> Option<u16>
+    ensures some { IfSome result (HasNumberIn name.now 1 MAX_PORT
         (rows_of (found_of matches.now))) }
-    ensures none { IfNone result ((n : ℕ) → HasNumberIn (codes "port") 1 MAX_PORT
+    ensures none { IfNone result ((n : ℕ) → HasNumberIn name.now 1 MAX_PORT
         (rows_of (found_of matches.now)) n → ⊥) }
 {
-    let number = number_in(matches, "port", 1, MAX_PORT)?;
+    let number = number_in(matches, name, 1, MAX_PORT)?;
     match u16::try_from(number) {
         Ok(port) => Some(port),
         Err(_) => None,
@@ -217,42 +249,155 @@ fn number_or(
     number_in(matches, name, least, greatest)
 }
 
-// Parses an address.
-fn address_of(text: &str) -> Option<Ipv4Addr>
-    ensures some { IfSome result (IsIpv4Text text.now) }
-    ensures none { IfNone result ((a : Ipv4Addr) → IsIpv4Text text.now a → ⊥) }
-{
-    match text.parse::<Ipv4Addr>() {
-        Ok(address) => Some(address),
-        Err(_) => None,
-    }
-}
-
-// Returns the address to listen on. Returns `None` if the option is present and no address.
-fn listen_in(matches: &ArgMatches<'_>) -> Option<Ipv4Addr>
-    ensures some { IfSome result (HasListen (rows_of (found_of matches.now))) }
-    ensures none { IfNone result ((a : Ipv4Addr) → HasListen (rows_of (found_of matches.now)) a
-        → ⊥) }
-{
-    match matches.get_str("listen") {
-        Some(text) => address_of(text),
-        None => Some(Ipv4Addr::new(127, 0, 0, 1)),
-    }
-}
-
-// Returns the admin port, if it is present. Returns `None` if it is out of range.
-fn admin_in(matches: &ArgMatches<'_>) -> Option<Option<u16>>
-    ensures some { IfSome result (HasChoice (codes "admin-port") 1 MAX_PORT
+// Returns the number of `--port`, if it is present. Returns `None` if it is out of range.
+fn common_port_in(matches: &ArgMatches<'_>) -> Option<Option<u16>>
+    ensures some { IfSome result (HasChoice (codes "port") 1 MAX_PORT
         (rows_of (found_of matches.now))) }
-    ensures none { IfNone result ((admin_port : Option ℕ) → HasChoice (codes "admin-port") 1 MAX_PORT
-        (rows_of (found_of matches.now)) admin_port → ⊥) }
+    ensures none { IfNone result ((port : Option ℕ) → HasChoice (codes "port") 1 MAX_PORT
+        (rows_of (found_of matches.now)) port → ⊥) }
 {
-    let Some(number) = choice_in(matches, "admin-port", 1, MAX_PORT)? else {
+    let Some(number) = choice_in(matches, "port", 1, MAX_PORT)? else {
         return Some(None);
     };
     match u16::try_from(number) {
         Ok(port) => Some(Some(port)),
         Err(_) => None,
+    }
+}
+
+// Returns 127.0.0.1 with a port.
+fn local(port: u16) -> SocketAddr
+    ensures { IsLocal result port }
+{
+    SocketAddr::new(IpAddr::V4(Ipv4Addr::new(127, 0, 0, 1)), port)
+}
+
+// Returns true if this is 127.0.0.1 or ::1.
+fn is_loopback(ip: IpAddr) -> bool
+    ensures { IsTrue result ↔ IsLoopback ip }
+{
+    match ip {
+        IpAddr::V4(ip) => matches!(ip.octets(), [127, 0, 0, 1]),
+        IpAddr::V6(ip) => ip.is_loopback(),
+    }
+}
+
+// Parses an IPv4 or IPv6 address.
+fn ip_of(text: &str) -> Option<IpAddr>
+    ensures some { IfSome result (IsIpText text.now) }
+    ensures none { IfNone result ((ip : IpAddr) → IsIpText text.now ip → ⊥) }
+{
+    match text.parse::<IpAddr>() {
+        Ok(ip) => Some(ip),
+        Err(_) => None,
+    }
+}
+
+// Parses an address with its port, which is not 0.
+fn address_of(text: &str) -> Option<SocketAddr>
+    ensures some { IfSome result (IsAddress text.now) }
+    ensures none { IfNone result ((a : SocketAddr) → IsAddress text.now a → ⊥) }
+{
+    match text.parse::<SocketAddr>() {
+        Ok(address) => {
+            if address.port() == 0 {
+                return None;
+            }
+            Some(address)
+        }
+        Err(_) => None,
+    }
+}
+
+// Parses an address with its port, which is not 0. Returns `None` if it is not 127.0.0.1 or ::1.
+fn loopback_of(text: &str) -> Option<SocketAddr>
+    ensures some { IfSome result (λ a. IsAddress text.now a × IsLoopback (socket_ip a)) }
+    ensures none { IfNone result ((a : SocketAddr) → IsAddress text.now a
+        → IsLoopback (socket_ip a) → ⊥) }
+{
+    let address = address_of(text)?;
+    if is_loopback(address.ip()) {
+        return Some(address);
+    }
+    None
+}
+
+// Parses an address to listen on, whose port is this one if the text has none.
+fn listen_of(text: &str, port: Option<u16>) -> Option<SocketAddr>
+    ensures some { IfSome result (IsListen port text.now) }
+    ensures none { IfNone result ((a : SocketAddr) → IsListen port text.now a → ⊥) }
+{
+    match (ip_of(text), port) {
+        (Some(ip), Some(port)) => Some(SocketAddr::new(ip, port)),
+        _ => address_of(text),
+    }
+}
+
+// Parses addresses to listen on. Returns `None` if a text is none.
+fn each_listen(
+    alloc: Global,
+    words: &[&str],
+    port: Option<u16>,
+) -> Result<Option<Vec<SocketAddr>>, AllocError>
+    ensures some { IfOk result (λ found. IfSome found (λ v.
+        AreListens port (texts words.now) v.items)) }
+    ensures none { IfOk result (λ found. IfNone found ((all : List SocketAddr)
+        → AreListens port (texts words.now) all → ⊥)) }
+{
+    let mut addresses = Vec::new(alloc);
+    for word in words {
+        let Some(address) = listen_of(word, port) else {
+            return Ok(None);
+        };
+        addresses.push(address)?;
+    }
+    Ok(Some(addresses))
+}
+
+// Returns 127.0.0.1 with the port, if there is one.
+fn default_listen(alloc: Global, port: Option<u16>) -> Result<Option<Vec<SocketAddr>>, AllocError>
+    ensures some { IfOk result (λ found. IfSome found (λ v. ListensOn port None v.items)) }
+    ensures none { IfOk result (λ found. IfNone found ((all : List SocketAddr)
+        → ListensOn port None all → ⊥)) }
+{
+    let Some(port) = port else {
+        return Ok(None);
+    };
+    let mut addresses = Vec::new(alloc);
+    addresses.push(local(port))?;
+    Ok(Some(addresses))
+}
+
+// Returns the addresses to listen on. Returns `None` if a value is no address, or a port is
+// missing.
+fn listen_in(alloc: Global, matches: &ArgMatches<'_>) -> Result<Option<Vec<SocketAddr>>, AllocError>
+    ensures some { IfOk result (λ found. IfSome found (λ v.
+        HasListen (rows_of (found_of matches.now)) v.items)) }
+    ensures none { IfOk result (λ found. IfNone found ((all : List SocketAddr)
+        → HasListen (rows_of (found_of matches.now)) all → ⊥)) }
+{
+    let Some(port) = common_port_in(matches) else {
+        return Ok(None);
+    };
+    match matches.get_strs("listen") {
+        Some(words) => each_listen(alloc, words, port),
+        None => default_listen(alloc, port),
+    }
+}
+
+// Returns the address of the admin port, if it is present. Returns `None` if it is no port, and no
+// loopback address with a port.
+fn admin_in(matches: &ArgMatches<'_>) -> Option<Option<SocketAddr>>
+    ensures some { IfSome result (HasAdmin (rows_of (found_of matches.now))) }
+    ensures none { IfNone result ((admin : Option SocketAddr)
+        → HasAdmin (rows_of (found_of matches.now)) admin → ⊥) }
+{
+    let Some(text) = matches.get_str("admin-port") else {
+        return Some(None);
+    };
+    match port_in(matches, "admin-port") {
+        Some(port) => Some(Some(local(port))),
+        None => Some(Some(loopback_of(text)?)),
     }
 }
 
@@ -280,9 +425,12 @@ fn lacks_port(matches: &ArgMatches<'_>) -> bool
     matches.get_str("backup-dir").is_some() && matches.get_str("admin-port").is_none()
 }
 
-// Returns the command of the subcommand `serve`. Returns `None` if a value is missing or invalid.
-fn serve_line<'a>(matches: &ArgMatches<'a>) -> Option<CommandArgs<'a>>
-    ensures some { IfSome result (Asks (Some (codes "serve", rows_of (found_of matches.now)))) }
+// Returns the command of the subcommand `serve` with these addresses to listen on. Returns `None`
+// if another value is missing or invalid.
+fn serve_on<'a>(matches: &ArgMatches<'a>, listen: Vec<SocketAddr>) -> Option<CommandArgs<'a>>
+    ensures some { IfSome result (λ line.
+        HasListen (rows_of (found_of matches.now)) listen.items
+        → Asks (Some (codes "serve", rows_of (found_of matches.now))) line) }
     ensures none { IfNone result (AsksNothing
         (Some (codes "serve", rows_of (found_of matches.now)))) }
 {
@@ -292,8 +440,7 @@ fn serve_line<'a>(matches: &ArgMatches<'a>) -> Option<CommandArgs<'a>>
     Some(CommandArgs::Serve(ServeArgs {
         tokens: matches.get_str("tokens")?,
         database: matches.get_str("db")?,
-        listen: listen_in(matches)?,
-        port: port_in(matches)?,
+        listen,
         count: choice_in(matches, "count", 1, MAX_COUNT)?,
         max_connections: number_or(
             matches,
@@ -317,6 +464,22 @@ fn serve_line<'a>(matches: &ArgMatches<'a>) -> Option<CommandArgs<'a>>
         double_sync: is_set(matches, "double-sync"),
         verbose: is_set(matches, "verbose"),
     }))
+}
+
+// Returns the command of the subcommand `serve`. Returns `None` if a value is missing or invalid.
+fn serve_line<'a>(
+    alloc: Global,
+    matches: &ArgMatches<'a>,
+) -> Result<Option<CommandArgs<'a>>, AllocError>
+    ensures some { IfOk result (λ found. IfSome found
+        (Asks (Some (codes "serve", rows_of (found_of matches.now))))) }
+    ensures none { IfOk result (λ found. IfNone found (AsksNothing
+        (Some (codes "serve", rows_of (found_of matches.now))))) }
+{
+    let Some(listen) = listen_in(alloc, matches)? else {
+        return Ok(None);
+    };
+    Ok(serve_on(matches, listen))
 }
 
 // Returns the command of the subcommand `self`. Returns `None` if a value is missing or out of
@@ -344,6 +507,20 @@ fn cell_line<'a>(matches: &ArgMatches<'a>) -> Option<CommandArgs<'a>>
     })
 }
 
+// Returns the command of the subcommand `explain`. Returns `None` if a value is missing or out of
+// range.
+fn explain_line<'a>(matches: &ArgMatches<'a>) -> Option<CommandArgs<'a>>
+    ensures some { IfSome result (Asks (Some (codes "explain", rows_of (found_of matches.now)))) }
+    ensures none { IfNone result (AsksNothing
+        (Some (codes "explain", rows_of (found_of matches.now)))) }
+{
+    Some(CommandArgs::Explain {
+        method: matches.get_str("method")?,
+        target: matches.get_str("target")?,
+        now: choice_in(matches, "now", 0, MAX_TIME)?,
+    })
+}
+
 // Returns the command of the subcommand `report`. Returns `None` if the database is missing.
 fn report_line<'a>(matches: &ArgMatches<'a>) -> Option<CommandArgs<'a>>
     ensures some { IfSome result (Asks (Some (codes "report", rows_of (found_of matches.now)))) }
@@ -365,6 +542,18 @@ fn backup_line<'a>(matches: &ArgMatches<'a>) -> Option<CommandArgs<'a>>
     Some(CommandArgs::Backup {
         database: matches.get_str("db")?,
         to: matches.get_str("to")?,
+        live: is_set(matches, "live"),
+    })
+}
+
+// Returns the command of the subcommand `verify`. Returns `None` if the file is missing.
+fn verify_line<'a>(matches: &ArgMatches<'a>) -> Option<CommandArgs<'a>>
+    ensures some { IfSome result (Asks (Some (codes "verify", rows_of (found_of matches.now)))) }
+    ensures none { IfNone result (AsksNothing
+        (Some (codes "verify", rows_of (found_of matches.now)))) }
+{
+    Some(CommandArgs::Verify {
+        file: matches.get_str("file")?,
     })
 }
 
@@ -434,32 +623,78 @@ fn tokens_line<'a>(matches: &ArgMatches<'a>) -> Option<CommandArgs<'a>>
 }
 
 // Returns the command of a subcommand. Returns `None` if no subcommand has that name.
-fn line_of<'a>(name: &str, matches: &ArgMatches<'a>) -> Option<CommandArgs<'a>>
-    ensures some { IfSome result (Asks (Some (name.now, rows_of (found_of matches.now)))) }
-    ensures none { IfNone result (AsksNothing (Some (name.now, rows_of (found_of matches.now)))) }
+fn line_of<'a>(
+    alloc: Global,
+    name: &str,
+    matches: &ArgMatches<'a>,
+) -> Result<Option<CommandArgs<'a>>, AllocError>
+    ensures some { IfOk result (λ found. IfSome found
+        (Asks (Some (name.now, rows_of (found_of matches.now))))) }
+    ensures none { IfOk result (λ found. IfNone found
+        (AsksNothing (Some (name.now, rows_of (found_of matches.now))))) }
 {
     match name {
-        "run" => run_line(matches),
-        "serve" => serve_line(matches),
-        "self" => loopback_line(matches),
-        "cell" => cell_line(matches),
-        "report" => report_line(matches),
-        "backup" => backup_line(matches),
-        "upgrade" => upgrade_line(matches),
-        "purge" => purge_line(matches),
-        "tokens" => tokens_line(matches),
-        _ => None,
+        "run" => Ok(run_line(matches)),
+        "serve" => serve_line(alloc, matches),
+        "self" => Ok(loopback_line(matches)),
+        "cell" => Ok(cell_line(matches)),
+        "explain" => Ok(explain_line(matches)),
+        "report" => Ok(report_line(matches)),
+        "backup" => Ok(backup_line(matches)),
+        "verify" => Ok(verify_line(matches)),
+        "upgrade" => Ok(upgrade_line(matches)),
+        "purge" => Ok(purge_line(matches)),
+        "tokens" => Ok(tokens_line(matches)),
+        _ => Ok(None),
     }
 }
 
 // Returns the command of the matched subcommand. Returns `None` if there is none.
-fn line_in<'a>(matches: &ArgMatches<'a>) -> Option<CommandArgs<'a>>
-    ensures some { IfSome result (Asks (subcommand_rows_of matches.now)) }
-    ensures none { IfNone result (AsksNothing (subcommand_rows_of matches.now)) }
+fn line_in<'a>(
+    alloc: Global,
+    matches: &ArgMatches<'a>,
+) -> Result<Option<CommandArgs<'a>>, AllocError>
+    ensures some { IfOk result (λ found. IfSome found (Asks (subcommand_rows_of matches.now))) }
+    ensures none { IfOk result (λ found. IfNone found
+        (AsksNothing (subcommand_rows_of matches.now))) }
 {
     match matches.subcommand() {
-        Some((name, below)) => line_of(name, below),
-        None => None,
+        Some((name, below)) => line_of(alloc, name, below),
+        None => Ok(None),
+    }
+}
+
+// Returns the error message for arguments of `serve` that request no command.
+fn serve_refusal(alloc: Global, matches: &ArgMatches<'_>) -> Result<String, AllocError> {
+    if let Some(words) = matches.get_strs("listen") {
+        for word in words {
+            if listen_of(word, Some(1)).is_none() {
+                return format!(in alloc;
+                    "error: --listen {word}: no IP address, with or without a port; \
+                     write 127.0.0.1, ::1, 127.0.0.1:8080 or [::1]:8080\n"
+                );
+            }
+        }
+    }
+    if let Some(word) = matches.get_str("admin-port")
+        && admin_in(matches).is_none()
+    {
+        return format!(in alloc;
+            "error: --admin-port {word}: no port from 1 to 65535, alone or after 127.0.0.1 or \
+             [::1]; write 8078, 127.0.0.1:8078 or [::1]:8078\n"
+        );
+    }
+    if lacks_port(matches) {
+        return String::from_str(alloc, NO_ADMIN);
+    }
+    String::from_str(alloc, NO_PORT)
+}
+
+// Returns the error message for arguments that are valid one by one but request no command.
+fn refusal(alloc: Global, matches: &ArgMatches<'_>) -> Result<String, AllocError> {
+    match matches.subcommand() {
+        Some(("serve", below)) => serve_refusal(alloc, below),
+        _ => String::from_str(alloc, NO_LINE),
     }
 }
 
@@ -478,8 +713,9 @@ pub fn parse<'a>(alloc: Global, words: &'a [&'a str]) -> Result<CommandArgs<'a>,
         Ok(matches) => matches,
         Err(error) => return Err(fault_of(alloc, &error)),
     };
-    match line_in(&matches) {
+    let line = line_in(alloc, &matches)?;
+    match line {
         Some(line) => Ok(line),
-        None => Err(LineFault::Refused(String::from_str(alloc, NO_LINE)?)),
+        None => Err(LineFault::Refused(refusal(alloc, &matches)?)),
     }
 }

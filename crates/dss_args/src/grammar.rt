@@ -8,11 +8,14 @@ ghost use Rattle.dss_args.specs.Grammar.{
   choice_rule,
   database_rule,
   dss_app,
+  explain_app,
+  file_rule,
   flag_rule,
+  listen_rule,
+  method_rule,
   now_rule,
   number_rule,
   option_rule,
-  port_rule,
   report_app,
   request_rule,
   requests_rule,
@@ -20,6 +23,7 @@ ghost use Rattle.dss_args.specs.Grammar.{
   self_app,
   serve_app,
   store_rule,
+  target_rule,
   purge_app,
   to_rule,
   token_rule,
@@ -27,6 +31,7 @@ ghost use Rattle.dss_args.specs.Grammar.{
   tokens_rule,
   until_rule,
   upgrade_app,
+  verify_app,
   word_rule,
 };
 
@@ -106,16 +111,6 @@ fn source_option<'a>(alloc: Global) -> Arg<'a>
         .help("Database file, which must exist")
 }
 
-fn port_option<'a>(alloc: Global) -> Arg<'a>
-    ensures rule { rule_of result ≡ port_rule }
-    ensures local { result.global ≡ false }
-{
-    option(alloc, "port")
-        .value_name("PORT")
-        .help("Port to listen on [1-65535]")
-        .value_parser(ValueParser::unsigned(1, MAX_PORT))
-}
-
 // Returns an optional argument with a number from 1.
 fn number_option<'a>(alloc: Global, name: &'a str, value: &'a str, greatest: u64) -> Arg<'a>
     ensures rule { rule_of result ≡ number_rule name.entry.now 1 greatest }
@@ -125,6 +120,15 @@ fn number_option<'a>(alloc: Global, name: &'a str, value: &'a str, greatest: u64
         .long(name)
         .value_name(value)
         .value_parser(ValueParser::unsigned(1, greatest))
+}
+
+fn port_option<'a>(alloc: Global) -> Arg<'a>
+    ensures rule { rule_of result ≡ number_rule (codes "port") 1 MAX_PORT }
+    ensures local { result.global ≡ false }
+{
+    number_option(alloc, "port", "PORT", MAX_PORT).help(
+        "Port to listen on; required unless each --listen has one [1-65535]",
+    )
 }
 
 // Returns the option for the current time.
@@ -187,21 +191,23 @@ fn quota_option<'a>(alloc: Global) -> Arg<'a>
     )
 }
 
-fn admin_option<'a>(alloc: Global) -> Arg<'a>
-    ensures rule { rule_of result ≡ number_rule (codes "admin-port") 1 MAX_PORT }
-    ensures local { result.global ≡ false }
-{
-    number_option(alloc, "admin-port", "PORT", MAX_PORT).help(
-        "Admin port on 127.0.0.1, for /health, /metrics and /stop [1-65535; default: none]",
-    )
-}
-
 // Returns an optional argument with a value.
 fn choice<'a>(alloc: Global, name: &'a str, value: &'a str) -> Arg<'a>
     ensures rule { rule_of result ≡ choice_rule name.entry.now }
     ensures local { result.global ≡ false }
 {
     Arg::new(alloc, name).long(name).value_name(value)
+}
+
+// Returns the option for the admin port.
+fn admin_option<'a>(alloc: Global) -> Arg<'a>
+    ensures rule { rule_of result ≡ choice_rule (codes "admin-port") }
+    ensures local { result.global ≡ false }
+{
+    choice(alloc, "admin-port", "PORT").help(
+        "Admin port on 127.0.0.1, or as in [::1]:8078, for /health, /metrics and /stop \
+         [1-65535; default: none]",
+    )
 }
 
 // Returns the option for the directory of the backups that are requested on the admin port.
@@ -215,12 +221,17 @@ fn backups_option<'a>(alloc: Global) -> Arg<'a>
     )
 }
 
-// Returns the option for the address to listen on.
+// Returns the option for the addresses to listen on.
 fn listen_option<'a>(alloc: Global) -> Arg<'a>
-    ensures rule { rule_of result ≡ choice_rule (codes "listen") }
+    ensures rule { rule_of result ≡ listen_rule }
     ensures local { result.global ≡ false }
 {
-    choice(alloc, "listen", "ADDRESS").help("IPv4 address to listen on [default: 127.0.0.1]")
+    choice(alloc, "listen", "ADDRESS")
+        .action(ArgAction::Append)
+        .help(
+            "IPv4 or IPv6 address to listen on, or address and port, as in [::1]:8080; \
+             can be repeated [default: 127.0.0.1]",
+        )
 }
 
 // Returns the option for the access log.
@@ -268,14 +279,56 @@ fn token_argument<'a>(alloc: Global) -> Arg<'a>
         .help("Token of the S2 cell")
 }
 
+// Returns the argument for the method of a request.
+fn method_argument<'a>(alloc: Global) -> Arg<'a>
+    ensures rule { rule_of result ≡ method_rule }
+    ensures local { result.global ≡ false }
+{
+    word(alloc, "method")
+        .value_name("METHOD")
+        .help("Method of the request, such as PUT")
+}
+
+// Returns the argument for the target of a request.
+fn target_argument<'a>(alloc: Global) -> Arg<'a>
+    ensures rule { rule_of result ≡ target_rule }
+    ensures local { result.global ≡ false }
+{
+    word(alloc, "target").value_name("PATH").help(
+        "Path of the request, such as /dss/v1/uss_availability/uss-a",
+    )
+}
+
+// Returns the option for the time of a request.
+fn request_time_option<'a>(alloc: Global) -> Arg<'a>
+    ensures rule { rule_of result ≡ number_rule (codes "now") 0 MAX_TIME }
+    ensures local { result.global ≡ false }
+{
+    Arg::new(alloc, "now")
+        .long("now")
+        .value_name("SECONDS")
+        .help("Also say if the volumes have ended by this time, in Unix seconds [0-253402300799]")
+        .value_parser(ValueParser::unsigned(0, MAX_TIME))
+}
+
 // Returns the argument for the backup file.
 fn destination_argument<'a>(alloc: Global) -> Arg<'a>
     ensures rule { rule_of result ≡ to_rule }
     ensures local { result.global ≡ false }
 {
-    word(alloc, "to")
-        .value_name("DESTINATION")
-        .help("File of the backup, which must not exist")
+    word(alloc, "to").value_name("DESTINATION").help(
+        "File of the backup, or with --live its directory, which must not exist",
+    )
+}
+
+// Returns the argument for the database to verify.
+fn file_argument<'a>(alloc: Global) -> Arg<'a>
+    ensures rule { rule_of result ≡ file_rule }
+    ensures local { result.global ≡ false }
+{
+    word(alloc, "file")
+        .value_name("FILE")
+        .help("Database file, or directory of a backup")
 }
 
 // Returns the option for the token file to check.
@@ -320,6 +373,16 @@ fn new_salt_flag<'a>(alloc: Global) -> Arg<'a>
     ensures local { result.global ≡ false }
 {
     flag(alloc, "new-salt").help("Generate a salt, and print its line")
+}
+
+// Returns the flag for a backup of a database that is being served.
+fn live_flag<'a>(alloc: Global) -> Arg<'a>
+    ensures rule { rule_of result ≡ flag_rule (codes "live") }
+    ensures local { result.global ≡ false }
+{
+    flag(alloc, "live").help(
+        "Back up while the service runs, into a directory of a file and a log, and verify it",
+    )
 }
 
 // Returns the flag that prints the cells of each reference.
@@ -402,6 +465,19 @@ fn cell_command<'a>(alloc: Global) -> Result<Command<'a>, AllocError>
         .arg(token_argument(alloc))
 }
 
+fn explain_command<'a>(alloc: Global) -> Result<Command<'a>, AllocError>
+    ensures { IfOk result (HasGrammar explain_app) }
+{
+    Command::new(alloc, "explain")
+        .about(
+            "Print what is wrong with a request whose body is on standard input, and which of \
+             its members are ignored",
+        )
+        .arg(request_time_option(alloc))?
+        .arg(method_argument(alloc))?
+        .arg(target_argument(alloc))
+}
+
 fn report_command<'a>(alloc: Global) -> Result<Command<'a>, AllocError>
     ensures { IfOk result (HasGrammar report_app) }
 {
@@ -415,9 +491,18 @@ fn backup_command<'a>(alloc: Global) -> Result<Command<'a>, AllocError>
     ensures { IfOk result (HasGrammar backup_app) }
 {
     Command::new(alloc, "backup")
-        .about("Back up a database that no process has open: all of it, or no file")
+        .about("Back up a database: all of it, or no file")
         .arg(source_option(alloc))?
+        .arg(live_flag(alloc))?
         .arg(destination_argument(alloc))
+}
+
+fn verify_command<'a>(alloc: Global) -> Result<Command<'a>, AllocError>
+    ensures { IfOk result (HasGrammar verify_app) }
+{
+    Command::new(alloc, "verify")
+        .about("Check a database or a backup without changing it, and print what report prints")
+        .arg(file_argument(alloc))
 }
 
 fn upgrade_command<'a>(alloc: Global) -> Result<Command<'a>, AllocError>
@@ -467,8 +552,10 @@ pub(crate) fn command<'a>(alloc: Global) -> Result<Command<'a>, AllocError>
         .subcommand(serve_command(alloc)?)?
         .subcommand(self_command(alloc)?)?
         .subcommand(cell_command(alloc)?)?
+        .subcommand(explain_command(alloc)?)?
         .subcommand(report_command(alloc)?)?
         .subcommand(backup_command(alloc)?)?
+        .subcommand(verify_command(alloc)?)?
         .subcommand(upgrade_command(alloc)?)?
         .subcommand(purge_command(alloc)?)?
         .subcommand(tokens_command(alloc)?)

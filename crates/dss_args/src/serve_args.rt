@@ -1,17 +1,15 @@
 //! The arguments of the subcommand `serve`.
-use std::net::Ipv4Addr;
+use std::net::SocketAddr;
 
 /// The arguments of the subcommand `serve`.
-#[derive(Clone, Copy, Debug, PartialEq, Eq)]
+#[derive(Debug, Drop, PartialEq, Eq)]
 pub struct ServeArgs<'a> {
     /// The name of the token file.
     pub tokens: &'a str,
     /// The name of the database file.
     pub database: &'a str,
-    /// The address to listen on.
-    pub listen: Ipv4Addr,
-    /// The port, at least 1.
-    pub port: u16,
+    /// The addresses to listen on. Their ports are at least 1.
+    pub listen: Vec<SocketAddr>,
     /// The number of connections before exit, from 1 to a million; unlimited if `None`.
     pub count: Option<u64>,
     /// The maximum number of connections at once, from 1 to a thousand.
@@ -23,8 +21,8 @@ pub struct ServeArgs<'a> {
     pub quota: Option<u32>,
     /// The retention of what has ended in seconds, at least 1; nothing is purged if `None`.
     pub retention: Option<u64>,
-    /// The admin port, at least 1, if there is one.
-    pub admin_port: Option<u16>,
+    /// The address of the admin port, 127.0.0.1 or ::1, if there is one. Its port is at least 1.
+    pub admin_port: Option<SocketAddr>,
     /// The name of the directory for backups that are requested on the admin port, if there is one.
     /// Then there is an admin port.
     pub backup_dir: Option<&'a str>,

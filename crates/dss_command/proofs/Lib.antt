@@ -1,2 +1,3 @@
 mod Counting
 mod Chunks
+mod Explaining

@@ -6,6 +6,7 @@ use Rattle.std.specs.declared.io.Error.{Error}
 use Rattle.std.specs.declared.io.ErrorKind.{ErrorKind}
 use Rattle.std.specs.declared.io.ErrorKind.TheVariants as kinds
 use Rattle.grid_core.specs.Token as token
+use Rattle.policy_core.specs.Rule as rule
 use Rattle.space_sql_open.specs.OpenFault as opening
 use Rattle.token_conf.specs.ConfFault as conf
 use Rattle.wire_http.specs.Fault as streams
@@ -63,6 +64,9 @@ line_of (fault.Stream why) =
     codes "dss: stream: fault " ++ numbered (streams.number_of why) (streams.name_of why)
 line_of (fault.Token why) =
     codes "dss: token: fault " ++ numbered (token.fault_number why) (token.fault_name why)
+line_of (fault.Request why) =
+    codes "dss: request: P" ++ numbered (rule.number_of why) (rule.name_of why)
+line_of fault.BodyTooLong = codes "dss: request: H5 BODYSIZE"
 line_of fault.Output = codes "dss: output"
 line_of fault.Memory = codes "dss: memory"
 

@@ -1,5 +1,6 @@
 pub mod BackupFault
 pub mod ClockLines
+pub mod Explain
 pub mod Fault
 pub mod Limits
 pub mod Line

@@ -3,6 +3,7 @@ use Rattle.std.specs.Prelude.{◌≡◌, ◌⊎◌, ℕ, List, [], Option, None,
 use Rattle.std.specs.Io.KnownBytes.{Appends}
 use Rattle.clap.specs.Faults.{fault_of as mistakes_of}
 use Rattle.clap.specs.Words.{Text, subcommand_of}
+use Rattle.wire_head.specs.Target.{path_of}
 use Rattle.dss_args.specs.Grammar.{dss_app}
 use Rattle.dss_args.specs.CommandArgs.{Asks, Explains}
 use Rattle.dss_args.specs.declared.fault.LineFault.{LineFault}
@@ -12,6 +13,7 @@ use Rattle.dss_args.specs.declared.command_args.CommandArgs.TheVariants.{
   Backup,
   Cell,
   CheckTokens,
+  Explain,
   Loopback,
   NewSalt,
   NewToken,
@@ -20,8 +22,10 @@ use Rattle.dss_args.specs.declared.command_args.CommandArgs.TheVariants.{
   Serve,
   Purge,
   Upgrade,
+  Verify,
 }
 use Rattle.dss_report.specs.Cell.{IsLineOfToken}
+use Rattle.dss_command.specs.Explain.{EndsExplain}
 use Rattle.dss_command.specs.Fault.{status_of}
 use Rattle.dss_command.specs.declared.fault.Fault.{Fault}
 
@@ -55,10 +59,14 @@ module _ (does : Doing) where
       does (Loopback tokens now request) remaining output output' done × (error' ≡ error)
   Does (Cell token) remaining output output' error error' done =
       OnOk done (WritesCell token.now output output') × (error' ≡ error)
+  Does (Explain method target now) remaining output output' error error' done =
+      EndsExplain (path_of target.now) method.now remaining done × (error' ≡ error)
   Does (Report database places) remaining output output' error error' done =
       does (Report database places) None output output' done × (error' ≡ error)
-  Does (Backup database to) remaining output output' error error' done =
-      does (Backup database to) None None None done × (output' ≡ output) × (error' ≡ error)
+  Does (Backup database to live) remaining output output' error error' done =
+      does (Backup database to live) None None None done × (output' ≡ output) × (error' ≡ error)
+  Does (Verify file) remaining output output' error error' done =
+      does (Verify file) None output output' done × (error' ≡ error)
   Does (Upgrade database) remaining output output' error error' done =
       does (Upgrade database) None output output' done × (error' ≡ error)
   Does (Purge database until now) remaining output output' error error' done =

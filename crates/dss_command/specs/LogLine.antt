@@ -8,7 +8,6 @@ use Rattle.jiff_fmt.specs.Printer.{IsTimestampText, options}
 use Rattle.entity_core.specs.EntityId.{printed}
 use Rattle.policy_core.specs.Rule as policy
 use Rattle.wire_head.specs.Rule as wire
-use Rattle.wire_http.specs.declared.request_info.RequestInfo.{RequestInfo}
 use Rattle.wire_http.specs.declared.request_info.Outcome.{Outcome}
 use Rattle.wire_http.specs.declared.request_info.Outcome.TheVariants as outcomes
 use Rattle.admin_http.specs.Operation.{operation_word}

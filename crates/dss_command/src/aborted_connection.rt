@@ -15,15 +15,12 @@ fn words(phase: Phase) -> &'static str {
 }
 
 /// Prints one line that says which connection was aborted, and in which phase.
-pub(crate) fn print_aborted<E: Write>(
-    given_up: AbortedConnection,
-    error: &mut E,
-) -> io::Result<()> {
+pub(crate) fn print_aborted<E: Write>(aborted: AbortedConnection, error: &mut E) -> io::Result<()> {
     let AbortedConnection {
         client,
         connection,
         phase,
-    } = given_up;
+    } = aborted;
     let words = words(phase);
     match client {
         Some(client) => {

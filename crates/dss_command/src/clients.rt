@@ -1,8 +1,7 @@
 //! The command `serve` above the operating system.
-ghost use Rattle.std.specs.Prelude.{◌≡◌, ◌⊎◌, ◌++◌, OnOk, OnErr, IsSome, codes, decimal};
+ghost use Rattle.std.specs.Prelude.{◌≡◌, ◌⊎◌, ◌++◌, OnOk, OnErr, IsSome, codes};
 ghost use Rattle.std.specs.Io.KnownBytes.{Appends};
-ghost use Rattle.std.specs.Net.Addr.{ipv4_octets};
-ghost use Rattle.std.specs.Net.Text.{ipv4_text};
+ghost use Rattle.std.specs.Net.Text.{socket_text};
 ghost use Rattle.token_conf.specs.TokenFile.{salt_of};
 ghost use Rattle.dss_command.specs.Fault.{EndsServing, TellsClient};
 ghost use Rattle.dss_command.specs.Service.{ServesClients};
@@ -19,6 +18,7 @@ use admin_http::web_page::OwnHosts;
 use dss_args::version::{KIT, VERSION};
 use dss_server::serve::serve_clients;
 use entity_core::salt::Salt;
+use server_base::backups::MakeBackups;
 use server_base::limits::Limits;
 use server_base::server_log::{
     AbortedConnection, ClockEvent, LoggedRequest, ServerLog, StoreEvent, TokenReloadFault,
@@ -31,26 +31,35 @@ use space_snapshot::snapshot::SnapshotSource;
 use std::alloc::{AllocError, Global};
 use std::io;
 use std::io::Write;
-use std::net::Ipv4Addr;
+use std::net::SocketAddr;
 use token_conf::token_table::TokenTable;
 use wire_http::{Moments, StreamFault};
 use wire_route::routes::Routes;
 
 /// Prints one line that says that the port of that address is open.
-pub fn print_listening<E: Write>(address: Ipv4Addr, port: u16, error: &mut E) -> io::Result<()>
+pub fn print_listening<E: Write>(address: SocketAddr, error: &mut E) -> io::Result<()>
     ensures { OnOk result (Appends (E.contents error.old) (E.contents error.new)
-        (codes "dss: listening on " ++ (ipv4_text (ipv4_octets address)
-        ++ (codes ":" ++ (decimal port ++ codes "\n"))))) }
+        (codes "dss: listening on " ++ (socket_text address ++ codes "\n"))) }
 {
-    writeln!(error, "dss: listening on {address}:{port}")
+    writeln!(error, "dss: listening on {address}")
 }
 
-/// Prints one line that says that the admin port is open.
-pub fn print_admin_listening<E: Write>(port: u16, error: &mut E) -> io::Result<()>
+/// Prints one line that says that the admin port of that address is open.
+pub fn print_admin_listening<E: Write>(address: SocketAddr, error: &mut E) -> io::Result<()>
     ensures { OnOk result (Appends (E.contents error.old) (E.contents error.new)
-        (codes "dss: admin port on 127.0.0.1:" ++ decimal port ++ codes "\n")) }
+        (codes "dss: admin port on " ++ (socket_text address ++ codes "\n"))) }
 {
-    writeln!(error, "dss: admin port on 127.0.0.1:{port}")
+    writeln!(error, "dss: admin port on {address}")
+}
+
+// Prints a line for each open port. A failed print is ignored.
+fn print_ports<E: Write>(given: ServeConfig<'_>, error: &mut E) {
+    for address in given.addresses {
+        let _ = print_listening(*address, error);
+    }
+    if let Some(operated) = given.operated {
+        let _ = print_admin_listening(operated.address, error);
+    }
 }
 
 /// Prints one line that says why a client was aborted.
@@ -83,10 +92,10 @@ struct Lines<'a, E: Write, L> {
 }
 
 impl<'a, E: Write, L: LogFile> ServerLog for Lines<'a, E, L> {
-    fn connection_failed(&mut self, fault: StreamFault, given_up: AbortedConnection) {
+    fn connection_failed(&mut self, fault: StreamFault, aborted: AbortedConnection) {
         let _ = print_client_fault(fault, self.error);
         if self.verbose {
-            let _ = print_aborted(given_up, self.error);
+            let _ = print_aborted(aborted, self.error);
         }
     }
 
@@ -147,8 +156,8 @@ fn end_of_serving(served: io::Result<()>) -> Result<(), Fault>
 /// An admin port.
 #[derive(Clone, Copy)]
 pub struct AdminListener {
-    /// The port on 127.0.0.1.
-    pub port: u16,
+    /// Its loopback address and port.
+    pub address: SocketAddr,
     /// The time of the service's start, in Unix seconds.
     pub started: u64,
 }
@@ -158,10 +167,8 @@ pub struct AdminListener {
 pub struct ServeConfig<'a> {
     /// The token file of the start.
     pub tokens: &'a TokenTable,
-    /// The address to listen on.
-    pub address: Ipv4Addr,
-    /// The port to listen on.
-    pub port: u16,
+    /// The addresses and ports to listen on.
+    pub addresses: &'a [SocketAddr],
     /// The limits on connections.
     pub limits: Limits,
     /// The retention of what has ended in seconds; nothing is purged if `None`.
@@ -179,17 +186,21 @@ pub struct ServeConfig<'a> {
 pub trait Listen {
     type Sockets: Sockets + Drop;
 
+    type Backups: MakeBackups + Drop;
+
     type Log: LogFile + Drop;
 
     /// Returns the access log, if there is one, once.
     fn log(&mut self) -> Option<Self::Log>;
 
-    /// Opens that port of the address, and the admin port of 127.0.0.1.
+    /// Returns the maker of backups, if there is a backup directory, once.
+    fn backups(&mut self) -> Option<Self::Backups>;
+
+    /// Opens the ports of these addresses, and the admin port.
     fn listen(
         self,
-        address: Ipv4Addr,
-        port: u16,
-        operators: Option<u16>,
+        addresses: &[SocketAddr],
+        operators: Option<SocketAddr>,
     ) -> io::Result<Self::Sockets>;
 }
 
@@ -198,8 +209,8 @@ fn build_of(operated: Option<AdminListener>, hosts: &Option<OwnHosts>) -> Option
     ensures { IsSome result → IsSome operated }
 {
     match (operated, hosts) {
-        (Some(AdminListener { port: _, started }), Some(hosts)) => Some(BuildInfo {
-            started,
+        (Some(operated), Some(hosts)) => Some(BuildInfo {
+            started: operated.started,
             version: VERSION,
             kit: KIT,
             hosts,
@@ -214,15 +225,15 @@ fn hosts_of(
     operated: Option<AdminListener>,
 ) -> Result<Option<OwnHosts>, AllocError> {
     match operated {
-        Some(operated) => Ok(Some(OwnHosts::new(alloc, operated.port)?)),
+        Some(operated) => Ok(Some(OwnHosts::new(alloc, operated.address.port())?)),
         None => Ok(None),
     }
 }
 
-// Returns the admin port.
-fn operators_port(operated: Option<AdminListener>) -> Option<u16> {
+// Returns the address of the admin port.
+fn operators_address(operated: Option<AdminListener>) -> Option<SocketAddr> {
     match operated {
-        Some(AdminListener { port, started: _ }) => Some(port),
+        Some(operated) => Some(operated.address),
         None => None,
     }
 }
@@ -232,6 +243,7 @@ fn serve_sockets<
     S: PurgeEnded + SnapshotSource + Drop,
     M: Moments,
     N: Sockets + Drop,
+    B: MakeBackups + Drop,
     T: TokenSource + Drop,
     J: ServerLog,
 >(
@@ -243,7 +255,8 @@ fn serve_sockets<
     build: Option<BuildInfo<'_>>,
     watch: TokenWatch<T>,
     moments: &mut M,
-    sockets: N,
+    sockets: &mut N,
+    backups: Option<B>,
     journal: &mut J,
 ) -> (Result<(), Fault>, S)
     requires { salt ≡ salt_of given.tokens.now }
@@ -260,6 +273,7 @@ fn serve_sockets<
         &mut service,
         moments,
         sockets,
+        backups,
         given.limits,
         given.keep,
         given.changed,
@@ -309,14 +323,12 @@ pub fn serve_port<
         return (Err(Fault::Memory), space);
     };
     let log = listener.log();
-    let sockets = match listener.listen(given.address, given.port, operators_port(given.operated)) {
+    let backups = listener.backups();
+    let mut sockets = match listener.listen(given.addresses, operators_address(given.operated)) {
         Ok(sockets) => sockets,
         Err(cause) => return (Err(io_fault(&cause, Fault::Socket)), space),
     };
-    let _ = print_listening(given.address, given.port, error);
-    if let Some(operated) = given.operated {
-        let _ = print_admin_listening(operated.port, error);
-    }
+    print_ports(given, error);
     let mut journal = Lines {
         alloc,
         error,
@@ -332,7 +344,8 @@ pub fn serve_port<
         build_of(given.operated, &hosts),
         watch,
         moments,
-        sockets,
+        &mut sockets,
+        backups,
         &mut journal,
     )
 }

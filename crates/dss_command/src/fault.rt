@@ -7,6 +7,7 @@ ghost use Rattle.dss_command.specs.Fault.{line_of, status_of, told_by};
 use crate::backup_fault::BackupFault;
 use dss_report::fault::{CellFault, ReportFault};
 use grid_core::token::TokenFault;
+use policy_core::rule::Rule;
 use space_sql_open::open_fault::OpenFault;
 use std::io::{ErrorKind, Write};
 use std::{fmt, io};
@@ -44,6 +45,10 @@ pub enum Fault {
     Stream(StreamFault),
     /// The token is the token of no cell.
     Token(TokenFault),
+    /// A request to explain does not have the form of an operation; this rule denies it.
+    Request(Rule),
+    /// The body of a request to explain has over 1,048,576 bytes.
+    BodyTooLong,
     /// Output other than responses could not be written.
     Output,
     /// Memory ran out.
@@ -91,6 +96,12 @@ impl fmt::Display for Fault {
                 let name = fault.name();
                 write!(f, "dss: token: fault {number} {name}")
             }
+            Fault::Request(rule) => {
+                let number = rule.number();
+                let name = rule.name();
+                write!(f, "dss: request: P{number} {name}")
+            }
+            Fault::BodyTooLong => write!(f, "dss: request: H5 BODYSIZE"),
             Fault::Output => write!(f, "dss: output"),
             Fault::Memory => write!(f, "dss: memory"),
         }

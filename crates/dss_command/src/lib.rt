@@ -5,6 +5,7 @@ mod aborted_connection;
 pub mod backup_fault;
 pub mod clients;
 mod clock_lines;
+pub mod explain;
 pub mod fault;
 pub mod limits;
 pub mod line;

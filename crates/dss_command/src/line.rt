@@ -6,6 +6,7 @@ ghost use Rattle.wire_http.specs.Counted.{inner_of};
 ghost use Rattle.dss_command.specs.Fault.{status_of};
 ghost use Rattle.dss_command.specs.Line.{Does, EndsLine, EndsRefused};
 
+use crate::explain::explain;
 use crate::fault::{Fault, print_fault, status};
 use crate::print::cell;
 use dss_args::command_args::{CommandArgs, parse};
@@ -67,8 +68,13 @@ pub trait Commands {
             (W.contents output.old) (W.contents output.new) result };
 
     /// Runs the command `backup`, which prints nothing.
-    fn backup(self, database: &str, to: &str) -> Result<(), Fault>
-        ensures { does (CommandArgs.Backup database.entry to.entry) None None None result };
+    fn backup(self, database: &str, to: &str, live: bool) -> Result<(), Fault>
+        ensures { does (CommandArgs.Backup database.entry to.entry live) None None None result };
+
+    /// Runs the command `verify`.
+    fn verify<W: Write>(self, file: &str, output: &mut W) -> Result<(), Fault>
+        ensures { does (CommandArgs.Verify file.entry) None
+            (W.contents output.old) (W.contents output.new) result };
 
     /// Runs the command `upgrade`.
     fn upgrade<W: Write>(self, database: &str, output: &mut W) -> Result<(), Fault>
@@ -173,8 +179,14 @@ fn perform<C: Commands + Drop, R: Read, O: Write, E: Write>(
             request,
         } => commands.loop_back(tokens, now, request, input, output),
         CommandArgs::Cell { token } => cell(alloc, token, output),
+        CommandArgs::Explain {
+            method,
+            target,
+            now,
+        } => explain(alloc, method, target, now, input, output),
         CommandArgs::Report { database, places } => commands.report(database, places, output),
-        CommandArgs::Backup { database, to } => commands.backup(database, to),
+        CommandArgs::Backup { database, to, live } => commands.backup(database, to, live),
+        CommandArgs::Verify { file } => commands.verify(file, output),
         CommandArgs::Upgrade { database } => commands.upgrade(database, output),
         CommandArgs::Purge {
             database,

@@ -15,8 +15,8 @@ use token_check::new::{NewFault, salt_line, token_table};
 use token_check::report::check_token_file;
 use token_check::token_file_error::TokenFileError;
 
-// Writes a line for each text.
-fn put_lines<W: Write>(lines: &[String], output: &mut W) -> Result<(), Fault>
+/// Writes a line for each text.
+pub(crate) fn put_lines<W: Write>(lines: &[String], output: &mut W) -> Result<(), Fault>
     ensures { IfErr result (λ fault. fault ≡ Output) }
 {
     for line in lines {

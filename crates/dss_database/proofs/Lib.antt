@@ -1,4 +1,4 @@
 mod Reporting
 mod Serving
-mod Copies
+mod Mirrors
 mod Purging

@@ -22,14 +22,16 @@ use Rattle.space_mirror.specs.Mirrored.{MirroredModel, is_pending_in}
 use Rattle.space_sql.specs.Found.{FilesSpell, FindsSpelt}
 use Rattle.space_sql.specs.Holding.{SqlSpaceModel}
 use Rattle.space_sql.specs.Restart.{ClosesFiles, FilesHave, without_log}
+use Rattle.space_sql.specs.declared.left_files.LeftFiles.{LeftFiles}
 use Rattle.space_sql_schema.specs.declared.format.Format.TheVariants.{Two}
 use Rattle.dss_command.specs.Purging.{LeavesPurged, PurgesSpace}
 use Rattle.dss_command.specs.declared.purged.PurgeCounts.{PurgeCounts}
 use Rattle.dss_command.specs.Print.{purged_line}
 use Rattle.dss_command.specs.declared.fault.Fault.{Fault}
 use Rattle.dss_command.specs.declared.fault.Fault.TheVariants.{DatabaseFailed, Output}
-use Rattle.dss_database.specs.Files.{IsOfDatabase, PurgesFiles, PurgesPartly}
-use Rattle.dss_database.proofs.Reporting.{IsOver}
+use Rattle.dss_database.specs.Files.{EndsClosing, IsOfDatabase, LeavesSpace, PurgesFiles, PurgesPartly}
+use Rattle.dss_database.specs.declared.failure.Failure.{Failure}
+use Rattle.dss_database.proofs.Reporting.{IsOver, stand_only}
 
 -- Relates the properties of a mirrored space without pending changes to those of its store.
 pub record IsGroupOver {S : Type 0} (tables : spaces.Ghosts S) (space : spaces.Ghosts (MirroredModel S)) : Type 0 where
@@ -107,8 +109,8 @@ module _ {D : Type 0} {g : disk.Ghosts D} (space : spaces.Ghosts (SqlSpaceModel 
     partly : space.is_sound new → (a : Airspace) → StandFor image a → (b : Airspace) → space.holds new b → IsPartlyPurged until a b
     partly is a stands = partly_left space.holds until a new told (purges.left is a (content is a stands))
 
-    pub stands_partly : PurgesPartly space image until
-    stands_partly = record {
+    pub stands_partly : (left : LeftFiles D g) → LeavesSpace new left → PurgesPartly space image until left
+    stands_partly rest leaves = record {
       opened = old;
       finds = finds;
       new = new;
@@ -120,6 +122,7 @@ module _ {D : Type 0} {g : disk.Ghosts D} (space : spaces.Ghosts (SqlSpaceModel 
       crashed = λ last left clean a stands after may.
           let is = over.sound new (left.sound clean) in
           ∥∥₁_map (left.held clean (over.whole new (whole is a stands)) after may) (λ it. (it.0, partly is a stands it.0 (over.holds new it.0 it.1), it.2));
+      kept = λ a stands. stand_only space (IsPartlyPurged until a) over new rest leaves (λ is. (whole is a stands, partly is a stands));
     }
 
   closed_told : (counts : PurgeCounts) → PurgesSpace space until old new (Ok counts) → (files : Files D) → ClosesFiles new files → (before after : Option (List ℕ)) → Appends before after (purged_line counts) → PurgesFiles g image until before after files
@@ -139,14 +142,12 @@ module _ {D : Type 0} {g : disk.Ghosts D} (space : spaces.Ghosts (SqlSpaceModel 
 
 -- ---- results of the command
 
--- A property that always holds also holds after a fault.
-pub partly_anyway : {T : Type 0} (result : Result T Fault) (Q : Fault → Type 0) (P : Type 0) → P → IfErr result (λ fault. Q fault ⊎ P)
-partly_anyway (Ok x) Q P p = tt
-partly_anyway (Err why) Q P p = inr p
+-- If the work ended in a fault, nothing is claimed of closed files.
+pub untold : {D : Type 0} {g : disk.Ghosts D} (k : SqlSpaceModel (FileStore D g)) (why : Fault) (result : Result (Files D) (Failure D g)) (P : Files D → Type 0) → EndsClosing (Err why) k result → IfOk result P
+untold k why (Ok files) P never = absurd never
+untold k why (Err failure) P ends = tt
 
--- If the work ended in a fault, nothing is claimed of the files.
-pub untold : {T : Type 0} (result : Result T Fault) (why : Fault) (P : T → Type 0) → result ≡ Err why → IfOk result P
-untold result why P is = subst (λ r. IfOk r P) (sym is) tt
-
-pub told_failed : {T X : Type 0} (result : Result T Fault) (output : X) → result ≡ Err DatabaseFailed → IfErr result (λ fault. (IsOfDatabase fault × (output ≡ output)) ⊎ (fault ≡ Output))
-told_failed result output is = subst (λ r. IfErr r (λ fault. (IsOfDatabase fault × (output ≡ output)) ⊎ (fault ≡ Output))) (sym is) (inl (inr refl, refl))
+pub told_failed : {D X : Type 0} {g : disk.Ghosts D} (k : SqlSpaceModel (FileStore D g)) (result : Result (Files D) (Failure D g)) (output : X) → EndsClosing (Err DatabaseFailed) k result
+    → IfErr result (λ failure. (IsOfDatabase failure.fault × (output ≡ output)) ⊎ (failure.fault ≡ Output))
+told_failed k (Ok files) output never = tt
+told_failed k (Err failure) output ends = inl (inr ends.0, refl)

@@ -38,7 +38,7 @@ finds_again again before after old segments batches continues a stands next find
 -- Files are closed only after work that succeeded.
 work_done : {D : Type 0} {g : disk.Ghosts D} (P : Type 0) (k : SqlSpaceModel (FileStore D g)) (done : Result (Unit {0}) Fault) (files : Files D) → OnOk done P → EndsClosing done k (Ok files) → P × ClosesFiles k files
 work_done P k (Ok x) files p closes = (p, closes)
-work_done P k (Err why) files p ends = absurd (let wrong = ends in cc)
+work_done P k (Err why) files p never = absurd never
 
 module _ {D T M : Type 0} {g : disk.Ghosts D} (space : Ghosts (QuotaModel (MirroredModel (SqlSpaceModel (FileStore D g))))) (clocks : moments.Ghosts M) (again : Ghosts (SqlSpaceModel T)) (law : ContinuesInBatchesClosed (words_of over_files) space)
     (before after : Image) (gives : List ℕ → Type 0) (keep : Option ℕ) (tokens : TokenFile) (opened new : SqlSpaceModel (FileStore D g)) (clock clock' : M) (done : Result (Unit {0}) Fault) (files : Files D) (finds : FindsSpelt before (words_of over_files) opened)

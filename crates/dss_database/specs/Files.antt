@@ -1,11 +1,12 @@
 -- What the commands over a database return, given the contents of its files, and what they leave
 -- there.
-use Rattle.std.specs.Prelude.{◌≡◌, ◌⊎◌, ℕ, Bool, List, Option, false, Result, Ok, Err, OnOk, OnErr, IfErr, codes}
+use Rattle.std.specs.Prelude.{◌≡◌, ◌⊎◌, ℕ, Bool, List, Option, false, Result, Ok, Err, OnOk, OnErr, IfErr, IsTrue, codes}
 use Rattle.std.specs.Io.KnownBytes.{Appends}
 use Rattle.sqlite_disk.specs.declared.Disk as disk
 use Rattle.sqlite_disk.specs.declared.Files.{Files}
 use Rattle.sqlite_store.specs.declared.store.FileStore.{FileStore}
 use Rattle.sqlite_store.specs.FileStore as store
+use Rattle.sqlite_trees.specs.Tree.{Trees}
 use Rattle.sqlite_trees.specs.View.{IsClean}
 use Rattle.sqlite.specs.Recovery.{Image}
 use Rattle.sqlite.specs.WalReads.{AreClean}
@@ -21,9 +22,14 @@ use Rattle.space_sql_load.specs.Checking.{loaded_airspace}
 use Rattle.space_sql_load.specs.declared.table_check.LoadedAirspace.{LoadedAirspace}
 use Rattle.space_quota.specs.QuotaSpace.{QuotaModel}
 use Rattle.space_mirror.specs.Mirrored.{MirroredModel, is_pending_in}
-use Rattle.space_sql.specs.Found.{AreUnmade, FilesSpell, FindsSpelt}
+use Rattle.space_sql.specs.Closing.{ClosesRemains, KeepsFiles}
+use Rattle.space_sql.specs.FailedOpen.{RefusesOpening}
+use Rattle.space_sql.specs.Found.{AreUnmade, FilesSpell, FindsSpelt, KeepsAs}
 use Rattle.space_sql.specs.Holding.{SqlSpaceModel}
 use Rattle.space_sql.specs.Restart.{ClosesFiles, FilesHave, FilesLeft, LeavesFiles, without_log}
+use Rattle.space_sql.specs.declared.failed_open.FailedOpen.{FailedOpen}
+use Rattle.space_sql.specs.declared.left_files.LeftFiles.{LeftFiles}
+use Rattle.space_sql.specs.declared.left_files.LeftFiles.TheVariants.{Nothing, Closed, Unclosed}
 use Rattle.space_sql_schema.specs.declared.format.Format.{Format}
 use Rattle.space_sql_schema.specs.declared.format.Format.TheVariants.{One, TwoUnindexed, Two}
 use Rattle.token_conf.specs.TokenFile.{TokenFile}
@@ -36,6 +42,7 @@ use Rattle.dss_command.specs.declared.purged.PurgeCounts.{PurgeCounts}
 use Rattle.dss_command.specs.Stream.{ServesOver, ServesPartOver}
 use Rattle.dss_command.specs.declared.fault.Fault.{Fault}
 use Rattle.dss_command.specs.declared.fault.Fault.TheVariants.{Database, DatabaseFailed, Memory, Output}
+use Rattle.dss_database.specs.declared.failure.Failure.{Failure}
 
 -- The line that is printed for a database that had this format.
 abbrev pub format_line : Format → List ℕ
@@ -51,13 +58,51 @@ IsRefusal fault = (why : OpenFault) × (fault ≡ Database why)
 abbrev pub IsOfDatabase : Fault → Type 0
 IsOfDatabase fault = IsRefusal fault ⊎ (fault ≡ DatabaseFailed)
 
--- How a command ends that closes its space last, given the result of its work: with the fault of
--- the work, or otherwise as the close does.
-abbrev pub EndsClosing : {D : Type 0} {g : disk.Ghosts D}
-    → Result (Unit {0}) Fault → SqlSpaceModel (FileStore D g) → Result (Files D) Fault → Type 0
-EndsClosing (Err why) k result = result ≡ Err why
-EndsClosing (Ok x) k (Ok files) = ClosesFiles k files
-EndsClosing (Ok x) k (Err why) = why ≡ DatabaseFailed
+module _ {D : Type 0} {g : disk.Ghosts D} where
+  -- Holds if files with this content could not be opened: the fault is right for an opening of
+  -- them, which left something of them, and closing that left this. If nothing is left, only the
+  -- fault `Store` is claimed: no clause shows that no file was opened.
+  abbrev pub RefusesDatabase : Image → Failure D g → Type 0
+  RefusesDatabase image failure =
+      (remains : FailedOpen D g) × (why : OpenFault) × (failure.fault ≡ Database why)
+      × RefusesOpening image remains why × ClosesRemains remains failure.left
+
+  -- Holds if this is left of the files of a space that was closed. If the close failed, a crash
+  -- leaves nothing else of them than of the space.
+  abbrev pub LeavesSpace : SqlSpaceModel (FileStore D g) → LeftFiles D g → Type 0
+  LeavesSpace k Nothing = ⊥
+  LeavesSpace k (Closed files) = ClosesFiles k files
+  LeavesSpace k (Unclosed last) = KeepsFiles k last
+
+  -- How a command ends that closes its space last, given the result of its work: with the fault of
+  -- the work, or otherwise as the close does. What is left of the files is what the space held.
+  abbrev pub EndsClosing : Result (Unit {0}) Fault → SqlSpaceModel (FileStore D g)
+      → Result (Files D) (Failure D g) → Type 0
+  EndsClosing (Err why) k (Ok files) = ⊥
+  EndsClosing (Err why) k (Err failure) = (failure.fault ≡ why) × LeavesSpace k failure.left
+  EndsClosing (Ok x) k (Ok files) = ClosesFiles k files
+  EndsClosing (Ok x) k (Err failure) =
+      (failure.fault ≡ DatabaseFailed) × LeavesSpace k failure.left
+
+  -- Holds if what is left of the files represents, in format 2, an airspace with this property and
+  -- no other. Closed files do so also without their log. It applies as long as the disk returned
+  -- what was written. After a failed close it applies to what the store says that a crash leaves,
+  -- and to the files that a crash leaves under the condition of `KeepsTrees`.
+  abbrev pub StandOnlyFor : (Airspace → Type 0) → LeftFiles D g → Type 0
+  StandOnlyFor P Nothing = ⊥
+  StandOnlyFor P (Closed files) =
+      AreClean g files.log files.db → (left : Image) → FilesHave g files left
+      → ∥ ((b : Airspace) × P b × FilesSpell Two left b × FilesSpell Two (without_log left) b) ∥₁
+  StandOnlyFor P (Unclosed last) =
+      IsClean (store.view last)
+      → ((db : Trees) → store.recovers last db → (b : Airspace) × P b × KeepsAs Two db b)
+      × (IsTrue (store.view last).is_numbered → (left : Image) → FilesLeft last left
+      → ∥ ((b : Airspace) × P b × FilesSpell Two left b) ∥₁)
+
+  -- Holds if what is left of the files represents the airspace that they stood for.
+  abbrev pub KeepsAirspaceIn : Image → LeftFiles D g → Type 0
+  KeepsAirspaceIn image left =
+      (a : Airspace) → StandFor image a → StandOnlyFor (λ b. b ≡ a) left
 
 -- States that the output is the report of the airspace of the space, or the cells of its
 -- references. The space was only read.
@@ -111,9 +156,10 @@ module _ {D : Type 0} (g : disk.Ghosts D) (image : Image) where
 
 -- States that a space was opened from files, purged completely or partly, and closed, successfully
 -- or not. The files, after a close or after a crash, represent in format 2 a partly purged state of
--- the airspace that they represented.
+-- the airspace that they represented. So does what is left of them.
 pub record PurgesPartly {D : Type 0} {g : disk.Ghosts D}
-    (tables : spaces.Ghosts (SqlSpaceModel (FileStore D g))) (image : Image) (until : ℕ) : Type 0 where
+    (tables : spaces.Ghosts (SqlSpaceModel (FileStore D g))) (image : Image) (until : ℕ)
+    (left : LeftFiles D g) : Type 0 where
   pub opened : SqlSpaceModel (FileStore D g)
   pub finds : FindsSpelt image tables opened
   pub new : SqlSpaceModel (FileStore D g)
@@ -126,13 +172,14 @@ pub record PurgesPartly {D : Type 0} {g : disk.Ghosts D}
   pub crashed : (last : FileStore D g) → LeavesFiles new last → IsClean (store.view last)
       → (a : Airspace) → StandFor image a → (left : Image) → FilesLeft last left
       → ∥ ((b : Airspace) × IsPartlyPurged until a b × FilesSpell Two left b) ∥₁
+  pub kept : (a : Airspace) → StandFor image a → StandOnlyFor (IsPartlyPurged until a) left
 
 -- States how a command ends that served a stream over a space, or its first requests, and closed
 -- the space last.
 pub record ServesClosing {D : Type 0} {g : disk.Ghosts D}
     (space : spaces.Ghosts (SqlSpaceModel (FileStore D g))) (tokens : TokenFile) (now : ℕ)
     (remaining before after : Option (List ℕ)) (old : SqlSpaceModel (FileStore D g))
-    (result : Result (Files D) Fault) : Type 0 where
+    (result : Result (Files D) (Failure D g)) : Type 0 where
   pub new : SqlSpaceModel (FileStore D g)
   pub done : Result (Unit {0}) Fault
   pub served : OnOk done (ServesOver space tokens now remaining before after old new)
@@ -169,7 +216,8 @@ pub record ClosesServed {D M : Type 0} {g : disk.Ghosts D}
     (tables : spaces.Ghosts (SqlSpaceModel (FileStore D g)))
     (space : spaces.Ghosts (QuotaModel (MirroredModel (SqlSpaceModel (FileStore D g)))))
     (m : moments.Ghosts M) (gives : List ℕ → Type 0) (keep : Option ℕ) (tokens : TokenFile)
-    (old : SqlSpaceModel (FileStore D g)) (clock clock' : M) (result : Result (Files D) Fault) : Type 0 where
+    (old : SqlSpaceModel (FileStore D g)) (clock clock' : M)
+    (result : Result (Files D) (Failure D g)) : Type 0 where
   pub new : SqlSpaceModel (FileStore D g)
   pub done : Result (Unit {0}) Fault
   pub served : ServesMirrored tables space m gives keep tokens old new clock clock' done

@@ -9,12 +9,13 @@ ghost use Rattle.token_conf.specs.TokenFile.{salt_of};
 ghost use Rattle.wire_http.specs.Counted.{inner_of};
 ghost use Rattle.dss_command.specs.Stream.{ServesOver, ServesPartOver};
 ghost use Rattle.dss_command.specs.declared.fault.Fault.TheVariants.{DatabaseFailed, Memory, Output};
-ghost use Rattle.dss_database.specs.Files.{ClosesServed, EndsClosing, IsOfDatabase, IsRefusal};
-ghost use Rattle.dss_database.specs.Files.{KeepsAirspace};
+ghost use Rattle.dss_database.specs.Files.{ClosesServed, EndsClosing, IsOfDatabase};
+ghost use Rattle.dss_database.specs.Files.{KeepsAirspace, KeepsAirspaceIn, RefusesDatabase};
 ghost use Rattle.dss_database.specs.Files.{ReportsFiles, ReportsSpace, ServesClosing, ServesMirrored};
 ghost use Rattle.dss_database.specs.Files.{PurgesFiles, PurgesPartly, UpgradesFiles};
 ghost use Rattle.dss_command.specs.Purging.{PurgesSpace};
 
+use crate::failure::Failure;
 use crate::with_mirror::with_mirror;
 use dss_command::clients::{Listen, ServeConfig, serve_port};
 use dss_command::fault::Fault;
@@ -29,6 +30,7 @@ use space_core::space::{Space, SpaceFault};
 use space_mirror::mirrored::Mirrored;
 use space_quota::quota_space::QuotaSpace;
 use space_quota::usage_table::UsageTable;
+use space_sql::left_files::LeftFiles;
 use space_sql::space::SqlSpace;
 use space_sql_load::table_check::LoadedAirspace;
 use sqlite::{Alter, FileFrom, FileStore, Files, Start};
@@ -39,45 +41,54 @@ use token_conf::token_table::TokenTable;
 use wire_http::{Counted, Moments};
 
 /// Opens the database in the file of that name, with everything that it holds if that was read.
-/// After a fault, closes what it opened.
+/// After a fault, closes what it opened, and returns what is left of the files.
 pub fn open_database<F: Start>(
     rt: &HostRuntime,
     name: &str,
     start: F,
-) -> Result<(SqlSpace<FileStore<FileFrom<F>>>, Option<LoadedAirspace>), Fault>
+) -> Result<(SqlSpace<FileStore<FileFrom<F>>>, Option<LoadedAirspace>), Failure<FileFrom<F>>>
     ensures finds { IfOk result (λ t. FindsSpelt (image_at F.Start)
         ⟦<SqlSpace<FileStore<FileFrom<F>>> as Space>⟧ t.0) }
     ensures all { IfOk result (λ t. IfSome t.1 (IsAllOf over_files t.0)) }
-    ensures refused { IfErr result IsRefusal }
+    ensures refused { IfErr result (RefusesDatabase (image_at F.Start)) }
 {
     match SqlSpace::open(rt, name, start) {
         Ok(taken) => Ok(taken),
-        Err((fault, remains)) => {
-            remains.close();
-            Err(Fault::Database(fault))
-        }
+        Err((fault, remains)) => Err(Failure {
+            fault: Fault::Database(fault),
+            left: remains.close(),
+        }),
     }
 }
 
 /// Closes the database of a command with that result. A fault of the work takes precedence over one
-/// of the close.
+/// of the close. Either comes with what is left of the files.
 pub fn close_database<F: Start>(
     done: Result<(), Fault>,
     space: SqlSpace<FileStore<FileFrom<F>>>,
-) -> Result<Files<FileFrom<F>>, Fault>
+) -> Result<Files<FileFrom<F>>, Failure<FileFrom<F>>>
     ensures { EndsClosing done space result }
 {
-    let closed = space.close_files();
-    done?;
-    match closed {
-        Ok(files) => Ok(files),
-        Err(_) => Err(Fault::DatabaseFailed),
+    match (space.close_files(), done) {
+        (Ok(files), Ok(())) => Ok(files),
+        (Ok(files), Err(fault)) => Err(Failure {
+            fault,
+            left: LeftFiles::Closed(files),
+        }),
+        (Err((_, store)), Ok(())) => Err(Failure {
+            fault: Fault::DatabaseFailed,
+            left: LeftFiles::Unclosed(store),
+        }),
+        (Err((_, store)), Err(fault)) => Err(Failure {
+            fault,
+            left: LeftFiles::Unclosed(store),
+        }),
     }
 }
 
-// Prints the report of tables in some store. It is generic in the store, because proofs over the
-// store of a file are expensive.
-fn report_tables<A: Alter + Drop, W: Write>(
+/// Prints the report of tables in some store. It is generic in the store, because proofs over the
+/// store of a file are expensive.
+pub(crate) fn report_tables<A: Alter + Drop, W: Write>(
     alloc: Global,
     space: &mut SqlSpace<A>,
     places: bool,
@@ -97,11 +108,13 @@ pub fn report<F: Start, W: Write>(
     start: F,
     places: bool,
     output: &mut W,
-) -> Result<Files<FileFrom<F>>, Fault>
+) -> Result<Files<FileFrom<F>>, Failure<FileFrom<F>>>
     ensures reported { IfOk result (ReportsFiles ⟦<FileFrom<F> as Disk>⟧ (image_at F.Start) places
         (W.contents output.old) (W.contents output.new)) }
-    ensures told { IfErr result (λ fault.
-        IsOfDatabase fault ⊎ (fault ≡ Memory) ⊎ (fault ≡ Output)) }
+    ensures left { IfErr result (λ failure. RefusesDatabase (image_at F.Start) failure
+        ⊎ KeepsAirspaceIn (image_at F.Start) failure.left) }
+    ensures told { IfErr result (λ failure.
+        IsOfDatabase failure.fault ⊎ (failure.fault ≡ Memory) ⊎ (failure.fault ≡ Output)) }
 {
     let (mut space, _) = open_database(rt, name, start)?;
     let done = report_tables(rt.alloc(), &mut space, places, output);
@@ -115,17 +128,24 @@ pub fn upgrade<F: Start, W: Write>(
     name: &str,
     start: F,
     output: &mut W,
-) -> Result<Files<FileFrom<F>>, Fault>
+) -> Result<Files<FileFrom<F>>, Failure<FileFrom<F>>>
     ensures upgraded { IfOk result (UpgradesFiles ⟦<FileFrom<F> as Disk>⟧ (image_at F.Start)
         (W.contents output.old) (W.contents output.new)) }
-    ensures told { IfErr result (λ fault.
-        (IsOfDatabase fault × (output.new ≡ output.old)) ⊎ (fault ≡ Output)) }
+    ensures left { IfErr result (λ failure. RefusesDatabase (image_at F.Start) failure
+        ⊎ KeepsAirspaceIn (image_at F.Start) failure.left) }
+    ensures told { IfErr result (λ failure. (IsOfDatabase failure.fault × (output.new ≡ output.old))
+        ⊎ (failure.fault ≡ Output)) }
 {
     let (space, _) = open_database(rt, name, start)?;
     let upgraded = space.upgraded();
     let files = close_database(Ok(()), space)?;
-    put_format(upgraded, output)?;
-    Ok(files)
+    match put_format(upgraded, output) {
+        Ok(()) => Ok(files),
+        Err(fault) => Err(Failure {
+            fault,
+            left: LeftFiles::Closed(files),
+        }),
+    }
 }
 
 /// Opens and closes the database in the file of that name for a backup, so that the file contains
@@ -134,13 +154,14 @@ pub fn checkpoint_database<F: Start>(
     rt: &HostRuntime,
     name: &str,
     start: F,
-) -> Result<Files<FileFrom<F>>, Fault>
+) -> Result<Files<FileFrom<F>>, Failure<FileFrom<F>>>
     ensures kept { IfOk result (KeepsAirspace ⟦<FileFrom<F> as Disk>⟧ (image_at F.Start)) }
-    ensures told { IfErr result IsOfDatabase }
+    ensures left { IfErr result (λ failure. RefusesDatabase (image_at F.Start) failure
+        ⊎ KeepsAirspaceIn (image_at F.Start) failure.left) }
+    ensures told { IfErr result (λ failure. IsOfDatabase failure.fault) }
 {
     let (space, _) = open_database(rt, name, start)?;
-    let files = close_database(Ok(()), space)?;
-    Ok(files)
+    close_database(Ok(()), space)
 }
 
 // Purges tables in some store through a mirror.
@@ -167,21 +188,27 @@ pub fn purge<F: Start, W: Write>(
     start: F,
     until: u64,
     output: &mut W,
-) -> Result<Files<FileFrom<F>>, Fault>
+) -> Result<Files<FileFrom<F>>, Failure<FileFrom<F>>>
     ensures purged { IfOk result (PurgesFiles ⟦<FileFrom<F> as Disk>⟧ (image_at F.Start) until
         (W.contents output.old) (W.contents output.new)) }
-    ensures partly { IfErr result (λ fault. IsRefusal fault
-        ⊎ PurgesPartly ⟦<SqlSpace<FileStore<FileFrom<F>>> as Space>⟧ (image_at F.Start) until) }
-    ensures told { IfErr result (λ fault.
-        (IsOfDatabase fault × (output.new ≡ output.old)) ⊎ (fault ≡ Output)) }
+    ensures partly { IfErr result (λ failure. RefusesDatabase (image_at F.Start) failure
+        ⊎ PurgesPartly ⟦<SqlSpace<FileStore<FileFrom<F>>> as Space>⟧ (image_at F.Start) until
+        failure.left) }
+    ensures told { IfErr result (λ failure. (IsOfDatabase failure.fault × (output.new ≡ output.old))
+        ⊎ (failure.fault ≡ Output)) }
 {
     let (space, loaded) = open_database(rt, name, start)?;
     let (done, space) = purged_with_mirror(rt.alloc(), space, loaded, until);
     match done {
         Ok(purged) => {
             let files = close_database(Ok(()), space)?;
-            put_purged(purged, output)?;
-            Ok(files)
+            match put_purged(purged, output) {
+                Ok(()) => Ok(files),
+                Err(fault) => Err(Failure {
+                    fault,
+                    left: LeftFiles::Closed(files),
+                }),
+            }
         }
         Err(_) => close_database(Err(Fault::DatabaseFailed), space),
     }
@@ -217,7 +244,7 @@ pub fn run<F: Start, R: Read, W: Write>(
     now: u64,
     reader: &mut Counted<R>,
     writer: &mut Counted<W>,
-) -> Result<Files<FileFrom<F>>, Fault>
+) -> Result<Files<FileFrom<F>>, Failure<FileFrom<F>>>
     requires { salt ≡ salt_of tokens.now }
     ensures { ServesClosing ⟦<SqlSpace<FileStore<FileFrom<F>>> as Space>⟧ tokens.now now
         (R.remaining (inner_of reader.old))
@@ -287,7 +314,7 @@ pub fn serve<F: Start, M: Moments, L: Listen + Drop, T: TokenSource + Drop, E: W
     moments: &mut M,
     listener: L,
     error: &mut E,
-) -> Result<Files<FileFrom<F>>, Fault>
+) -> Result<Files<FileFrom<F>>, Failure<FileFrom<F>>>
     requires salt { salt ≡ salt_of given.tokens.now }
     requires loaded { IfSome loaded (IsAllOf over_files space) }
     ensures served { ClosesServed ⟦<SqlSpace<FileStore<FileFrom<F>>> as Space>⟧

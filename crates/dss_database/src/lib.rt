@@ -1,6 +1,8 @@
 //! The commands of `dss` over a database, whose files are opened first and closed last.
 #![tactic(auto)]
 
+pub mod copies;
+pub mod failure;
 pub mod files;
 pub mod laws;
 mod with_mirror;

@@ -22,7 +22,7 @@ use Rattle.service_step.proofs.Preserves.{steps_keep}
 use Rattle.service_calls.specs.Batches.{Batch, all_timed, all_delivered}
 use Rattle.service_calls.specs.Run.{TimedCall, airspace_after, has_stopped, replies_of, delivered_replies}
 use Rattle.service_calls.specs.Purged.{AreDeliveredPurged, MayHavePersistedPurged, Segment, airspace_after_batches, all_delivered_in}
-use Rattle.service_calls.proofs.Joined.{answered_then}
+use Rattle.service_calls.proofs.Joined.{answered_then, replies_then, told_then}
 use Rattle.service_calls.proofs.BatchLaws.{kept_all}
 use Rattle.service_purge.specs.Ahead.{AgreeAhead, AllReadOrLookAhead, LooksAhead, ReadersDoNotDisturb, only_reads}
 use Rattle.service_purge.specs.Segments.{PurgedBy, ReadersMayLookBack, all_timed_in, answered_in, answered_of}
@@ -94,17 +94,6 @@ agree_then until salt [] ds a rs rs' qs qs' one two =
 agree_then until salt (c ∷ cs) ds a [] rs' qs qs' one two = absurd one
 agree_then until salt (c ∷ cs) ds a (r ∷ rs) rs' [] qs' one two = absurd one
 agree_then until salt (c ∷ cs) ds a (r ∷ rs) rs' (q ∷ qs) qs' one two = (one.0, agree_then until salt cs ds (step salt a c.0 c.1).0 rs rs' qs qs' one.1 two)
-
-told_then : (rs qs : List Reply) → has_stopped rs ≡ false → delivered_replies (rs ++ qs) ≡ delivered_replies rs ++ delivered_replies qs
-told_then [] qs h = refl
-told_then (Stopped ∷ rs) qs h = absurd (false≢true (sym h))
-told_then (Fault ∷ rs) qs h = told_then rs qs h
-told_then (Done x ∷ rs) qs h = ap (λ (xs : List Reply). Done x ∷ xs) (told_then rs qs h)
-told_then (Denied p m ∷ rs) qs h = ap (λ (xs : List Reply). Denied p m ∷ xs) (told_then rs qs h)
-
-replies_then : (salt : List ℕ) (a : Airspace) (cs ds : List TimedCall) → replies_of salt a (cs ++ ds) ≡ replies_of salt a cs ++ replies_of salt (airspace_after salt a cs) ds
-replies_then salt a [] ds = refl
-replies_then salt a (c ∷ cs) ds = ap (λ (xs : List Reply). (step salt a c.0 c.1).1 ∷ xs) (replies_then salt (step salt a c.0 c.1).0 cs ds)
 
 -- ---- segments
 

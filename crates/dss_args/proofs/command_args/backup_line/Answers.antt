@@ -11,6 +11,7 @@ returns-clause-some c =
       (
         sym (c.in_ok-get_str.ensures ∙ first_value-rows f (codes "db")),
         sym (c.in_ok-get_str-2.ensures ∙ first_value-rows f (codes "to")),
+        sym c.is_set.ensures,
       ),
     )
 
@@ -18,10 +19,10 @@ pub returns-in_err-get_str-clause-none : goal.returns-in_err-get_str-clause-none
 returns-in_err-get_str-clause-none c =
     let f = found_of c.args.matches.now in
     let missing = sym (c.in_err-get_str.ensures ∙ first_value-rows f (codes "db")) in
-    anyway _ _ (nothing_of_backup (rows_of f) (λ db to values. absent _ _ missing values.0))
+    anyway _ _ (nothing_of_backup (rows_of f) (λ db to live values. absent _ _ missing values.0))
 
 pub returns-in_err-get_str-2-clause-none : goal.returns-in_err-get_str-2-clause-none
 returns-in_err-get_str-2-clause-none c =
     let f = found_of c.args.matches.now in
     let missing = sym (c.in_err-get_str-2.ensures ∙ first_value-rows f (codes "to")) in
-    anyway _ _ (nothing_of_backup (rows_of f) (λ db to values. absent _ _ missing values.1))
+    anyway _ _ (nothing_of_backup (rows_of f) (λ db to live values. absent _ _ missing values.1))

@@ -1,4 +1,5 @@
 use Rattle.std.proofs.Common.{◌≡◌, true, List, [], Option, refl, ap, subst, inr, ◌∙◌}
+use Rattle.std.specs.Prelude.{IfNone, IfSome}
 use Rattle.clap.specs.Faults.{fault_of as mistakes_of, is_simple_and_free}
 use Rattle.clap.specs.Kinds.{HasKind}
 use Rattle.clap.specs.Words.{App, Row, Text, app_of, is_simple, subcommand_of, subcommand_rows_of}
@@ -28,7 +29,7 @@ pub returns-clause-err : goal.returns-clause-err
 returns-clause-err c =
     let app : app_of c.in_ok-command.field-0 ≡ dss_app = c.in_ok-command.ensures.0 in
     let rows : subcommand_rows_of c.in-Ok.matches ≡ subcommand_of dss_app (texts c.args.words.now) = (c.in-Ok.ensures.matches (ap is_simple app ∙ simple)).1 ∙ ap (λ (a : App). subcommand_of a (texts c.args.words.now)) app in
-    inr (faultless _ _ app c.in-Ok.ensures.kinds, subst AsksNothing rows c.in-None.ensures.none)
+    inr (faultless _ _ app c.in-Ok.ensures.kinds, subst AsksNothing rows (subst (λ o. IfNone o (AsksNothing (subcommand_rows_of c.in-Ok.matches))) c.in-None.is c.in_ok-line.ensures.none))
 
 pub returns-in-Some-clause-faultless : goal.returns-in-Some-clause-faultless
 returns-in-Some-clause-faultless c =
@@ -39,4 +40,4 @@ pub returns-in-Some-clause-ok : goal.returns-in-Some-clause-ok
 returns-in-Some-clause-ok c =
     let app : app_of c.in_ok-command.field-0 ≡ dss_app = c.in_ok-command.ensures.0 in
     let rows : subcommand_rows_of c.in-Ok.matches ≡ subcommand_of dss_app (texts c.args.words.now) = (c.in-Ok.ensures.matches (ap is_simple app ∙ simple)).1 ∙ ap (λ (a : App). subcommand_of a (texts c.args.words.now)) app in
-    subst (λ (s : Option (Text × List Row)). Asks s c.in-Some.line) rows c.in-Some.ensures.some
+    subst (λ (s : Option (Text × List Row)). Asks s c.in-Some.line) rows (subst (λ o. IfSome o (Asks (subcommand_rows_of c.in-Ok.matches))) c.in-Some.is c.in_ok-line.ensures.some)

@@ -15,6 +15,7 @@ returns c =
       ap (λ (f : Command-F Command). f.has_globals) c.about.ensures ∙ c.new.ensures.local,
     ) in
     let with_1 = arg_more with_0 c.source_option.ensures.rule c.source_option.ensures.local c.in_ok-arg.ensures in
-    IfOk-weaker c.arg-2.result _ _
-    (λ command adds. arg_more with_1 c.destination_argument.ensures.rule c.destination_argument.ensures.local adds)
-    c.arg-2.ensures
+    let with_2 = arg_more with_1 c.live_flag.ensures.rule c.live_flag.ensures.local c.in_ok-arg-2.ensures in
+    IfOk-weaker c.arg-3.result _ _
+    (λ command adds. arg_more with_2 c.destination_argument.ensures.rule c.destination_argument.ensures.local adds)
+    c.arg-3.ensures

@@ -1,4 +1,4 @@
-use Rattle.std.proofs.Common.{◌≡◌, ◌∙◌, ℕ, Bool, Option, Some, ap, sym, subst}
+use Rattle.std.proofs.Common.{◌∙◌, ℕ, Bool, Option, Some, ap, sym, subst}
 use Rattle.std.proofs.lemmas.Result.{IfOk-weaker}
 use Rattle.std.specs.String.{string_bytes}
 use Rattle.jiff_core.specs.declared.timestamp.Timestamp.{Timestamp}

@@ -1,4 +1,4 @@
-use Rattle.dss_database.proofs.Copies.{read_before}
+use Rattle.dss_database.proofs.Mirrors.{read_before}
 use Rattle.dss_database.proofs.with_mirror.with_mirror.Goals as goal
 
 pub returns-in-Some-clause-read : goal.returns-in-Some-clause-read

@@ -1,0 +1,55 @@
+//! What is found in a request.
+ghost use Rattle.std.specs.Prelude.{◌≤◌, OnOk, vec_len};
+
+use crate::lines::Lines;
+use crate::place::Place;
+use crate::problem::Problem;
+use crate::remark::Remark;
+use std::alloc::{AllocError, Global};
+
+/// The lines about what is found in a request.
+#[derive(Debug, Drop)]
+pub(crate) struct Report {
+    pub(crate) problems: Lines,
+    pub(crate) remarks: Lines,
+    pub(crate) alloc: Global,
+}
+
+impl Report {
+    /// Creates a report without lines.
+    pub(crate) fn new(alloc: Global) -> Report {
+        Report {
+            problems: Lines::new(alloc),
+            remarks: Lines::new(alloc),
+            alloc,
+        }
+    }
+
+    /// Appends the line of a problem.
+    pub(crate) fn problem(
+        &mut self,
+        place: Place<'_>,
+        problem: Problem<'_>,
+    ) -> Result<(), AllocError>
+        ensures { OnOk result (1 ≤ vec_len self.new.problems.texts) }
+    {
+        if self.problems.is_full() {
+            self.problems.leave_out();
+            return Ok(());
+        }
+        let alloc = self.alloc;
+        let line = format!(in alloc; "{place}: {problem}")?;
+        self.problems.put(line)
+    }
+
+    /// Appends the line of a remark.
+    pub(crate) fn remark(&mut self, place: Place<'_>, remark: Remark) -> Result<(), AllocError> {
+        if self.remarks.is_full() {
+            self.remarks.leave_out();
+            return Ok(());
+        }
+        let alloc = self.alloc;
+        let line = format!(in alloc; "{place}: {remark}")?;
+        self.remarks.put(line)
+    }
+}
