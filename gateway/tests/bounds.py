@@ -16,7 +16,7 @@ from hostile import PATH, comb
 from properties import translate
 from standard import check
 from world import (
-    FRONT, INTENTS, MANHATTAN, STRATEGIC, TOP, Counted, Gateway, expect, extent, intent, new_id, polygon, query_of)
+    FRONT, INTENTS, MANHATTAN, STRATEGIC, TOP, Counted, Gateway, expect, extent, intent, new_id, polygon, query_of, until)
 
 MEGABYTE = 1 << 20
 
@@ -41,7 +41,7 @@ def at_once(*jobs):
         found[number] = jobs[number]()
     threads = [threading.Thread(target=one, args=(k,), daemon=True) for k in range(len(jobs))]
     [it.start() for it in threads]
-    [it.join(120) for it in threads]
+    [it.join(600) for it in threads]
     return found
 
 
@@ -49,6 +49,14 @@ def seconds_of(job):
     began = time.time()
     job()
     return time.time() - began
+
+
+def at_once_of(job):
+    """Checks that a job takes few seconds. A busy machine may need one more try."""
+    spent = [seconds_of(job)]
+    while spent[-1] >= 5 and len(spent) < 3:
+        spent.append(seconds_of(job))
+    assert spent[-1] < 5, spent
 
 
 def of_process(gateway, name):
@@ -108,10 +116,9 @@ def outlines_of_one_supplier_keep_nobody_out(files, program):
         [it.start() for it in senders]
         time.sleep(0.3)
         for _ in range(10):
-            spent = seconds_of(lambda: expect(place.gateway.ask(other, "POST", f"{INTENTS}/query", query_of(MANHATTAN)), 200))
-            assert spent < 5, spent
+            at_once_of(lambda: expect(place.gateway.ask(other, "POST", f"{INTENTS}/query", query_of(MANHATTAN)), 200))
             time.sleep(0.1)
-        [it.join(120) for it in senders]
+        [it.join(600) for it in senders]
         assert [it.status for it in answers] == [413] * 32, answers
         assert sum("take too long" in it.json["message"] for it in answers) == 8
 
@@ -140,11 +147,13 @@ def work_ends_with_its_client(files, program):
             assert seconds_until_idle(place.gateway) < 16, number
         expect(place.gateway.ask(files.token("uss-a", STRATEGIC), "GET", PATH), 200)
     # With a slow service, waiting requests of the same USS are not sent any more.
-    service = Counted(pause=2)
+    service = Counted(pause=600)
     gateway = Gateway(program, files, service.port)
     clients = [open_to(gateway, request(files, "GET", PATH)) for _ in range(20)]
-    time.sleep(0.5)
+    assert until(lambda: len(service.asked) >= 4), service.asked
     [it.close() for it in clients]
+    time.sleep(3)
+    service.pause = 2
     time.sleep(5)
     assert 4 <= len(service.asked) <= 8, service.asked
     # A client that has only shut down its side is known to wait, and gets its response.
@@ -157,17 +166,19 @@ def work_ends_with_its_client(files, program):
 def each_supplier_has_its_share(files, program):
     """With a slow service and 150 requests of one USS, another USS gets its response, and requests beyond the share are
     denied."""
-    service = Counted(pause=0.5)
+    service = Counted(pause=600)
     gateway = Gateway(program, files, service.port)
     mine, other = files.token("uss-a", STRATEGIC), files.token("uss-b", STRATEGIC)
     statuses = []
     many = [threading.Thread(target=lambda: statuses.append(gateway.ask(mine, "GET", PATH).status), daemon=True) for _ in range(150)]
     [it.start() for it in many]
+    # Those beyond the share are denied before the service gives its first response.
+    until(lambda: len(statuses) >= 20)
     time.sleep(1)
+    service.pause = 0.5
     for _ in range(3):
-        spent = seconds_of(lambda: expect(gateway.ask(other, "GET", PATH), 200))
-        assert spent < 5, spent
-    [it.join(120) for it in many]
+        at_once_of(lambda: expect(gateway.ask(other, "GET", PATH), 200))
+    [it.join(600) for it in many]
     assert set(statuses) == {200, 429} and 20 <= statuses.count(429) <= 50, statuses
     assert gateway.end(), gateway.lines()[-3000:]
     assert service.at_once <= 5, service.at_once
@@ -249,8 +260,7 @@ def slow_clients_keep_nobody_out(files, program):
                     pass
                 except OSError:
                     gone[k] = (time.time() - began, b"")
-            spent = seconds_of(lambda: expect(gateway.ask(files.token("uss-b", STRATEGIC), "GET", PATH), 200))
-            assert spent < 5, spent
+            at_once_of(lambda: expect(gateway.ask(files.token("uss-b", STRATEGIC), "GET", PATH), 200))
             time.sleep(1)
         # Of one USS's share only some bodies are read at once.
         heads = [gone[k] for k in range(0, 60, 2)]
@@ -264,7 +274,7 @@ def slow_clients_keep_nobody_out(files, program):
 def connections_beyond_the_bound_wait(files, program):
     with over_tables(files, program, "--connections", "20") as place:
         silent = [open_to(place.gateway) for _ in range(60)]
-        time.sleep(0.5)
+        time.sleep(2)
         sockets = [os.readlink(it) for it in pathlib.Path(f"/proc/{place.gateway.process.pid}/fd").iterdir() if it.is_symlink()]
         assert sum(it.startswith("socket:") for it in sockets) <= 22, sockets
         threading.Timer(1.5, lambda: [it.close() for it in silent]).start()
@@ -272,9 +282,10 @@ def connections_beyond_the_bound_wait(files, program):
         assert 1 < spent < 20, spent
     # If few connections are left, silent ones get less time.
     with over_tables(files, program, "--connections", "100") as place:
+        began = time.time()
         silent = [open_to(place.gateway) for _ in range(110)]
-        spent = seconds_of(lambda: expect(place.gateway.ask(files.token("uss-a", STRATEGIC), "GET", PATH), 200))
-        assert 4 < spent < 20, spent
+        expect(place.gateway.ask(files.token("uss-a", STRATEGIC), "GET", PATH), 200)
+        assert 4 < time.time() - began < 40, time.time() - began
         [it.close() for it in silent]
 
 
@@ -301,7 +312,7 @@ def a_socket_of_unix(files, program):
                 it.connect(str(path))
                 it.sendall(b"GET %s HTTP/1.1\r\nAuthorization: Bearer %s\r\n\r\n" % (PATH.encode(), token.encode()))
                 assert all_of(it).startswith(b"HTTP/1.1 200")
-            second = subprocess.run([program, "serve", *other.words], capture_output=True, text=True, timeout=20)
+            second = subprocess.run([program, "serve", *other.words], capture_output=True, text=True, timeout=300)
             assert second.returncode == 1 and "is taken" in second.stderr and path.exists()
             other.process.kill()
             other.process.wait()
@@ -312,9 +323,8 @@ def a_socket_of_unix(files, program):
         with contextlib.closing(socket.socket(socket.AF_UNIX)) as it:
             it.connect(str(path))
             it.sendall(data)
-        time.sleep(1)
+        assert until(lambda: " 499 " in other.lines()), other.lines()
         assert other.end() and not path.exists()
-        assert " 499 " in other.lines(), other.lines()
 
 
 # ---- forms

@@ -46,7 +46,7 @@ class Browser:
         self.size(width, height)
 
     def wait_for_targets(self):
-        for _ in range(200):
+        for _ in range(2_000):
             found = self.call("Target.getTargets")["targetInfos"]
             if any(it["type"] == "page" for it in found):
                 return found
@@ -64,7 +64,7 @@ class Browser:
         self.number += 1
         message = {"id": self.number, "method": method, "params": parameters} | ({"sessionId": self.session} if self.session else {})
         self.send(message)
-        mine, until = self.number, time.time() + 60
+        mine, until = self.number, time.time() + 300
         while mine not in self.answers:
             self.take(until - time.time())
         answer = self.answers.pop(mine)
@@ -125,7 +125,7 @@ class Browser:
         assert "exceptionDetails" not in got, got["exceptionDetails"]
         return got["result"].get("value")
 
-    def until(self, expression, seconds=30):
+    def until(self, expression, seconds=120):
         end = time.time() + seconds
         while not self.value(f"Boolean({expression})"):
             assert time.time() < end, f"{expression} does not come true; the page has:\n{self.value('document.body.innerText')[:1500]}"

@@ -44,7 +44,7 @@ def tokens(files, program):
         (f"{head}.{claims}.{plain(b'0' * 256)}", "signature"), (of(key=other), "signature"), (of(key=small), "signature"),
         (of(algorithm="PS256"), "RS256"), (of(algorithm="RS512"), "RS256"),
         (of(exp=1000), "expired"), (of(exp=now), "expired"), (of(exp="soon"), "exp is no number"), (of(without=["exp"]), "exp"),
-        (of(exp=None), "no exp"), (of(exp=-1e300), "expired"), (of(nbf=now + 60), "not yet"),
+        (of(exp=None), "no exp"), (of(exp=-1e300), "expired"), (of(nbf=now + 3_600), "not yet"),
         (of(aud="other.example"), "audience"), (of(aud=[]), "audience"), (of(without=["aud"]), "audience"), (of(aud={"dss.example": 1}), "audience"),
         (of(iss="other.example"), "issuer"), (of(without=["iss"]), "issuer"), (of(iss=["auth.example"]), "issuer"),
         (of(without=["sub"]), "sub"), (of(scope=[STRATEGIC]), "scope"),
@@ -268,16 +268,16 @@ def starts_that_fail(files, program):
                    {"keys": folder}, {"secret": folder / "empty"}, {"secret": folder / "none"}, {"port": taken.getsockname()[1]}, {"other": "1"},
                    {"new-subscription": "perhaps"}):
         words = [str(it) for name, value in (good | change).items() for it in (f"--{name}", value)]
-        done = subprocess.run([program, "serve", *words], capture_output=True, text=True, timeout=20)
+        done = subprocess.run([program, "serve", *words], capture_output=True, text=True, timeout=300)
         assert done.returncode == 1 and done.stderr.count("\n") == 1 and done.stderr.startswith("gateway: "), (change, done)
         assert "secret-of-a-token" not in done.stderr
     for words in (["serve"], ["serve", "--port"], ["serve", "--port", "1", "--port", "2"], ["tokens"], ["translate", "x"]):
-        done = subprocess.run([program, *words], capture_output=True, text=True, timeout=20, stdin=subprocess.DEVNULL)
+        done = subprocess.run([program, *words], capture_output=True, text=True, timeout=300, stdin=subprocess.DEVNULL)
         assert done.returncode == 1 and done.stderr.count("\n") == 1, (words, done)
     # A second one on the same port.
     with over_tables(files, program) as place:
         words = [str(it) for name, value in (good | {"port": place.gateway.port}).items() for it in (f"--{name}", value)]
-        done = subprocess.run([program, "serve", *words], capture_output=True, text=True, timeout=20)
+        done = subprocess.run([program, "serve", *words], capture_output=True, text=True, timeout=300)
         assert done.returncode == 1 and "is taken" in done.stderr
     (folder / "suppliers-wrong").write_text('uss a b\n')
     done = subprocess.run([program, "tokens", "--secret", folder / "secret", "--suppliers", folder / "suppliers-wrong"], capture_output=True)

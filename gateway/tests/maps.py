@@ -60,7 +60,7 @@ def over_map(files, program, area=AREA):
     assert lived, gateway.lines()[-3000:]
 
 
-def until(find, holds, seconds=40):
+def until(find, holds, seconds=120):
     end = time.time() + seconds
     while not holds(found := find()):
         assert time.time() < end, str(found)[:3000]
@@ -127,7 +127,7 @@ def without_the_option_there_is_no_map(files, program):
     short.write_text("0123456789abcdef0123456789abcdef\n0123456789\n")
     for options in (["--map-token", file], ["--map-area", AREA], ["--map-token", short, "--map-area", AREA],
                     *(["--map-token", file, "--map-area", it] for it in ("", "x", "89c", "89c25904c", "89c25,89c25", "89c25,89c25904", "89c25,,"))):
-        done = subprocess.run([program, "serve", *gateway.words, *options], capture_output=True, text=True, timeout=20)
+        done = subprocess.run([program, "serve", *gateway.words, *options], capture_output=True, text=True, timeout=300)
         assert done.returncode == 1 and done.stderr.startswith("gateway: ") and done.stderr.count("\n") == 1, (options, done)
         assert viewer not in done.stderr
 
@@ -258,7 +258,7 @@ def over_whole(files, program, *options):
 
 def later(place, holds):
     """Returns the airspace as on the page, once it was read again and the condition holds."""
-    return until(lambda: expect(place.read("/map/airspace.json"), 200), holds, 10)
+    return until(lambda: expect(place.read("/map/airspace.json"), 200), holds)
 
 
 def the_whole_airspace(files, program):
@@ -312,7 +312,7 @@ def what_is_no_airspace(files, program):
                 "https://127.0.0.1:1", "http://127.0.0.1:1/", "http://10.0.0.1:1"):
         words = ["serve", "--port", str(free_port()), "--service", "1", "--issuer", "i", "--audience", "a"]
         words += [it for name, one in (("tokens", "tokens.toml"), ("keys", "keys.pem"), ("secret", "secret")) for it in (f"--{name}", files.folder / one)]
-        done = subprocess.run([program, *words, "--map-token", file, "--airspace-url", url], capture_output=True, text=True, timeout=20)
+        done = subprocess.run([program, *words, "--map-token", file, "--airspace-url", url], capture_output=True, text=True, timeout=300)
         assert done.returncode == 1 and done.stderr.startswith("gateway: ") and done.stderr.count("\n") == 1, (url, done)
 
 
@@ -341,7 +341,7 @@ def the_ground(files, program):
                      '{"type":"FeatureCollection","features":[{"type":"Feature"}]}', '{"type":"Topology","arcs":[]}', '{"type":5}',
                      '{"type":"FeatureCollection","features":[1]}', '{"type":"GeometryCollection","geometries":[{"type":"Point","coordinates":"x"}]}'):
             path.write_text(text)
-            done = subprocess.run([program, "serve", *words, "--map-ground", path], capture_output=True, text=True, timeout=20)
+            done = subprocess.run([program, "serve", *words, "--map-ground", path], capture_output=True, text=True, timeout=300)
             assert done.returncode == 1 and "is no GeoJSON" in done.stderr and done.stderr.count("\n") == 1, (text, done)
 
 

@@ -46,7 +46,7 @@ def the_package(files, built):
 def the_release(files, built):
     """The release is made of these sources, and is what they build here byte for byte, if the same packages build it."""
     words = 'top=$1; . "$top/gateway/program.bash"; trap forget EXIT; compare_gateway "$2"'
-    done = subprocess.run(["bash", "-uc", words, "bash", TOP, f"{built}/gateway"], capture_output=True, text=True, timeout=120)
+    done = subprocess.run(["bash", "-uc", words, "bash", TOP, f"{built}/gateway"], capture_output=True, text=True, timeout=600)
     assert done.returncode == 0, done
     print(f"gateway: {done.stdout.strip()}")
 
@@ -73,13 +73,13 @@ def run_by(top, *words, path=""):
         while True:
             with contextlib.suppress(OSError), urllib.request.urlopen(f"http://127.0.0.1:{port}/health", timeout=5):
                 break
-            assert process.poll() is None and time.time() < began + 60, (top / "said").read_text()
+            assert process.poll() is None and time.time() < began + 300, (top / "said").read_text()
             time.sleep(0.02)
         yield time.time() - began, (top / "said").read_text()
     finally:
         with contextlib.suppress(OSError):
             os.killpg(process.pid, signal.SIGTERM)
-        process.wait(60)
+        process.wait(300)
 
 
 def make_that_copies(folder, built):
@@ -123,7 +123,7 @@ def a_taken_port_is_named(files, built):
         port, free = str(taken.getsockname()[1]), str(free_port())
         for words in (["--port", port, "--service", free], ["--port", free, "--service", port],
                       ["--port", free, "--service", free, "--airspace-url", f"http://127.0.0.1:{port}"]):
-            done = subprocess.run([TOP / "gateway" / "run", *words], capture_output=True, text=True, timeout=20)
+            done = subprocess.run([TOP / "gateway" / "run", *words], capture_output=True, text=True, timeout=300)
             option = next(it for it in words if words[words.index(it) + 1].endswith(port))
             assert done.returncode == 1 and done.stderr.startswith(f"gateway/run: {option} {port}: "), (words, done)
 

@@ -1,4 +1,5 @@
 """The nginx and HAProxy configurations of deploy/, unchanged, before a service that counts and before the gateway."""
+import concurrent.futures
 import contextlib
 import datetime
 import http.client
@@ -16,13 +17,17 @@ from cryptography.hazmat.primitives import hashes, serialization
 
 from flows import over_tables
 from maps import Skipped
-from world import FRONT, INTENTS, STRATEGIC, TOP, Counted, Gateway, free_port, key_pair, new_id, wait_for
+from world import FRONT, INTENTS, STRATEGIC, TOP, Counted, Gateway, free_port, key_pair, new_id, until, wait_for
 
 OVN = "0123456789abcdef-of-nobody-else"
 # Requests a second that a client sends without a break, over the 50 that the proxies allow, for so many seconds.
 STEADY, SECONDS = 60, 12
+# Clients that send these requests together.
+CLIENTS = 4
 # HAProxy's limits: connections for large bodies at once, and the bytes above which a body is large.
 PLACES, LARGE = 32, 49_152
+# Less than the seconds that HAProxy waits for bytes of a client, and for a connection to the service.
+WAITS = 14
 PATH = f"{FRONT}uss_availability/uss-b"
 
 
@@ -65,13 +70,13 @@ def nginx(files, built, behind):
         yield port, folder
     finally:
         process.terminate()
-        process.wait(60)
+        process.wait(300)
 
 
 def connected(port):
     context = ssl.create_default_context()
     context.check_hostname, context.verify_mode = False, ssl.CERT_NONE
-    return contextlib.closing(http.client.HTTPSConnection("127.0.0.1", port, timeout=60, context=context))
+    return contextlib.closing(http.client.HTTPSConnection("127.0.0.1", port, timeout=300, context=context))
 
 
 def ask(port, token, method, path, body=None):
@@ -82,6 +87,13 @@ def ask_often(count, port, token, method, path, body=None):
     """Returns the statuses of that many requests on one connection."""
     with connected(port) as it:
         return [answer(it, token, method, path, body) for _ in range(count)]
+
+
+def together(job):
+    """Returns the lists that some clients get who do the same at once. On a busy machine one of them alone may be too slow
+    for a limit."""
+    with concurrent.futures.ThreadPoolExecutor(CLIENTS) as pool:
+        return [one for found in pool.map(lambda _: job(), range(CLIENTS)) for one in found]
 
 
 def answer(connection, token, method, path, body=None, fields=None):
@@ -100,21 +112,23 @@ def answer(connection, token, method, path, body=None, fields=None):
 
 def steady(port, token):
     """Returns the statuses of the last three seconds of requests that arrive without a break."""
-    statuses, began = [], time.monotonic()
-    with connected(port) as it:
-        for number in range(STEADY * SECONDS):
-            time.sleep(max(0, began + number / STEADY - time.monotonic()))
-            statuses.append(answer(it, token, "GET", PATH))
-    return statuses[-3 * STEADY:]
+    def one():
+        statuses, began = [], time.monotonic()
+        with connected(port) as it:
+            for number in range(STEADY * SECONDS // CLIENTS):
+                time.sleep(max(0, began + number * CLIENTS / STEADY - time.monotonic()))
+                statuses.append(answer(it, token, "GET", PATH))
+        return statuses[-3 * STEADY // CLIENTS:]
+    return together(one)
 
 
 def limits(port, name):
     """Tries the limit: it is of a token, or of an address without one, and a client beyond it is served as fast as it
     says. Returns the number of requests."""
-    many = ask_often(300, port, "x", "GET", f"{INTENTS}/{name}/{OVN}")
+    many = together(lambda: ask_often(300 // CLIENTS, port, "x", "GET", f"{INTENTS}/{name}/{OVN}"))
     assert {200, 429} == set(many), set(many)
     assert set(ask_often(60, port, "y", "GET", PATH)) == {200}
-    many = ask_often(300, port, None, "GET", PATH)
+    many = together(lambda: ask_often(300 // CLIENTS, port, None, "GET", PATH))
     assert {200, 429} == set(many), set(many)
     last = steady(port, "z")
     assert set(last) == {200, 429} and last.count(200) > len(last) / 2, [(it, last.count(it)) for it in set(last)]
@@ -170,7 +184,7 @@ def haproxy(files, behind, admin):
         yield port, log
     finally:
         process.terminate()
-        process.wait(60)
+        process.wait(300)
         log.socket.close()
 
 
@@ -196,8 +210,8 @@ class Log:
 
     def has(self, count):
         """Returns all lines, once there are that many."""
-        until = time.monotonic() + 10
-        while len(self.lines) < count and time.monotonic() < until:
+        end = time.monotonic() + 60
+        while len(self.lines) < count and time.monotonic() < end:
             time.sleep(0.05)
         return "\n".join(self.lines)
 
@@ -255,22 +269,31 @@ def haproxy_covers_a_restart(files, built):
 def haproxy_keeps_places_free(files, built):
     """Large bodies use a part of the connections to the service, small requests are served meanwhile, and connections over
     the limit of an address get a response."""
+    # On a busy machine a try may take longer than HAProxy waits.
+    assert any(places_are_free(files) for _ in range(5)), "each try took too long"
+
+
+def places_are_free(files):
+    """Tries that. Returns whether it took less time than HAProxy waits for the rest of a body, and for a connection."""
     service, admin = Counted(), healthy()
     with haproxy(files, service.port, admin.port) as (port, _), contextlib.ExitStack() as stack:
-        clients = [stack.enter_context(connected(port)) for _ in range(PLACES + 8)]
+        clients, began = [stack.enter_context(connected(port)) for _ in range(PLACES + 8)], time.monotonic()
         for number, it in enumerate(clients):
             it.putrequest("PUT", PATH)
             it.putheader("Authorization", f"Bearer {number}")
             it.putheader("Content-Length", f"{3 * LARGE}")
             it.endheaders(b" " * 2 * LARGE)
+        until(lambda: service.opened == PLACES, WAITS)
         time.sleep(1)
-        assert service.opened == PLACES, service.opened
+        opened = service.opened
         more = [stack.enter_context(connected(port)) for _ in range(20)]
         statuses = [answer(it, f"of {number}", "GET", PATH) for number, it in enumerate(more)]
-        assert statuses == [200] * 10 + [429] * 10, statuses
-        assert service.opened <= PLACES + 10
+        in_time = time.monotonic() - began < WAITS
     service.end()
     admin.end()
+    assert not in_time or (opened, statuses) == (PLACES, [200] * 10 + [429] * 10), (opened, statuses)
+    assert not in_time or service.opened <= PLACES + 10, service.opened
+    return in_time
 
 
 def nginx_before_the_gateway(files, built):

@@ -19,7 +19,7 @@ def walk_of_the_readme(files, program):
                               cwd=TOP, env={**os.environ, "GATEWAY_FOLDER": str(folder)})
     finally:
         run.send_signal(signal.SIGTERM)
-        run.wait(60)
+        run.wait(300)
     answers = [json.loads(it) for it in done.stdout.splitlines()]
     assert done.returncode == 0 and len(answers) == 4, (done, open(files.folder / "run.log").read())
     created, denied, second, found = answers

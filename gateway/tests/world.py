@@ -8,6 +8,7 @@ import shutil
 import signal
 import socket
 import subprocess
+import sys
 import tempfile
 import threading
 import time
@@ -18,6 +19,10 @@ from cryptography.hazmat.primitives import serialization
 from cryptography.hazmat.primitives.asymmetric import rsa
 
 TOP = pathlib.Path(__file__).resolve().parents[2]
+# Ports that no other test and no connection takes before something listens there.
+sys.path.append(str(TOP / "tests" / "shared"))
+from ports import free_port
+
 ISSUER, AUDIENCE = "auth.example", "dss.example"
 SUPPLIERS = ["uss-a", "uss-b", "uss-c", "uss-v", "uss-d client@example"]
 STRATEGIC, PROCESSING, MANAGEMENT = "utm.strategic_coordination", "utm.constraint_processing", "utm.constraint_management"
@@ -45,10 +50,12 @@ def end_all():
     RUNNING.clear()
 
 
-def free_port():
-    with socket.socket() as it:
-        it.bind(("127.0.0.1", 0))
-        return it.getsockname()[1]
+def until(holds, seconds=120):
+    """Waits until something holds, on a busy machine too. Returns whether it does."""
+    end = time.monotonic() + seconds
+    while not (held := holds()) and time.monotonic() < end:
+        time.sleep(0.02)
+    return held
 
 
 def wait_for(place):
@@ -119,7 +126,7 @@ class Gateway:
         """Stops it normally, and returns whether it lived until then."""
         alive = self.process.poll() is None
         self.process.send_signal(signal.SIGTERM)
-        self.process.wait(60)
+        self.process.wait(300)
         return alive and self.process.returncode == 0
 
     def lines(self):
@@ -127,7 +134,7 @@ class Gateway:
         return self.log.read()
 
     def ask(self, token, method, path, body=None, headers=None):
-        connection = http.client.HTTPConnection("127.0.0.1", self.port, timeout=60)
+        connection = http.client.HTTPConnection("127.0.0.1", self.port, timeout=300)
         fields = ({"Authorization": f"Bearer {token}"} if token else {}) | (headers or {})
         if body is not None and not isinstance(body, (bytes, str)):
             body = json.dumps(body)
@@ -138,7 +145,7 @@ class Gateway:
 
     def raw(self, data, end=False):
         """Sends bytes on a separate connection, and returns all that arrives."""
-        with socket.create_connection(("127.0.0.1", self.port), 30) as it:
+        with socket.create_connection(("127.0.0.1", self.port), 120) as it:
             with contextlib.suppress(OSError):
                 it.sendall(data)
                 if end:
@@ -216,8 +223,8 @@ class Recorded:
 
 
 class Counted:
-    """A service that gives the same response, `{}` at first, on each connection, and counts: connections, requests, and
-    simultaneous requests."""
+    """A service that gives the same response, `{}` at first, on each connection, after a pause that may be changed. It
+    counts connections, requests, and simultaneous requests."""
 
     def __init__(self, pause=0, port=0):
         self.pause, self.opened, self.asked, self.now, self.at_once = pause, 0, [], 0, 0
@@ -225,7 +232,7 @@ class Counted:
         self.drops = 0  # before so many answers the connection is closed
         self.answer = b"{}"
         self.lock, self.open = threading.Lock(), []
-        self.socket = socket.create_server(("127.0.0.1", port), backlog=100)
+        self.socket = socket.create_server(("127.0.0.1", port or free_port()), backlog=100)
         self.port = self.socket.getsockname()[1]
         threading.Thread(target=self.accept, daemon=True).start()
 
@@ -246,7 +253,9 @@ class Counted:
                     self.at_once = max(self.now, self.at_once)
                     drops, is_last = self.drops > 0, bool(self.last) and len(self.asked) % self.last == 0
                     self.drops -= drops
-                time.sleep(self.pause)
+                began = time.monotonic()
+                while (left := began + self.pause - time.monotonic()) > 0:
+                    time.sleep(min(left, 0.05))
                 with self.lock:
                     self.now -= 1
                 if drops:

@@ -381,7 +381,7 @@ def scopes_that_are_not_asked_for(world, asked, pass_on):
 
 def soon(holds):
     """Waits until it holds, for a limited time: the response to a change may still be on its way."""
-    until = time.monotonic() + 2
+    until = time.monotonic() + 10
     while not holds() and time.monotonic() < until:
         time.sleep(0.005)
 

@@ -8,6 +8,7 @@ import signal
 import socket
 import sqlite3
 import subprocess
+import sys
 import tempfile
 import time
 import urllib.request
@@ -16,16 +17,14 @@ import xml.etree.ElementTree as tree
 from proxy import Proxy
 
 TOP = pathlib.Path(__file__).resolve().parents[2]
-PATIENCE = 60
+# Ports that no other test and no connection takes before something listens there.
+sys.path.append(str(TOP / "tests" / "shared"))
+from ports import free_port
+
+PATIENCE = 300
 # A token with all scopes, for the fault that ignores scopes.
 MORE = '\n[[token]]\ntext = "tok-of-all"\nuss = "uss-a"\nscopes = ["utm.strategic_coordination", "utm.conformance_monitoring_sa", ' \
     '"utm.constraint_processing", "utm.constraint_management", "utm.availability_arbitration"]\n'
-
-
-def free_port():
-    with socket.socket() as it:
-        it.bind(("127.0.0.1", 0))
-        return it.getsockname()[1]
 
 
 def wait_for(port):
@@ -87,7 +86,7 @@ class Place:
         self.suite = subprocess.Popen(
             [TOP / "qualify" / "run", *words], stdout=subprocess.PIPE, stderr=subprocess.PIPE, text=True, cwd=self.folder)
         with self.suite:
-            said = self.suite.communicate(timeout=600)
+            said = self.suite.communicate(timeout=1800)
         return Held(self.suite.returncode, *said, folder)
 
     def over(self, fault, *words, **how):

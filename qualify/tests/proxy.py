@@ -182,7 +182,7 @@ class Upstream:
 
     def ask(self, request):
         if not self.connection:
-            self.connection = socket.create_connection(("127.0.0.1", self.port), 60)
+            self.connection = socket.create_connection(("127.0.0.1", self.port), 300)
             self.answers = self.connection.makefile("rb")
         self.connection.sendall(request.written())
         answer = Message.read(self.answers)

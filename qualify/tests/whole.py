@@ -144,7 +144,7 @@ def bounds_are_kept(gateway):
         assert max(seconds) <= 70, max(seconds)
         began = time.monotonic()
         held, proxy = place.over(None, "--seconds", "1", rate="30")
-        assert held.status == 1 and "the limit of --seconds is reached" in held.text and time.monotonic() - began < 30, held
+        assert held.status == 1 and "the limit of --seconds is reached" in held.text and time.monotonic() - began < 60, held
         assert place.left() == []
 
 

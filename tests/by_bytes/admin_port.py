@@ -10,10 +10,11 @@ import time
 import wire
 from failing_files import Failing
 from many_clients import reset
-from client_timeouts import stored_intents
+from client_timeouts import FIRST, stored_intents
+from lateness import again, exceeded
 from ports import free_port
 from program import BUILT, SECONDS, TOP, run
-from serving import Service, until_closed
+from serving import Service, has_ipv6, until_closed
 from sockets import ANSWER, ASKED, CLOSING, LAST, SOCKET, difference
 from without_memory import FAULT, STOPPED
 
@@ -21,6 +22,8 @@ PLAIN, PROMETHEUS = "text/plain; charset=utf-8", "text/plain; version=0.0.4; cha
 SERVING = b"serving\n"
 FAILING = b"failing: the last commit failed\n"
 STOPPING = b"stopping: a stop was requested\n"
+# It is 0 if a listener on :: accepts IPv4 clients, too.
+BOTH_VERSIONS = pathlib.Path("/proc/sys/net/ipv6/bindv6only")
 DEAD = b"stopped: the database failed; restart the service\n"
 
 PUT = wire.request("PUT", f"{wire.AVAILABILITY}/uss-b", "Bearer tok-v", b'{"old_version":"","availability":"Down"}')
@@ -33,6 +36,7 @@ IDLE = 1.2
 NAMES = {
     "dss_connections_open": "gauge", "dss_connections_accepted_total": "counter", "dss_connections_refused_total": "counter",
     "dss_accept_failures_total": "counter", "dss_connections_failed_total": "counter", "dss_requests_total": "counter", "dss_response_bytes_total": "counter",
+    "dss_uss_requests_total": "counter",
     "dss_large_requests_waiting": "gauge", "dss_start_time_seconds": "gauge", "dss_build_info": "gauge",
     "dss_requests_denied_total": "counter", "dss_request_duration_seconds": "histogram",
     "dss_store_failures_total": "counter", "dss_memory_failures_total": "counter", "dss_clock_failures_total": "counter",
@@ -66,13 +70,15 @@ HEALTH, METRICS, STOP = asks("GET", "/health"), asks("GET", "/metrics"), asks("P
 class AdminService(Service):
     """`dss serve` with an admin port."""
 
+    admin_address = "127.0.0.1"
+
     def command(self):
         return [*super().command(), "--admin-port", f"{self.admin}"]
 
     def start(self):
         self.admin = free_port()
         super().start()
-        self.listening += f"dss: admin port on 127.0.0.1:{self.admin}\n".encode()
+        self.listening += f"dss: admin port on {self.admin_address}:{self.admin}\n".encode()
         until = time.monotonic() + self.patience
         while not (self.folder / "errors").read_bytes().startswith(self.listening):
             if time.monotonic() > until:
@@ -80,7 +86,7 @@ class AdminService(Service):
             time.sleep(0.005)
 
     def operator(self):
-        return socket.create_connection(("127.0.0.1", self.admin), timeout=SECONDS)
+        return socket.create_connection((self.admin_address.strip("[]"), self.admin), timeout=SECONDS)
 
     def asked(self, sent):
         """Returns the bytes that arrive on a connection to the admin port until it is closed."""
@@ -128,12 +134,13 @@ def paths():
         ("two requests", HEALTH + STOP, said(200, SERVING)),
     ]
     with AdminService(count=2) as started, started.connect() as silent, started.connect() as kept:
+        connected = time.monotonic()
         kept.sendall(ASKED)
         found = difference("a client before", kept.recv(1 << 16), ANSWER)
         for name, sent, wanted in table:
             began = time.monotonic()
             found += difference(name, started.asked(sent), wanted)
-            found += [f"{name}: it took long"] if time.monotonic() - began > AT_ONCE else []
+            found += exceeded(time.monotonic() - began, AT_ONCE, name)
         with started.operator() as slow:
             for byte in HEALTH:
                 slow.sendall(bytes([byte]))
@@ -145,6 +152,9 @@ def paths():
             found += difference("a part", until_closed(ending), b"")
         kept.sendall(CLOSING)
         found += difference("a client after", until_closed(kept), LAST)
+        # The service closes a client that sends nothing for this long.
+        if time.monotonic() - connected > FIRST - 1:
+            return exceeded(time.monotonic() - connected, FIRST - 1, "the client that was silent") + found
         silent.sendall(CLOSING)
         found += difference("a client that was silent", until_closed(silent), LAST)
         return found + difference("the service", started.ended(), (0, b"", started.listening))
@@ -165,7 +175,7 @@ def of_process(started):
     return found
 
 
-OTHER_HOST = b"forbidden: the field Host must be 127.0.0.1 or localhost, with the port\n"
+OTHER_HOST = b"forbidden: the field Host must be 127.0.0.1, [::1] or localhost, with the port\n"
 WEB_PAGE = b"forbidden: a web page sent the request\n"
 UNCONFIRMED = b"forbidden: a POST requires the field X-Dss-Admin: 1\n"
 
@@ -175,9 +185,10 @@ def of_web_pages():
     with an origin, one from another site, and a POST as a form sends it."""
     with AdminService() as started:
         port = started.admin
-        hosts = [f"127.0.0.1:{port}", f"localhost:{port}"]
+        hosts = [f"127.0.0.1:{port}", f"localhost:{port}", f"[::1]:{port}"]
         others = ["127.0.0.1", "localhost", "", "dss", f"dss.example:{port}", f"127.0.0.1:{port + 1}", f"localhost:{port}0",
-                  f"127.0.0.1:{port}.dss.example", f"LOCALHOST:{port}", f"[::1]:{port}", f"http://localhost:{port}"]
+                  f"127.0.0.1:{port}.dss.example", f"LOCALHOST:{port}", f"http://localhost:{port}",
+                  "[::1]", "::1", f"::1:{port}", f"[::]:{port}", f"[::1]:{port + 1}", f"[::1]:{port}0", f"[::ffff:127.0.0.1]:{port}"]
         table = [(f"Host: {it}", asks("GET", "/health", [f"Host: {it}"]), said(200, SERVING)) for it in hosts]
         table += [(f"Host: {it}", asks("GET", "/health", [f"Host: {it}"]), said(403, OTHER_HOST)) for it in others]
         for name, field, wanted in (
@@ -242,6 +253,7 @@ def of_a_browser():
 
 def counts():
     """The metrics of known clients have their values, and each has its help and its type."""
+    began = time.time()
     with AdminService() as started:
         before = time.time()
         text = started.asked(METRICS)
@@ -252,7 +264,7 @@ def counts():
         lines = [it for it in body.splitlines() if not re.fullmatch(r'# (HELP|TYPE) .*|(dss|process)_\w+(\{\w+="[^"]*"(,\w+="[^"]*")*\})? \d+(\.\d+)?', it)]
         found += difference("lines of no form", lines, [])
         first = started.counted()
-        found += difference("when it started", before - SECONDS < int(first["dss_start_time_seconds"]) <= before + 1, True)
+        found += difference("when it started", began - 1 <= int(first["dss_start_time_seconds"]) <= before + 1, True)
         found += difference("when its tokens were read", first["dss_tokens_loaded_time_seconds"], first["dss_start_time_seconds"])
         there = {name: number for name, number in first.items() if "_time_" not in name and "build" not in name}
         ones = ["dss_mirror_up", "dss_tokens_valid", 'dss_health{state="serving"}']
@@ -300,8 +312,7 @@ def ends():
         statuses = [it[9:12] for it in wire.answers_of(until_closed(kept))]
         found += difference("whole requests", statuses, [b"200", b"200"])
         found += difference("the service", started.ended(), (0, b"", started.listening))
-        took = time.monotonic() - began
-        found += [f"it took {took:.1f} s"] if took > END else []
+        found += exceeded(time.monotonic() - began, END, "its end")
         with contextlib.suppress(ConnectionRefusedError), started.connect() as late:
             found += [f"a client after the end is connected: {late}"]
         started.start()
@@ -323,12 +334,13 @@ def ends_with_others():
         held.sendall(query * wire.MAX_REQUESTS)
         until_counted(started, "dss_connections_open", "1")
         # Once the buffers are full, no request is answered.
-        made = None
-        while made != (made := started.counted()["dss_response_bytes_total"]):
+        made = []
+        while len(made) < 3 or len(set(made[-3:])) > 1:
+            made.append(started.counted()["dss_response_bytes_total"])
             time.sleep(1)
         waiting, asking = (stack.enter_context(started.operator()) for _ in range(2))
         asking.sendall(HEALTH[:20])
-        time.sleep(0.1)
+        started.until_read(asking)
         began = time.monotonic()
         found += difference("told to end", started.asked(STOP), said(200, b"stopping\n"))
         asking.sendall(HEALTH[20:])
@@ -336,7 +348,8 @@ def ends_with_others():
         found += difference("one that waits", until_closed(waiting), b"")
         found += difference("the service", started.ended()[:2], (0, b""))
         took = time.monotonic() - began
-        found += [f"it took {took:.1f} s"] if not 2 < took <= END else []
+        # A stopping service waits three seconds for its clients, in which a busy machine may not have served them.
+        found = exceeded(took, END, "its end") or found + ([] if took > 2 else [f"it took {took:.1f} s"])
     return found
 
 
@@ -368,7 +381,7 @@ def begun(started, stack, count):
     for _ in range(count):
         held.append(stack.enter_context(started.operator()))
         held[-1].sendall(HEALTH[:9])
-        time.sleep(0.05)
+        started.until_read(held[-1])
     return held
 
 
@@ -378,7 +391,10 @@ def many():
     found = []
     with AdminService() as started:
         with contextlib.ExitStack() as stack:
-            held = [stack.enter_context(started.operator()) for _ in range(MOST)]
+            # It accepts them all at once, so that none has been idle for long before the last one comes.
+            with started.paused():
+                held = [stack.enter_context(started.operator()) for _ in range(MOST)]
+            started.until_read(held[-1])
             time.sleep(IDLE)
             for at, connection in enumerate(held):
                 connection.settimeout(0.01)
@@ -412,9 +428,12 @@ def without_port():
         port = taken.getsockname()[1]
         found += difference("a port that is taken", run([*words, "--admin-port", f"{port}"]), (1, b"", SOCKET))
         found += difference("the port of clients", run([*words, "--admin-port", f"{started.port}"]), (1, b"", SOCKET))
-        for number in "0", "65536", "x", "":
-            status, output, error = run([*words, "--admin-port", number])
-            found += difference(f"--admin-port {number}", (status, output, error != b""), (2, b"", True))
+        for number in "0", "65536", "x", "", "localhost:1", "127.0.0.2:1", "0.0.0.0:1", "[::]:1", "::1", "[::1]:0":
+            refusal = (
+                f"error: --admin-port {number}: no port from 1 to 65535, alone or after 127.0.0.1 or [::1]; "
+                "write 8078, 127.0.0.1:8078 or [::1]:8078\n"
+            )
+            found += difference(f"--admin-port {number}", run([*words, "--admin-port", number]), (2, b"", refusal.encode()))
     return found
 
 
@@ -435,11 +454,58 @@ def elsewhere():
                     found += [f"{address}: the operator's port is elsewhere, too"]
                 with contextlib.suppress(ConnectionRefusedError), socket.create_connection(("127.0.0.1", other.port)):
                     found += [f"{address}: 127.0.0.1 is listened on, too"] if address == "127.0.0.2" else []
-        for text in "", "localhost", "1.2.3", "1.2.3.4.5", "256.0.0.1", "127.0.0.1:80", "::1", "01.0.0.1":
-            status, output, error = run([*words, "--listen", text])
-            found += difference(f"--listen {text}", (status, output, error != b""), (2, b"", True))
+        for text in "", "localhost", "1.2.3", "1.2.3.4.5", "256.0.0.1", "127.0.0.1:0", "localhost:80", "[::1]", "01.0.0.1":
+            refusal = (
+                f"error: --listen {text}: no IP address, with or without a port; "
+                "write 127.0.0.1, ::1, 127.0.0.1:8080 or [::1]:8080\n"
+            )
+            found += difference(f"--listen {text}", run([*words, "--listen", text]), (2, b"", refusal.encode()))
         found += difference("an address of others", run([*words, "--listen", "192.0.2.1"]), (1, b"", SOCKET))
     return found
+
+
+def over_ipv6():
+    """The service listens on an IPv6 address, prints it in brackets, and answers there. Without IPv6, it exits."""
+    found = []
+    if not has_ipv6():
+        with Service() as started:
+            words = started.command()
+            started.kill()
+            return difference("without IPv6", run([*words, "--listen", "::1"]), (1, b"", SOCKET))
+    for address in "::1", "::":
+        with Listening(address) as started:
+            with socket.create_connection(("::1", started.port), timeout=SECONDS) as connection:
+                connection.sendall(CLOSING)
+                found += difference(address, until_closed(connection), LAST)
+            found += difference(f"{address}, health", started.asked(HEALTH), said(200, SERVING))
+            if address == "::1":
+                with contextlib.suppress(ConnectionRefusedError), socket.create_connection(("127.0.0.1", started.port)):
+                    found += [f"{address}: 127.0.0.1 is listened on, too"]
+            elif BOTH_VERSIONS.read_text() == "0\n":
+                found += difference(f"{address}, an IPv4 client", started.exchange(CLOSING), LAST)
+            found += difference(f"{address}, told to end", started.asked(STOP), said(200, b"stopping\n"))
+            found += difference(f"{address}, the service", started.ended(), (0, b"", started.listening))
+    return found
+
+
+def several():
+    """The service listens on several addresses, with an admin port of IPv6. If one of them is taken, it exits."""
+    if not has_ipv6():
+        return []
+    with Several() as started:
+        found = []
+        for host, port in (("127.0.0.1", started.port), ("::1", started.second)) * 3:
+            with socket.create_connection((host, port), timeout=SECONDS) as connection:
+                connection.sendall(CLOSING)
+                found += difference(host, until_closed(connection), LAST)
+        host = [f"Host: [::1]:{started.admin}"]
+        found += difference("its health", started.asked(asks("GET", "/health", host)), said(200, SERVING))
+        with contextlib.suppress(ConnectionRefusedError), socket.create_connection(("127.0.0.1", started.admin)):
+            found += ["the admin port is on 127.0.0.1, too"]
+        words = started.command()
+        found += difference("in use", run([it.replace("dss.db", "other.db") for it in words]), (1, b"", SOCKET))
+        found += difference("told to end", started.asked(STOP), said(200, b"stopping\n"))
+        return found + difference("the service", started.ended(), (0, b"", started.listening))
 
 
 def version():
@@ -454,27 +520,46 @@ def version():
     return found + difference("as it is counted", counted.get(f'dss_build_info{{version="{number}",kit="{kit}"}}'), "1")
 
 
+class Several(AdminService):
+    """The same on an address of each version, with an admin port of IPv6."""
+
+    admin_address = "[::1]"
+
+    def command(self):
+        words = super().command()
+        return [*words[:-1], f"[::1]:{self.admin}", "--listen", "127.0.0.1", "--listen", f"[::1]:{self.second}"]
+
+    def listens(self):
+        return super().listens() + f"dss: listening on [::1]:{self.second}\n"
+
+    def start(self):
+        self.second = free_port()
+        super().start()
+
+
 class Listening(AdminService):
     """The same on a given address."""
 
     def __init__(self, address):
         super().__init__()
-        self.address = address
+        self.given, self.address = address, f"[{address}]" if ":" in address else address
 
     def command(self):
-        return [*super().command(), "--listen", self.address]
+        return [*super().command(), "--listen", self.given]
 
 
 CASES = {
-    "admin-port": paths,
+    "admin-port": again(paths),
     "admin-port-and-web-pages": of_web_pages,
     "admin-port-and-a-browser": of_a_browser,
     "admin-port-metrics": counts,
-    "admin-port-ends-the-service": ends,
-    "admin-port-ends-it-in-time": ends_with_others,
+    "admin-port-ends-the-service": again(ends),
+    "admin-port-ends-it-in-time": again(ends_with_others),
     "admin-port-of-a-broken-service": broken,
     "admin-port-with-many": many,
     "admin-port-in-use": without_port,
     "another-address": elsewhere,
+    "ipv6-address": over_ipv6,
+    "several-addresses": several,
     "version": version,
 }

@@ -52,6 +52,22 @@ RUN = ["run", "--tokens", "examples/tokens.toml", "--now"]
 TOKENS_AND_DB = ["--tokens", "t", "--db", "d"]
 # The message of a purge until a time that is not past.
 PURGE_IN_FUTURE = "dss: until: in the future"
+# Texts that `--listen` accepts, and texts that it rejects; the same of `--admin-port`.
+LISTENED = (
+    "127.0.0.1", "0.0.0.0", "::1", "::", "2001:db8::1", "2001:DB8::1", "1:2:3:4:5:6:7:8", "::ffff:192.0.2.7",
+    "127.0.0.1:80", "0.0.0.0:65535", "[::1]:80", "[::]:1", "[2001:db8::1]:8080", "[::ffff:192.0.2.7]:80",
+)
+NO_ADDRESSES = (
+    "", " ", "localhost", "localhost:80", "1.2.3", "1.2.3.4.5", "256.0.0.1", "01.0.0.1", "127.0.0.1:", "127.0.0.1:0",
+    "127.0.0.1:65536", "127.0.0.1:x", ":80", "80", "[127.0.0.1]:80", "http://127.0.0.1:80", "127.0.0.1:80/",
+    "[::1]", "[::1]:", "[::1]:0", "[::1]:65536", "[::1]80", "[::1:80", "::1]:80", "::1%1", "fe80::1%lo", ":", ":::",
+    "1::2::3", "12345::", "g::", "1:2:3:4:5:6:7", "1:2:3:4:5:6:7:8:9", "1.2.3.4::", "::1.2.3.256", "::1 ",
+)
+ADMIN_PORTS = ("1", "65535", "127.0.0.1:80", "[::1]:80")
+NO_ADMIN_PORTS = (
+    "", "0", "65536", "-1", "80.0", "localhost:80", "127.0.0.2:80", "0.0.0.0:80", "[::]:80", "[::ffff:127.0.0.1]:80",
+    "127.0.0.1", "127.0.0.1:0", "::1", "[::1]", "[::1]:0",
+)
 
 
 def serving(port, count):
@@ -71,6 +87,12 @@ COMMAND_LINES = (
     (["nothing"], 2, ""),
     (["cell"], 2, ""),
     (["cell", "1", "3"], 2, ""),
+    (["explain"], 2, "<METHOD>"),
+    (["explain", "PUT"], 2, "<PATH>"),
+    (["explain", "PUT", "/", "-"], 2, ""),
+    *((["explain", "--now", now, "GET", "/dss/v1/uss_availability/u"], 2, "") for now in ("253402300800", "-1", "", "now")),
+    *((["explain", *now, "GET", "/dss/v1/uss_availability/u"], 0, "") for now in ([], ["--now", "0"], ["--now=253402300799"])),
+    (["explain", "GET", "/dss/v1/uss_availability/u", "--now=1"], 0, ""),
     # Bytes that are not UTF-8.
     (["cell", "\udcff"], 2, "not valid UTF-8"),
     (["\udcc3("], 2, "not valid UTF-8"),
@@ -93,6 +115,18 @@ COMMAND_LINES = (
     *(([*serving("1", "1"), "--quota", most], 1, "dss: tokens: cannot read") for most in ("1", "4294967295")),
     *(([*serving("1", "1"), *flags], 1, "dss: tokens: cannot read") for flags in (["--double-sync"], ["--verbose"], ["--verbose", "--double-sync"])),
     *(([*serving("1", "1"), *it], 2, "") for it in (["--double-sync", "--double-sync"], ["--double-sync=true"], ["--verbose=true"], ["--verbose", "yes"])),
+    *(([*serving("1", "1"), "--listen", address], 1, "dss: tokens: cannot read") for address in LISTENED),
+    *(([*serving("1", "1"), "--listen", text], 2, f"error: --listen {text}: no IP address") for text in NO_ADDRESSES),
+    (["serve", *TOKENS_AND_DB, "--port", "1", "--listen=::1"], 1, "dss: tokens: cannot read"),
+    ([*serving("1", "1"), "--listen"], 2, ""),
+    ([*serving("1", "1"), "--listen", "::1", "--listen", "127.0.0.1"], 1, "dss: tokens: cannot read"),
+    ([*serving("1", "1"), "--listen", "::1", "--listen", "[::1]"], 2, "error: --listen [::1]: no IP address"),
+    # A port in each address stands for `--port`.
+    *((["serve", *TOKENS_AND_DB, *it], 1, "dss: tokens: cannot read") for it in (["--listen=[::1]:80"], ["--listen=[::1]:80", "--listen=127.0.0.1:80"])),
+    *((["serve", *TOKENS_AND_DB, *it], 2, "error: --port is missing") for it in ([], ["--listen=::1"], ["--listen=[::1]:80", "--listen=127.0.0.1"])),
+    *(([*serving("1", "1"), "--admin-port", port], 1, "dss: tokens: cannot read") for port in ADMIN_PORTS),
+    *(([*serving("1", "1"), f"--admin-port={text}"], 2, f"error: --admin-port {text}: no port") for text in NO_ADMIN_PORTS),
+    ([*serving("1", "1"), "--admin-port", "1", "--admin-port", "2"], 2, ""),
     *(([*serving("1", "1"), "--access-log", file], 1, "dss: tokens: cannot read") for file in ("-", "l")),
     *(([*serving("1", "1"), *it], 2, "") for it in (["--access-log"], ["--access-log", "l", "--access-log", "m"])),
     *(([*serving("1", "1"), "--retention", keep], 2, "") for keep in ("0", "253402300800", "-1", "", "1.5", "30d")),
@@ -133,6 +167,13 @@ COMMAND_LINES = (
     (["backup", "--db", "d"], 2, "<DESTINATION>"),
     (["backup", "--db", "d", "t", "u"], 2, ""),
     (["backup", "--db", "d", "--cells", "t"], 2, ""),
+    (["backup", "--db", "d", "--live"], 2, "<DESTINATION>"),
+    (["backup", "--live", "--live", "--db", "d", "t"], 2, "--live"),
+    (["backup", "--live", "--db", "no/d", "t"], 1, "dss: backup: fault 2 Read"),
+    (["verify"], 2, "<FILE>"),
+    (["verify", "f", "g"], 2, ""),
+    (["verify", "--db", "f"], 2, ""),
+    (["verify", "no/f"], 1, "dss: backup: fault 2 Read"),
     (["upgrade"], 2, "--db <FILE>"),
     (["upgrade", "--db"], 2, ""),
     (["upgrade", "--db", "d", "e"], 2, ""),
@@ -168,7 +209,8 @@ COMMAND_LINES = (
     (["--help"], 0, "  purge "),
     (["purge", "--help"], 0, "dss purge [OPTIONS] --db <FILE> --until <SECONDS>"),
     (["purge", "--help"], 0, "--now <SECONDS>"),
-    (["backup", "--help"], 0, "dss backup --db <FILE> <DESTINATION>"),
+    (["backup", "--help"], 0, "dss backup [OPTIONS] --db <FILE> <DESTINATION>"),
+    (["verify", "--help"], 0, "dss verify <FILE>"),
     (["upgrade", "--help"], 0, "dss upgrade --db <FILE>"),
     (["run", "--help"], 0, "--now <SECONDS>"),
     (["cell", "--help"], 0, "dss cell <TOKEN>"),

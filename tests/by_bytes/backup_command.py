@@ -9,7 +9,7 @@ import subprocess
 import tables
 from databases import NOT_A_DSS, STORE, Room, filled
 from devices import library
-from program import BUILT, run
+from program import BUILT, SECONDS, run
 
 EXISTS, READ, WRITE = (f"dss: backup: fault {it}\n".encode() for it in ("1 Exists", "2 Read", "3 Write"))
 MEMORY, NOT_CLOSED = b"dss: memory\n", b"dss: db: fault\n"
@@ -42,7 +42,7 @@ class Copied(Room):
             resource.setrlimit(resource.RLIMIT_FSIZE, (FEW_BYTES, FEW_BYTES))
 
         words = [BUILT, "backup", "--db", str(self.database), str(self.copy)]
-        done = subprocess.run(words, capture_output=True, preexec_fn=bound, restore_signals=False, timeout=60)
+        done = subprocess.run(words, capture_output=True, preexec_fn=bound, restore_signals=False, timeout=SECONDS)
         return done.returncode, done.stderr
 
     def wrong_in_backup(self, copy=None):

@@ -386,15 +386,16 @@ def one_kill(draw):
 def killed():
     """A service is killed while sixteen clients create one intent after the other. One more claimed response shows that
     the case would find the loss of a change."""
-    draw, found, between = drawn_calls.Draw(SEED), [], 0
-    for number in range(KILLS):
+    draw, found, kills, between = drawn_calls.Draw(SEED), [], 0, 0
+    # On a busy machine many kills come after the last change, so there are more of them.
+    while kills < KILLS or 2 * between < KILLS and kills < 10 * KILLS:
         wrong, asked, told, rows = one_kill(draw)
-        found += [f"kill {number}: {it}" for it in wrong]
-        between += 0 < len(rows) < CLIENTS * CREATIONS
-    print(f"{KILLS} kills, {between} of them between the first change and the last")
+        found += [f"kill {kills}: {it}" for it in wrong]
+        kills, between = kills + 1, between + (0 < len(rows) < CLIENTS * CREATIONS)
+    print(f"{kills} kills, {between} of them between the first change and the last")
     told[0] = [*told[0], wire.answer(201, "{}")]
     found += [] if lost(asked, new_airspace(), told, rows) else ["an answer of which nothing is kept was not seen"]
-    return found + ([] if 2 * between >= KILLS else [f"only {between} kills of {KILLS} fell among the changes"])
+    return found + ([] if 2 * between >= KILLS else [f"only {between} kills of {kills} fell among the changes"])
 
 
 CASES = {

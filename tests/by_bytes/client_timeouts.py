@@ -6,6 +6,7 @@ import json
 import socket
 import time
 
+from lateness import again, exceeded
 from serving import Service, until_closed
 from sockets import ANSWER, ASKED, CLOSING, LAST, difference
 import wire
@@ -38,17 +39,15 @@ def beside(name, sent, bound, answers=b"", faults=b"", slowly=False):
     """A client that stops after some bytes gets the responses due until then. Its connection is closed within its
     bound, in seconds. Another client gets its response at once."""
     with Service(count=2) as started, concurrent.futures.ThreadPoolExecutor(1) as aside:
+        began = time.monotonic()
         with started.connect() as held:
-            held.settimeout(bound + MORE)
-            began = time.monotonic()
             held.sendall(sent)
             dripping = aside.submit(drip, held) if slowly else None
             found = difference(f"{name}: the one beside it", started.exchange(CLOSING, ends=False), LAST)
-            waited = time.monotonic() - began
-            found += [] if waited <= AT_ONCE else [f"{name}: the one beside it waited {waited:.1f} s"]
+            found += exceeded(time.monotonic() - began, AT_ONCE, f"{name}: the one beside it")
             found += difference(f"{name}: its answers", until_closed(held), answers)
             took = time.monotonic() - began
-            found += [] if bound - 1 <= took <= bound + MORE else [f"{name}: closed after {took:.1f} s"]
+            found += exceeded(took, bound + MORE, f"{name}: closed") + ([] if took >= bound - 1 else [f"{name}: closed after {took:.1f} s"])
             if dripping:
                 dripping.result()
         return found + difference(f"{name}: the service", started.ended(), (0, b"", started.listening + faults))
@@ -86,13 +85,12 @@ def taking_nothing():
         with socket.socket() as held:
             held.setsockopt(socket.SOL_SOCKET, socket.SO_RCVBUF, 4096)
             held.connect(("127.0.0.1", started.port))
+            began = time.monotonic()
             held.sendall(query * wire.MAX_REQUESTS)
             found += difference("the one beside it", started.exchange(CLOSING, ends=False), LAST)
-            errors, began = started.folder / "errors", time.monotonic()
             # The buffers are full after some seconds.
-            while errors.read_bytes() == started.listening and time.monotonic() - began < TAKING + 30:
-                time.sleep(0.5)
-            took = time.monotonic() - began
+            started.until_told(b"\n")
+            errors, took = started.folder / "errors", time.monotonic() - began
             found += [] if took >= TAKING - 1 else [f"closed after {took:.1f} s"]
             found += difference("standard error", errors.read_bytes(), started.listening + WRITES)
         return found + difference("the next", started.exchange(CLOSING, ends=False), LAST)
@@ -118,4 +116,4 @@ def impatient():
         return found + rated.result() + [f"taking nothing: {it}" for it in full.result()]
 
 
-CASES = {"serve-clients-that-wait": impatient}
+CASES = {"serve-clients-that-wait": again(impatient)}

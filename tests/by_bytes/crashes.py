@@ -6,6 +6,8 @@ tables are found as they were, or in format 2 with the index."""
 import pathlib
 import shutil
 
+import lengths
+import seeds
 import tables
 import wire
 from changed_databases import Filled
@@ -16,6 +18,8 @@ from program import run
 
 STOPPED = 99
 KEPT = ("all", "synced", "half")
+# One of so many stops is tried, with new ones in each run.
+STEP = lengths.of(3, 1)
 # Changes that are also tried over a database that SQLite's `VACUUM` made.
 AFTER_VACUUM = "a creation that names and notifies", "a deletion of a subscription"
 # Ids that nothing has yet.
@@ -73,6 +77,15 @@ def changes():
     }
 
 
+def stops(name, calls):
+    """Yields stops at each call, with what the disk keeps. The short form tries one thing that it keeps at each call."""
+    (first,) = seeds.new(name, 1)
+    for number, kept in enumerate(KEPT):
+        for at in range(1, calls + 1):
+            if (first + number + at) % STEP == 0:
+                yield at, kept
+
+
 class Machine:
     """A room whose database is made once, and then used in its original state again and again."""
 
@@ -111,7 +124,7 @@ class Machine:
 def of_change(name, made, change, *rewrites):
     """Returns what is wrong after a stop at any call of one change, and the number of stops. What was made before is
     rewritten first."""
-    found, stops = [], 0
+    found, count = [], 0
     with Room() as room:
         machine = Machine(room, made)
         for rewrite in rewrites:
@@ -122,42 +135,41 @@ def of_change(name, made, change, *rewrites):
         after = machine.seen(database)
         if status or not calls or before == after or before[0] or after[0]:
             return [f"{name}: {status}, {answer!r}, {calls} calls, {before!r}, {after!r}"], 0
-        for kept in KEPT:
-            for at in range(1, calls + 1):
-                database = machine.again()
-                status, output, _ = machine.serve(database, [change], at, kept)
-                seen = machine.seen(database)
-                stops += 1
-                is_right = seen == after if output == answer else seen in (before, after) and not output
-                if status != STOPPED or not is_right:
-                    found += [f"{name}, call {at} of {calls}, {kept} kept: {status}, {output!r}, then {seen!r}"]
-    return found, stops
+        for at, kept in stops(name, calls):
+            database = machine.again()
+            status, output, _ = machine.serve(database, [change], at, kept)
+            seen = machine.seen(database)
+            count += 1
+            is_right = seen == after if output == answer else seen in (before, after) and not output
+            if status != STOPPED or not is_right:
+                found += [f"{name}, call {at} of {calls}, {kept} kept: {status}, {output!r}, then {seen!r}"]
+    return found, count
 
 
 def each_call():
-    found, stops = [], 0
+    found, sum = [], 0
     for name, (made, change) in changes().items():
         wrong, count = of_change(name, made, change)
-        found, stops = found + wrong, stops + count
+        found, sum = found + wrong, sum + count
     for name in AFTER_VACUUM:
         wrong, count = of_change(f"{name} after VACUUM", *changes()[name], vacuumed)
-        found, stops = found + wrong, stops + count
-    print(f"the machine stopped {stops} times among the calls that change the files")
+        found, sum = found + wrong, sum + count
+    print(f"the machine stopped {sum} times among the calls that change the files")
     return found
 
 
 def copied(database):
     """Copies a database with the files beside it, for SQLite to read: SQLite checkpoints the log."""
-    folder = database.parent.with_name("copied")
+    folder = database.parent / "copied"
     shutil.rmtree(folder, ignore_errors=True)
-    shutil.copytree(database.parent, folder)
+    shutil.copytree(database.parent, folder, ignore=shutil.ignore_patterns("copied"))
     return folder / database.name
 
 
 def of_move(name, fill, told):
     """Returns what is wrong after a stop at any call while `upgrade` upgrades an old database and prints this, and the
     number of stops."""
-    found, stops = [], 0
+    found, count = [], 0
     with Room() as room:
         machine = Machine(room, [])
         fill(machine.saved)
@@ -171,26 +183,25 @@ def of_move(name, fill, told):
         after = machine.seen(database)
         if (status, output) != told[:2] or not calls or after[0]:
             return [f"{name}: {status}, {output!r}, {calls} calls, {after!r}"], 0
-        for kept in KEPT:
-            for at in range(1, calls + 1):
-                database = machine.again()
-                status, output, _ = upgrade(database, at, kept)
-                left = copied(database)
-                is_old = not tables.has_index(left)
-                stops += 1
-                where = f"{name}, call {at} of {calls}, {kept} kept"
-                found += [f"{where}: {status}, {output!r}"] if (status, output) != (STOPPED, b"") else []
-                found += [f"{where}: {it}" for it in tables.wrong_in(left)]
-                if is_old:
-                    found += [] if tables.rows_in(left) == before else [f"{where}: other rows"]
-                else:
-                    found += moved_wrong(where, before, left)
-                # The next start finds it upgraded or not, and then upgrades it.
-                got = upgrade(database)[:2], upgrade(database)[:2]
-                wanted = (told if is_old else HELD)[:2], HELD[:2]
-                found += [f"{where}: then {got}"] if got != wanted else []
-                found += [f"{where}: then other answers"] if machine.seen(database) != after else []
-    return found, stops
+        for at, kept in stops(name, calls):
+            database = machine.again()
+            status, output, _ = upgrade(database, at, kept)
+            left = copied(database)
+            is_old = not tables.has_index(left)
+            count += 1
+            where = f"{name}, call {at} of {calls}, {kept} kept"
+            found += [f"{where}: {status}, {output!r}"] if (status, output) != (STOPPED, b"") else []
+            found += [f"{where}: {it}" for it in tables.wrong_in(left)]
+            if is_old:
+                found += [] if tables.rows_in(left) == before else [f"{where}: other rows"]
+            else:
+                found += moved_wrong(where, before, left)
+            # The next start finds it upgraded or not, and then upgrades it.
+            got = upgrade(database)[:2], upgrade(database)[:2]
+            wanted = (told if is_old else HELD)[:2], HELD[:2]
+            found += [f"{where}: then {got}"] if got != wanted else []
+            found += [f"{where}: then other answers"] if machine.seen(database) != after else []
+    return found, count
 
 
 def moves():
@@ -225,11 +236,11 @@ def moves():
 
 
 def each_move():
-    found, stops = [], 0
+    found, sum = [], 0
     for name, (fill, told) in moves().items():
         wrong, count = of_move(name, fill, told)
-        found, stops = found + wrong, stops + count
-    print(f"the machine stopped {stops} times among the calls that upgrade an old database")
+        found, sum = found + wrong, sum + count
+    print(f"the machine stopped {sum} times among the calls that upgrade an old database")
     return found
 
 

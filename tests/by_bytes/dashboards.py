@@ -16,16 +16,18 @@ import yaml
 
 import wire
 from admin_port import METRICS, AdminService
-from program import TOP
+from program import SECONDS, TOP
 from sockets import ASKED, CLOSING, difference
 
 DEPLOY = TOP / "deploy"
 BOARD, RULES, SCRAPE = (DEPLOY / it for it in ("grafana.json", "prometheus-rules.yaml", "prometheus.yaml"))
+# The metrics that the backup unit writes, and that have no label.
+OF_UNITS = {*re.findall(r"# TYPE (\w+) gauge", (DEPLOY / "dss-backup.service").read_text())}
 # Labels that Prometheus or Grafana adds.
 GIVEN = {"job", "instance", "le"}
 SIGNS = re.compile(r'\s+|"[^"]*"|\d+(?:\.\d+)?[smhd]?\b|[\w:]+|[-+*/%^(){}\[\],]|=~|!~|==|!=|>=|<=|[=<>]')
 FUNCTIONS = {
-    "absent", "and", "by", "changes", "histogram_quantile", "increase", "label_values", "max", "min", "or", "rate", "sum", "time",
+    "absent", "and", "by", "changes", "histogram_quantile", "increase", "label_values", "max", "min", "on", "or", "rate", "sum", "time",
 }
 MINUTES = 40
 # For each alert: the series that fire it, and those that do not, in promtool's notation.
@@ -40,8 +42,8 @@ ALERTS = {
     "DssMemoryFailing": ({"dss_memory_failures_total": "0x30 1x10"}, {"dss_memory_failures_total": "1x40"}),
     "DssClockFailing": ({"dss_clock_failures_total": "0x30 1x10"}, {"dss_clock_failures_total": "1x40"}),
     "DssFails": (
-        {'dss_requests_total{operation="create_intent",status="500"}': "1x33 2x7"},
-        {'dss_requests_total{operation="create_intent",status="500"}': "3x40"},
+        {'dss_uss_requests_total{uss="uss-a",outcome="failed"}': "1x33 2x7"},
+        {'dss_uss_requests_total{uss="uss-a",outcome="failed"}': "3x40", 'dss_uss_requests_total{uss="uss-a",outcome="denied"}': "0+9x40"},
     ),
     "DssSlow": (
         {f'dss_request_duration_seconds_bucket{{le="{bound}"}}': f"0+{count}x40" for bound, count in (("0.25", 90), ("2.5", 100), ("+Inf", 100))},
@@ -55,7 +57,14 @@ ALERTS = {
     "DssNearConnectionLimit": ({"dss_connections_open": "901x40"}, {"dss_connections_open": "900x40"}),
     "DssPurgeFailing": ({"dss_purge_failures_total": "0x34 1+1x5"}, {"dss_purge_failures_total": "0x34 1x5"}),
     "DssRestarting": ({"dss_start_time_seconds": "1x28 2x3 3x3 4x6"}, {"dss_start_time_seconds": "1x30 2x10"}),
+    # The tests of promtool begin at the time 0.
+    "DssBackupOld": ({"dss_backup_last_success_seconds": "-127201x40"}, {"dss_backup_last_success_seconds": "-127199x40"}),
 }
+# More series that fire DssFails: requests of no USS that fail, and failures of a USS, which fire it once.
+FAILED = 'dss_requests_total{operation="create_intent",status="500"}'
+MORE_FAILS = ({FAILED: "1x33 2x7"}, {FAILED: "0x33 2x7", **ALERTS["DssFails"][0]})
+# The part of a summary that names the USS, if there is one.
+OF_USS = "{{ with $labels.uss }} of {{ . }}{{ end }}"
 
 
 def alerts():
@@ -111,6 +120,8 @@ def unread(expression):
 def names():
     """The service has each metric and label in the files, and each metric is shown."""
     text, figures, labels = told()
+    figures |= {it: it for it in OF_UNITS}
+    labels |= {it: set() for it in OF_UNITS}
     shown, watched = expressions()
     found, seen = [], set()
     for place, expression in shown + watched:
@@ -131,7 +142,7 @@ def promtool(words, given=None):
     if not shutil.which("promtool"):
         print("promtool is missing, so expressions are checked less: install the package prometheus")
         return []
-    done = subprocess.run(["promtool", *words], input=given, capture_output=True, text=True, timeout=60)
+    done = subprocess.run(["promtool", *words], input=given, capture_output=True, text=True, timeout=SECONDS)
     return [f"promtool {words}: {done.stdout}{done.stderr}"] if done.returncode else []
 
 
@@ -151,11 +162,13 @@ def comes(name, series, is_there):
     """Returns a promtool test of whether an alert fires at the end of series."""
     given = [{"series": it if "{" in it and "instance" in it else with_instance(it), "values": values} for it, values in series.items()]
     asked = {"eval_time": f"{MINUTES}m", "alertname": name}
-    labels = {it.split("=")[0]: it.split("=")[1].strip('"') for it in re.findall(r'(?:rule|job)="\w+"', "".join(series))}
+    labels = {it.split("=")[0]: it.split("=")[1].strip('"') for it in re.findall(r'(?:rule|job|uss)="[\w-]+"', "".join(series))}
     alert = next(it for it in alerts() if it["alert"] == name)
-    kept = labels if "by (" not in alert["expr"] or "rule" in labels else {}
-    words = {"summary": alert["annotations"]["summary"].replace("{{ $labels.rule }}", labels.get("rule", ""))}
-    asked["exp_alerts"] = [{"exp_labels": {**alert["labels"], **kept, "instance": "here"}, "exp_annotations": words}] if is_there else []
+    kept = labels if "by (" not in alert["expr"] or {"rule", "uss"} & set(labels) else {}
+    place = {} if "max(" in alert["expr"] else {"instance": "here"}
+    summary = alert["annotations"]["summary"].replace("{{ $labels.rule }}", labels.get("rule", ""))
+    words = {"summary": summary.replace(OF_USS, f" of {labels['uss']}" if "uss" in labels else "")}
+    asked["exp_alerts"] = [{"exp_labels": {**alert["labels"], **kept, **place}, "exp_annotations": words}] if is_there else []
     return {"interval": "1m", "input_series": given, "alert_rule_test": [asked]}
 
 
@@ -168,6 +181,7 @@ def come():
     """Each alert fires for its series, and for no others."""
     found = difference("alerts", sorted(it["alert"] for it in alerts()), sorted(ALERTS))
     tests = [comes(name, ALERTS[name][at], not at) for name in ALERTS for at in range(2)]
+    tests += [comes("DssFails", series, True) for series in MORE_FAILS]
     with tempfile.TemporaryDirectory() as room:
         file = pathlib.Path(room, "tests.yaml")
         file.write_text(yaml.safe_dump({"rule_files": [str(RULES)], "evaluation_interval": "1m", "tests": tests}))

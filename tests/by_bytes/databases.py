@@ -7,13 +7,12 @@ import pathlib
 import sqlite3
 import subprocess
 import tempfile
-import time
 
 import drawn_calls
 import seeds
 import tables
 import wire
-from program import BUILT, TOP, first_difference, run
+from program import BUILT, SECONDS, TOP, first_difference, run
 from streams import CAUSES, kept_open
 
 NOW = 1000
@@ -415,12 +414,15 @@ def rejected():
             found += [f"{database}: {got!r}"] if got != (1, b"", STORE) else []
         found += ["the text was changed"] if text.read_bytes() != before else []
         room.serve(filled())
-        held = subprocess.Popen(room.words(), stdin=subprocess.PIPE, stdout=subprocess.DEVNULL)
-        time.sleep(0.5)
+        held = subprocess.Popen(room.words(), stdin=subprocess.PIPE, stdout=subprocess.PIPE)
+        # It has the database open once it has answered.
+        held.stdin.write(reading[0])
+        held.stdin.flush()
+        found += [] if held.stdout.readline().startswith(b"HTTP/1.1 200") else ["the program that held it did not answer"]
         got = room.serve(reading)
         found += [f"while it is held: {got!r}"] if got != (1, b"", STORE) else []
-        held.stdin.close()
-        found += ["the program that held it failed"] if held.wait(timeout=60) else []
+        held.communicate(timeout=SECONDS)
+        found += ["the program that held it failed"] if held.returncode else []
         got = room.serve(reading)
         found += [f"once it is free: {got!r}"] if got[0] or got[2] else []
     return found

@@ -10,6 +10,7 @@ import time
 import yaml
 
 import drawn_calls
+import plain_policy
 import wire
 from devices import SIZES, WRITES, Page, library
 from openapi import DOCUMENT, METHODS
@@ -36,6 +37,8 @@ BROKEN = {
     "H5": b"PUT / HTTP/1.1\r\nContent-Length: 1048577\r\n\r\n",
 }
 MINUTE = 60
+# The outcomes of statuses that neither succeed nor deny.
+OUTCOMES = {"500": "failed", "503": "stopped"}
 
 
 # ---- requests
@@ -65,9 +68,13 @@ class Seen:
 
     def __init__(self):
         self.answered, self.denied, self.size = collections.Counter(), collections.Counter(), 0
+        self.suppliers = collections.Counter()
 
-    def see(self, operation, answer):
-        self.answered[operation, answer[9:12].decode()] += 1
+    def see(self, operation, answer, supplier=None):
+        status = answer[9:12].decode()
+        self.answered[operation, status] += 1
+        if supplier is not None:
+            self.suppliers[supplier, "done" if status.startswith("2") else OUTCOMES.get(status, "denied")] += 1
         self.denied.update(re.findall(r'"message":"([HP]\d+) ', answer.decode()))
         self.size += len(answer)
 
@@ -75,8 +82,9 @@ class Seen:
         """Returns how the metrics differ."""
         requests = {f'dss_requests_total{{operation="{name}",status="{status}"}}': f"{it}" for (name, status), it in self.answered.items()}
         rules = {f'dss_requests_denied_total{{rule="{it}"}}': f"{self.denied[it]}" for it in RULES}
+        suppliers = {f'dss_uss_requests_total{{uss="{uss}",outcome="{it}"}}': f"{count}" for (uss, it), count in self.suppliers.items()}
         found = difference("bytes", counted["dss_response_bytes_total"], f"{self.size}")
-        for name, wanted in ("dss_requests_total", requests), ("dss_requests_denied_total", rules):
+        for name, wanted in ("dss_requests_total", requests), ("dss_requests_denied_total", rules), ("dss_uss_requests_total", suppliers):
             found += difference(name, {key: it for key, it in counted.items() if key.startswith(f"{name}{{")}, wanted)
         return found + self.took(counted)
 
@@ -110,7 +118,7 @@ def drawn():
             calls = asked.calls(wire.MAX_REQUESTS)
             answers = started.ask([wire.request(*it) for it in calls])
             for call, answer in zip(calls, answers, strict=True):
-                seen.see(asked_by(call), answer)
+                seen.see(asked_by(call), answer, plain_policy.call_of(drawn_calls.ALL_TOKENS, *call[:3], call[3] or b"").uss)
         for sent in BROKEN.values():
             seen.see("none", started.exchange(sent, ends=False))
         for sent in HEALTH, METRICS:

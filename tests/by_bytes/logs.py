@@ -102,7 +102,7 @@ def drawn():
         found += difference(f"line {at} of {call}", (supplier, operation, status, rule, size), wanted(call, answer, suppliers))
         found += difference(f"line {at}: connection", number, f"{connection}")
         found += [] if entity_is_right(call, entity, rule) else [f"line {at} of {call}: entity {entity}"]
-        found += [] if took.isdigit() and int(took) < SECONDS * 1_000_000 else [f"line {at}: {took} microseconds"]
+        found += [] if took.isdigit() and int(took) <= 1_000_000 * (ended - began + 1) else [f"line {at}: {took} microseconds"]
         secrets.update(re.findall(r'"(?:ovn|version|old_version|uss_base_url)":"([^"]{9,})"', answer.decode()))
     for line, rule, number in zip(told[len(calls_of):], BROKEN, range(CONNECTIONS + 1, CONNECTIONS + 1 + len(BROKEN))):
         parts = LINE.fullmatch(line)

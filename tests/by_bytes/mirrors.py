@@ -2,9 +2,7 @@
 
 It also works without memory for a mirror, and with tables that get none."""
 import collections
-import contextlib
 import sqlite3
-import subprocess
 
 import served_calls
 import tables
@@ -33,9 +31,9 @@ def answers_without(calls, environment):
             found = service.ask([wire.request(*it) for it in calls])
         except OSError:
             found = []
+        if len(found) < len(calls):
             # If memory runs out once it listens, it still closes its database, and then prints why it exits.
-            with contextlib.suppress(subprocess.TimeoutExpired):
-                service.program.wait(timeout=2)
+            service.until_told(b"\n")
         service.kill()
         said = (service.folder / "errors").read_bytes().removeprefix(service.listening)
         database = service.folder / "dss.db"

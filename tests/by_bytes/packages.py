@@ -34,9 +34,10 @@ PATHS = {
 # Names in pages that the package does not contain: files of the repository and of other projects.
 ELSEWHERE = re.compile(r"(\.\./)?(qualify|release|crates|tests|gateway/|bench/)|test$|tests/|[\w./]*\.(rattle|c|go)$")
 OF_OTHERS = {"usr/bin/dss-gateway", "usr/share/man/man1/dss-gateway.1.gz", "usr/lib/dss"}
-COMMANDS = "run", "serve", "report", "purge", "backup", "upgrade", "tokens"
-# A start that fails after so many seconds must stop trying.
-SLOW_START = 12
+COMMANDS = "run", "serve", "report", "purge", "backup", "verify", "upgrade", "tokens"
+# Starts that fail after so many seconds must stop trying: for a small database, and for one whose cells fill the memory of
+# the unit, at 600 bytes and 15 microseconds each.
+SLOW_STARTS = 12, 15e-6 * (4 << 30) / 600
 # Settings that protect files, memory and processes of either unit from others.
 KEPT = {"UMask=0077", "LimitCORE=0", "ProtectProc=invisible", "MemoryDenyWriteExecute=yes", "NoNewPrivileges=yes"}
 
@@ -92,7 +93,7 @@ def options(root):
     said, found, seen = {}, [], 0
     for place, text in texts:
         for line in re.findall(r"(?m)^(?:    |ExecStart=|CMD |\./).*$", text.replace('", "', " ").replace('["', "/dss ")):
-            for command, words in re.findall(r"\bdss (run|serve|report|purge|upgrade|backup|self|tokens) ([^|>&]*)", line):
+            for command, words in re.findall(r"\bdss (run|serve|report|purge|upgrade|backup|verify|self|tokens) ([^|>&]*)", line):
                 if command not in said:
                     said[command] = run([str(root / "usr/bin/dss"), command, "--help"])[1].decode()
                 asked = re.findall(r"(?<!\S)\[?(--[\w-]+)", words)
@@ -156,9 +157,10 @@ def unit_settings():
         found += [] if "LimitNOFILE=4096" in lines and is_started else [f"{file.name} lacks LimitNOFILE=4096 or [Install]"]
     service = dict(it.split("=", 1) for it in (deploy / "dss.service").read_text().splitlines() if "=" in it and it[0] != "#")
     interval = 60 * int(service.get("StartLimitIntervalSec", "0min").removesuffix("min"))
-    starts = int(service.get("StartLimitBurst", 5)) * (SLOW_START + int(service["RestartSec"]))
-    found += [] if 0 < starts < interval else [f"{starts} s of failed starts, limited within {interval} s"]
-    found += [] if "MemoryMax" in service else ["dss.service has no MemoryMax"]
+    for seconds in SLOW_STARTS:
+        starts = int(service.get("StartLimitBurst", 5)) * (seconds + int(service["RestartSec"]))
+        found += [] if 0 < starts < interval else [f"{starts} s of failed starts, limited within {interval} s"]
+    found += [] if service.get("MemoryMax") == "4G" else ["dss.service has not the MemoryMax that its starts are limited for"]
     wanted = {"dss.service": "OnFailure=dss-failure@%n.service", "dss-backup.service": "OnFailure=dss-failure@%n.service",
               "dss-backup.timer": "Persistent=true"}
     found += [f"{name} lacks {it}" for name, it in wanted.items() if it not in (deploy / name).read_text().splitlines()]

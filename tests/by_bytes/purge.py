@@ -2,8 +2,10 @@
 
 It works in chunks, each complete or not done at all. All other rows stay exactly the same."""
 import collections
+import contextlib
 import fcntl
 import itertools
+import math
 import pathlib
 import re
 import signal
@@ -39,8 +41,11 @@ CLOCK, MEMORY = b"dss: clock\n", b"dss: memory\n"
 SEEDS, CHUNK, CHUNKS = range(40, 44), 25, 8
 # A scene of many: intents and subscriptions that end at once, and those that stay.
 ENDED, STAYING = 600, 60
-# Positions among the calls on files at which a machine stops, and how often the program is killed.
-STOPS, KILLS = lengths.of(8, 16), lengths.of(4, 8)
+# Positions among the calls on files at which a machine stops, and how often the program is killed: more often, up to a
+# bound, while the kills leave too few different parts.
+STOPS, KILLS, MAX_KILLS = lengths.of(8, 16), lengths.of(4, 8), 100
+# The fractions of the multiples of this number are spread evenly.
+SPREAD = 0.618034
 # One of so many memory allocations is refused. Calls on files fail alone or with all after it, in turn: one of so many
 # of these ways is tried.
 STEP, CALLS_STEP = lengths.of(251, 61), 9
@@ -270,7 +275,7 @@ def refused():
     with PurgeRoom() as room:
         differs(room, policy(), by_hand_calls())
         before = room.database.read_bytes()
-        for until, now in (clock + 60, None), (UNTIL + 1, UNTIL), (253_402_300_799, None), (1, 0):
+        for until, now in (clock + 3_600, None), (UNTIL + 1, UNTIL), (253_402_300_799, None), (1, 0):
             got = room.purge(until, now)
             found += difference(f"until {until} at {now}", got, (1, b"", FUTURE.encode()))
             got = room.purge(until, now, f"{room.folder.name}/none.db")
@@ -413,24 +418,38 @@ def machine_stops():
     return found + wrong_chunks(parts, before, purged_rows(before, UNTIL))
 
 
+def killed_at(room, size):
+    """Kills a purge as soon as its log has that many bytes. Returns the most bytes that were seen, and its status."""
+    log, most = room.database.with_name("dss.db-wal"), 0
+    with subprocess.Popen(room.purge_arguments(UNTIL), stdout=subprocess.DEVNULL, stderr=subprocess.DEVNULL) as program:
+        while program.poll() is None and most < size:
+            with contextlib.suppress(FileNotFoundError):
+                most = max(most, log.stat().st_size)
+            time.sleep(0.0002)
+        program.kill()
+    return most, program.returncode
+
+
 def killed():
-    """The same if the program is killed in the middle."""
+    """The same if the program is killed in the middle. A busy machine may run it at another speed each time, so the
+    moments follow the size of its log, and there are more of them until the parts differ."""
     found, parts = [], collections.Counter()
     with PurgeRoom() as room:
         before = made_of(room.database, many(3 * ENDED))
         saved = room.database.read_bytes()
-        began = time.monotonic()
-        found += difference("a purge", room.purge(UNTIL)[0], 0)
-        took = time.monotonic() - began
-        for at in range(KILLS):
+        most, status = killed_at(room, math.inf)
+        found += difference("a purge", status, 0)
+        for at in range(1, MAX_KILLS):
             room.database.write_bytes(saved)
             room.database.with_name("dss.db-wal").unlink(missing_ok=True)
-            with subprocess.Popen(room.purge_arguments(UNTIL), stdout=subprocess.PIPE, stderr=subprocess.PIPE) as program:
-                time.sleep(took * (at + 1) / (KILLS + 2))
-                program.kill()
+            seen, status = killed_at(room, at * SPREAD % 1 * most)
+            found += difference(f"kill {at}", status in (0, -signal.SIGKILL), True)
+            most = max(most, seen)
             copy = crashes.copied(room.database)
             parts[sum(gone(before, tables.rows_in(copy)))] += 1
             found += finished(f"kill {at}", room, room.database, before)
+            if at >= KILLS and len(parts) > 2:
+                break
     print(f"a program that was killed left these parts: {dict(sorted(parts.items()))}")
     return found + wrong_chunks(parts, before, purged_rows(before, UNTIL))
 

@@ -114,6 +114,20 @@ def counted_at_start():
         return it.found
 
 
+def availabilities():
+    """Availabilities do not count: a token with the scope for it can set that of any name, and no other token can."""
+    with Service(quota=1) as service:
+        it = Asking(service)
+        body = b'{"old_version":"","availability":"Down"}'
+        for number in range(3):
+            target = f"{wire.AVAILABILITY}/no-supplier-{number}"
+            it.ask(f"without the scope {number}", 403, "PUT", target, "Bearer tok-a", body)
+            it.ask(f"with the scope {number}", 200, "PUT", target, "Bearer tok-v", body)
+        it.put("an intent", 201, 1)
+        it.put("one too many", FAULT, 2)
+        return it.found
+
+
 def unbounded():
     """Without the option nothing is rejected."""
     with Service() as service:
@@ -127,5 +141,6 @@ CASES = {
     "quota-counted-together": counted_together,
     "quota-counted-cells": counted_cells,
     "quota-counted-at-start": counted_at_start,
+    "quota-without-availabilities": availabilities,
     "quota-without-the-option": unbounded,
 }

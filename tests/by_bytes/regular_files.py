@@ -4,14 +4,16 @@ import time
 
 import wire
 from figures import FullAndVerbose
+from lateness import again, exceeded
+from logs import until_lines
 from program import run
 from serving import Service
 from sockets import ASKED, CLOSING, LAST, ANSWER, difference
 
 OUTPUT, UNREAD = b"dss: output\n", b"dss: tokens: cannot read\n"
 MEBIBYTE = 1 << 20
-# Seconds within which the service looks at its files again.
-LOOK = 2.5
+# Seconds within which the service looks at its files again, and within which it answers.
+LOOK, AT_ONCE = 2.5, 1
 
 
 def cause(name, words):
@@ -56,15 +58,15 @@ def while_it_serves():
         os.mkfifo(started.folder / "log")
         (started.folder / "tokens.toml").unlink()
         os.mkfifo(started.folder / "tokens.toml")
+        started.until_told(UNREAD)
         time.sleep(LOOK)
         began = time.monotonic()
         found += difference("after", started.exchange(ASKED + CLOSING, ends=False), ANSWER + LAST)
-        found += ["it took long"] if time.monotonic() - began > 1 else []
-        time.sleep(0.2)
-        found += difference("lines of the log", len((started.folder / "moved").read_text().splitlines()), 4)
+        found += exceeded(time.monotonic() - began, AT_ONCE, "after")
+        found += difference("lines of the log", len(until_lines(started.folder / "moved", 4)), 4)
         started.kill()
         told = (started.folder / "errors").read_bytes()[len(started.listening):]
         return found + difference("told", told, UNREAD)
 
 
-CASES = {"regular-files": at_the_start, "regular-files-while-it-serves": while_it_serves}
+CASES = {"regular-files": at_the_start, "regular-files-while-it-serves": again(while_it_serves)}

@@ -13,8 +13,8 @@ import re
 import shutil
 import subprocess
 import tempfile
-import time
 
+from lateness import again, exceeded
 from program import BUILT, SECONDS, TOP
 
 GIVEN = (TOP / "examples" / "availability.http").read_bytes()
@@ -113,8 +113,9 @@ class Checkout:
         return {**kept, **own, **(more or {})}
 
     def run(self, words, given=b"", kit=False, more=None, start=()):
+        # A gate sums all sources several times.
         done = subprocess.run(
-            [*start, self.top / words[0], *words[1:]], input=given, capture_output=True, cwd=self.top, timeout=SECONDS,
+            [*start, self.top / words[0], *words[1:]], input=given, capture_output=True, cwd=self.top, timeout=6 * SECONDS,
             env=self.environment(kit, more),
         )
         return done.returncode, done.stdout, done.stderr.decode()
@@ -149,11 +150,13 @@ def difference(what, got, wanted):
 def first_answer():
     """In a fresh clone without a kit, also without git, the first response comes at once."""
     with Checkout() as it:
-        began = time.monotonic()
+        # Processor time, since the other cases run beside it.
+        began = os.times()
         found = it.answered("first")
-        took = time.monotonic() - began
+        ended = os.times()
+        took = ended.children_user + ended.children_system - began.children_user - began.children_system
         print(f"the first response of a fresh clone took {took:.2f} s")
-        found += [f"the first response took {took:.2f} s"] if took >= FIRST_ANSWER else []
+        found += exceeded(took, FIRST_ANSWER, "the first response")
         found += it.answered("second")
         it.top.joinpath("release", "made-of").unlink()
         found += it.answered("without the release, of what stands built")
@@ -443,7 +446,7 @@ def another_version():
 
 
 CASES = {
-    "first-response-of-a-release": first_answer,
+    "first-response-of-a-release": again(first_answer),
     "damaged-release": spoilt,
     "release-for-another-processor": other_processor,
     "release-from-other-sources": other_sources,

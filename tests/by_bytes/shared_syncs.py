@@ -2,6 +2,7 @@
 
 Each response is the plain policy's in some order of the calls."""
 import tempfile
+import time
 
 import drawn_calls
 import plain_policy
@@ -9,6 +10,7 @@ import wire
 from at_once import CLIENTS, FAR, NOW, PATIENCE, STOPS, TOKENS, AtOnce, Checked, is_change
 from devices import library
 from many_clients import Batch
+from program import SECONDS
 
 SEED = 71
 # Batches of changes. Of so many changes at least one shares its sync with the others, also during checkpoints.
@@ -16,8 +18,8 @@ BATCHES, SHARED_BY = 12, 4
 # Changes of a single client, each of which has a sync; a checkpoint has some more.
 ALONE, MORE = 40, 6
 MANY = 200
-# Seconds in which a response that may go out would have arrived.
-SOON = 0.4
+# Seconds in which a response that may go out would have arrived, and in which a busy machine sends the first one.
+SOON, BUSY = 0.4, 3
 DRAWN_BATCHES, DRAWN_CLIENTS = 25, 24
 
 
@@ -60,10 +62,15 @@ def early(service, airspace, calls, **numbers):
     """Returns which responses of a batch go out too early while its sync waits, or what is wrong with it; the airspace
     after it; and whether the first read was answered before the sync."""
     service.send_at_once(calls, **numbers)
-    soon = [service.told_to(kept, SOON / len(calls)) for _, kept in zip(calls, service.kept)]
+    until = time.monotonic() + SECONDS
+    while not service.page.get("syncs") and time.monotonic() < until:
+        time.sleep(0.001)
+    # The first response may go out. All do if the sync lies.
+    seconds = [PATIENCE] * len(calls) if "lies" in numbers else [BUSY] + [SOON / len(calls)] * (len(calls) - 1)
+    soon = [service.told_to(kept, it) for it, kept in zip(seconds, service.kept)]
     soon = [it or service.told_to(kept, 0.001) for it, kept in zip(soon, service.kept)]
     service.page.set()
-    told = [it or service.told_to(kept, 30) for it, kept in zip(soon, service.kept)]
+    told = [it or service.told_to(kept, PATIENCE) for it, kept in zip(soon, service.kept)]
     checked = Checked(airspace, calls, told, service.found(calls))
     before = [airspace.ask(*it).text() if not is_change(it) else None for it in calls]
     found = [f"{call}: {answer!r} before the sync" for call, answer, may in zip(calls, soon, before) if answer not in (None, may)]

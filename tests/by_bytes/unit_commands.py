@@ -2,27 +2,30 @@
 
 That systemd runs them this way is not tested. systemd reads `%%` as `%`, `$$` as `$` and `\\` as `\`."""
 import datetime
+import os
 import pathlib
 import re
+import shlex
 import shutil
-import socket
 import subprocess
 import tempfile
 import threading
 import time
 
 from admin_port import STOP, AdminService
-from ports import free_port
+from logs import until_lines
 from program import BUILT, TOP, run
 from sockets import ASKED, CLOSING, LAST, difference
 
 DEPLOY = TOP / "deploy"
 
 
-def command(unit, name, admin):
-    """Returns the arguments of a unit's command, for an admin port."""
-    text = re.search(rf"(?m)^{name}=-?/bin/bash -c '(.*)'$", (DEPLOY / unit).read_text())[1]
+def command(unit, name, admin, places=()):
+    """Returns the arguments of a unit's command, for an admin port, and for other places of files."""
+    text = re.search(rf"(?m)^{name}=[-+]?/bin/bash -c '(.*)'$", (DEPLOY / unit).read_text())[1]
     for there, here in ("%%", "%"), ("$$", "$"), ("\\\\", "\\"), ("/127.0.0.1/8078", f"/127.0.0.1/{admin}"), ("127.0.0.1:8078", f"127.0.0.1:{admin}"):
+        text = text.replace(there, here)
+    for there, here in dict(places).items():
         text = text.replace(there, here)
     return ["bash", "-c", text]
 
@@ -33,9 +36,6 @@ class UnitService(AdminService):
     def command(self):
         (self.folder / "backups").mkdir(exist_ok=True)
         return [*super().command(), "--access-log", f"{self.folder}/requests.log", "--backup-dir", f"{self.folder}/backups"]
-
-    def log(self):
-        return (self.folder / "requests.log").read_text().splitlines()
 
 
 def stops():
@@ -50,32 +50,51 @@ def stops():
 
 
 def copies():
-    """The backup unit makes a backup of the day, which opens. A second run says that it exists."""
+    """The backup unit makes a backup of the day, which opens, also while the service is stopped. A second run says that
+    it exists. What killed backups left is deleted before a backup, and old backups after it."""
     day = datetime.datetime.now(datetime.timezone.utc).strftime("%Y-%m-%d")
     with UnitService() as started:
         started.exchange(CLOSING, ends=False)
-        asked = command("dss-backup.service", "ExecStart", started.admin)
-        status, output, error = run(asked)
-        made = sorted((started.folder / "backups").iterdir())
-        found = difference("made", (status, b"made: " in output, error), (0, True, b""))
-        found += difference("made", [it.name for it in made], [day])
-        found += difference("for others", [it for it in [*made, *made[0].iterdir()] if it.stat().st_mode & 0o077], [])
-        status, output, error = run(asked)
-        found += difference("again", (status, b"exists: " in output, error), (1, True, b""))
+        folder, text = started.folder / "backups", (DEPLOY / "dss-backup.service").read_text()
+        places = {"/usr/bin/dss": BUILT, "/var/lib/dss/dss.db": f"{started.folder}/dss.db", "/var/lib/dss/backups": f"{folder}"}
+        asked = command("dss-backup.service", "ExecStart", started.admin, places)
+        found = difference("a backup", run(asked), (0, b"", b""))
+        found += difference("made", [it.name for it in folder.iterdir()], [day])
+        found += difference("for others", [it for it in [folder / day, *(folder / day).iterdir()] if it.stat().st_mode & 0o077], [])
+        found += difference("again", run(asked), (1, b"", b"dss: backup: fault 1 Exists\n"))
+        hours = {"old": 16 * 24, "new": 13 * 24, ".old.1.live": 3, ".new.1.live": 1, ".old.begun": 16 * 24}
+        for name, age in hours.items():
+            (folder / name).mkdir()
+            (folder / name / "dss.db").write_bytes(b"")
+            os.utime(folder / name, (time.time() - age * 3_600,) * 2)
+        for name, gone in ("Pre=-", ".old.1.live"), ("Post=", "old"):
+            deletes = re.search(rf"(?m)^ExecStart{name}(/usr/bin/find .*)$", text)[1].replace("/var/lib/dss/backups", f"{folder}")
+            found += difference(f"ExecStart{name}", run(shlex.split(deletes)), (0, b"", b""))
+            del hours[gone]
+            left = sorted(it.name for it in folder.iterdir())
+            found += difference(f"what ExecStart{name} leaves", left, sorted([day, *hours]))
+        found += writes_its_time(started)
         started.asked(STOP)
         started.ended()
-        return found + difference("its report", run([BUILT, "report", "--db", str(made[0] / "dss.db")]), (0, b"serial 0\n", b""))
+        (folder / day).rename(folder / "before")
+        found += difference("while it is stopped", run(asked), (0, b"", b""))
+        for name in "before", day:
+            found += difference(name, run([BUILT, "verify", str(folder / name)]), (0, b"serial 0\n", b""))
+        return found
 
 
-def waits():
-    """The backup unit waits until the admin port listens, and no longer."""
-    port = free_port()
-    asked = subprocess.Popen(command("dss-backup.service", "ExecStartPre", port), stdout=subprocess.PIPE, stderr=subprocess.STDOUT)
-    time.sleep(1.5)
-    found = difference("before", asked.poll(), None)
-    with socket.create_server(("127.0.0.1", port)):
-        output, _ = asked.communicate(timeout=10)
-    return found + difference("after", (asked.returncode, output), (0, b""))
+def writes_its_time(started):
+    """The backup unit writes the time of the backup for the node exporter, if its directory exists."""
+    exporter = started.folder / "node-exporter"
+    asked = command("dss-backup.service", "ExecStartPost", started.admin, {"/var/lib/prometheus/node-exporter": f"{exporter}"})
+    found = difference("without a node exporter", (run(asked), exporter.exists()), ((0, b"", b""), False))
+    exporter.mkdir()
+    for _ in range(2):
+        before = int(time.time())
+        found += difference("with one", run(asked), (0, b"", b""))
+        text = (exporter / "dss_backup.prom").read_text()
+        found += difference("the metric", before <= int(re.search(r"(?m)^dss_backup_last_success_seconds (\d+)$", text)[1]) <= time.time(), True)
+    return found + difference("files", [(it.name, it.stat().st_mode & 0o777) for it in exporter.iterdir()], [("dss_backup.prom", 0o644)])
 
 
 def reports():
@@ -104,12 +123,14 @@ def rotates():
         settings.write_text(text.replace("su dss dss", f"su {owner}"))
         settings.chmod(0o600)
         started.exchange(ASKED + CLOSING, ends=False)
-        found = difference("lines", len(started.log()), 2)
+        log = started.folder / "requests.log"
+        found = difference("lines", len(until_lines(log, 2)), 2)
         done = subprocess.run([program, "--force", "--state", started.folder / "state", settings], capture_output=True, text=True)
         found += difference("logrotate", (done.returncode, done.stderr), (0, ""))
-        time.sleep(2)
+        # The service makes the new file within a second.
+        until_lines(log, 0)
         started.exchange(CLOSING, ends=False)
-        found += difference("the new file", len(started.log()), 1)
+        found += difference("the new file", len(until_lines(log, 1)), 1)
         moved = started.folder / "requests.log.1"
         return found + difference("the old file", (moved.is_file() and len(moved.read_text().splitlines())), 2)
 
@@ -117,7 +138,6 @@ def rotates():
 CASES = {
     "unit-stops-the-service": stops,
     "unit-backs-up-the-database": copies,
-    "unit-waits-for-the-admin-port": waits,
     "unit-reports-a-failure": reports,
     "logrotate-moves-the-log": rotates,
 }

@@ -8,15 +8,17 @@ import pathlib
 import socket
 import struct
 import tempfile
-import time
 
+import tables
 import wire
 from program import BUILT, run
-from serving import Service
+from serving import Service, has_ipv6
 from sockets import difference
 from token_reports import FILES, IS_EXAMPLE, is_short
 
-IN_USE = "dss: socket\n"
+IN_USE, OF_STORE = "dss: socket\n", "dss: db: fault 3 Store\n"
+# The USSs in a database whose start takes 93 MB, and limits in megabytes under which it fails.
+SUPPLIERS, TOO_LITTLE = 120_000, (12, 32, 64)
 
 
 def system(number):
@@ -50,11 +52,12 @@ class PortInUse:
         """Returns the lines about that port, with the option."""
         return cause(f"127.0.0.1:{self.there.getsockname()[1]}", system(errno.EADDRINUSE)) + IN_USE
 
-    def serve(self, text, *options):
+    def serve(self, text, *options, port=None):
         """Returns the status, the output and the lines of standard error of `serve` with this text of a token file."""
+        port = port or self.there.getsockname()[1]
         (self.folder / "tokens.toml").write_text(text)
         files = ["--tokens", f"{self.folder}/tokens.toml", "--db", f"{self.folder}/dss.db"]
-        words = [BUILT, "serve", *files, "--port", f"{self.there.getsockname()[1]}", *options]
+        words = [BUILT, "serve", *files, "--port", f"{port}", *options]
         status, output, error = run(words)
         return status, output, error.decode()
 
@@ -71,6 +74,17 @@ def token_files():
             wanted = told + (last if fault else limits() + it.told())
             found += difference(f"{text!r}, --verbose", it.serve(text, "--verbose"), (1, b"", wanted))
     return found
+
+
+def cause_of_ipv6_port():
+    """The cause at a port of an IPv6 address has the address in brackets."""
+    if not has_ipv6():
+        return []
+    with PortInUse() as it, socket.create_server(("::1", 0), family=socket.AF_INET6) as taken:
+        port = taken.getsockname()[1]
+        told = it.serve(wire.token_file(salt="f0" * 32), "--verbose", "--listen", "::1", port=port)
+        wanted = limits() + cause(f"[::1]:{port}", system(errno.EADDRINUSE)) + IN_USE
+        return difference("[::1]", told, (1, b"", wanted))
 
 
 def limits_of_options():
@@ -132,11 +146,43 @@ def causes():
     return found
 
 
+def start_without_memory():
+    """A start that lacks memory for the rows says so, and leaves the file as it is. With enough memory, the service
+    starts over the same file."""
+    with tempfile.TemporaryDirectory() as room:
+        tokens, database = pathlib.Path(room, "tokens.toml"), pathlib.Path(room, "dss.db")
+        tokens.write_text(wire.token_file(salt="f0" * 32))
+        rows = [(f"uss-{number:06}", 1, wire.ovn(1)) for number in range(SUPPLIERS)]
+        tables.make(database, 2, {"availability": rows, "meta": [(1, 2, 1)]})
+        before = database.read_bytes()
+        # A port that is taken ends a start that has read the database.
+        with socket.create_server(("127.0.0.1", 0)) as taken:
+            port = taken.getsockname()[1]
+            words = [BUILT, "serve", "--tokens", str(tokens), "--db", str(database), "--port", f"{port}"]
+            told = cause(database, "out of memory, or the file, its log or its directory cannot be used")
+            found = []
+            for megabytes in TOO_LITTLE:
+                limited = ["prlimit", f"--as={megabytes << 20}", *words]
+                found += difference(f"{megabytes} MB", run(limited), (1, b"", OF_STORE.encode()))
+                wanted = (1, b"", (limits() + told + OF_STORE).encode())
+                found += difference(f"{megabytes} MB, --verbose", run([*limited, "--verbose"]), wanted)
+            found += difference("the file", database.read_bytes() == before, True)
+            in_use = cause(f"127.0.0.1:{port}", system(errno.EADDRINUSE)) + IN_USE
+            enough = run([*words, "--verbose"])
+            return found + difference("enough", enough, (1, b"", (limits() + in_use).encode()))
+
+
 class Verbose(Service):
     """`dss serve` with the option, and the token file of an example."""
 
     options = ("--verbose",)
     preface = f"line 1: {IS_EXAMPLE}\nline 1: {is_short(len(wire.SALT))}\n{limits('1 connections')}".encode()
+
+
+class VerboseIpv6(Verbose):
+    """The same on ::1."""
+
+    address, options = "[::1]", (*Verbose.options, "--listen", "::1")
 
 
 def listening():
@@ -151,12 +197,19 @@ def listening():
 
 def connection_given_up():
     """For an aborted connection, a second line gives its client and its phase."""
-    with Verbose(count=1) as service:
-        with socket.create_connection(("127.0.0.1", service.port)) as client:
+    found = []
+    for kind, host in ((Verbose, "127.0.0.1"), *([(VerboseIpv6, "::1")] if has_ipv6() else [])):
+        found += given_up(kind, host)
+    return found
+
+
+def given_up(kind, host):
+    """Returns how these lines differ for a client of that address."""
+    with kind(count=1) as service:
+        with socket.create_connection((host, service.port)) as client:
             client.sendall(b"GET /")
-            address = "%s:%d" % client.getsockname()
-            # By then the service has read them, and rests.
-            time.sleep(1)
+            address = f"{service.address}:{client.getsockname()[1]}"
+            service.until_read(client)
             client.setsockopt(socket.SOL_SOCKET, socket.SO_LINGER, struct.pack("ii", 1, 0))
         wanted = f"dss: stream: fault 1 Read\ndss: stream: connection 1 of {address}, reading a request\n"
         return difference("the service", service.ended(), (0, b"", service.listening + wanted.encode()))
@@ -167,5 +220,7 @@ CASES = {
     "verbose-limits": limits_of_options,
     "verbose-listens": listening,
     "verbose-causes": causes,
+    "verbose-cause-of-ipv6": cause_of_ipv6_port,
     "verbose-connections": connection_given_up,
+    "verbose-start-without-memory": start_without_memory,
 }

@@ -61,6 +61,22 @@ def case(name):
             return [f"allocation {at} refused: {got!r}"]
 
 
+def explanations():
+    """Allocations are refused to `explain`, of a request that has a form and of one that has none: it prints the same, or
+    it ends with `dss: memory`, and never says otherwise."""
+    found = []
+    put = {"extents": [hour_of(0)], "uss_base_url": "https://uss.example", "state": "Accepted", "key": ["o" * 16], "stat": 0}
+    words = [BUILT, "explain", "--now", str(2 * NOW + 3600), "PUT", f"{wire.INTENTS}/00000000-0000-4000-8000-0000000000a1"]
+    for given in json.dumps(put), json.dumps({**put, "key": ["o"], "state": None}), "{":
+        wanted = run(words, given.encode())
+        for at, got, is_refused in each_refused(words, given.encode()):
+            if got != wanted and (not is_refused or got != (1, b"", b"dss: memory\n")):
+                found += [f"{given}, allocation {at}, refused: {is_refused}: got {got!r}"]
+        print(f"explain: {at - 1} memory allocations refused in turn")
+        found += [] if at > 10 else [f"{given}: {at - 1} allocations"]
+    return found
+
+
 def hour_of(start):
     """Returns the extents of the calls below: a cell for an hour."""
     return {"cells": ["89c25904"], "altitude_lower": 0, "altitude_upper": 1200, "time_start": start, "time_end": start + 3600}

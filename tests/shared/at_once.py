@@ -1,19 +1,18 @@
 """Clients of a service that all make a change at once, so that the changes share a batch.
 
 It checks whether the responses, and what is stored afterwards, are those of the policy for the calls in some order."""
-import contextlib
 import copy
 import math
 import os
 import re
-import signal
 import socket
 import time
 
 import plain_policy
 import wire
-from devices import Page
+from devices import Page, library
 from plain_policy import INTENT
+from program import SECONDS
 from serving import Service
 from without_memory import FAULT, STOPPED
 
@@ -27,7 +26,7 @@ TOKENS = {f"tok-{it}": (f"uss-{it}", {wire.STRATEGIC}) for it in range(256)} | {
 }
 FAULTED, STOPS = wire.answer(*FAULT), wire.answer(*STOPPED)
 # Seconds in which a response must arrive.
-PATIENCE = 30
+PATIENCE = SECONDS
 PLACES = 0x40000000
 
 
@@ -170,7 +169,8 @@ class AtOnce(Service):
     def __init__(self, device, clients=CLIENTS, tokens=TOKENS):
         super().__init__(tokens)
         self.device, self.changers, self.kept = device, [Changer(it) for it in range(clients)], []
-        self.page = Page(self.folder)
+        # A round ends after some milliseconds, so that a busy machine would make several batches of one.
+        self.page, self.clock = Page(self.folder), library("slow_clock", self.folder)
 
     def __enter__(self):
         self.begin()
@@ -179,7 +179,7 @@ class AtOnce(Service):
     def begin(self, more=None):
         """Starts the program with this additional environment, and connects each client."""
         self.page.set()
-        self.environment = {**os.environ, **self.page.environment(self.device), **(more or {})}
+        self.environment = {**os.environ, **self.page.environment(f"{self.device}:{self.clock}"), **(more or {})}
         self.start()
         self.kept = [[self.connect(), wire.MAX_REQUESTS, b""] for _ in self.changers]
         # Once each has a response, the service knows them all.
@@ -195,16 +195,6 @@ class AtOnce(Service):
         for it, call in zip(self.kept, calls):
             it[1] -= 1
             it[0].sendall(wire.request(*call))
-
-    @contextlib.contextmanager
-    def paused(self):
-        """Stops the service for a while. When it continues, it finds all sent requests at once."""
-        self.program.send_signal(signal.SIGSTOP)
-        os.waitid(os.P_PID, self.program.pid, os.WSTOPPED | os.WNOWAIT)
-        try:
-            yield
-        finally:
-            self.program.send_signal(signal.SIGCONT)
 
     def send_at_once(self, calls, **numbers):
         """Makes all clients' calls at once. From then on the page has these numbers."""

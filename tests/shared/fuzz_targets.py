@@ -13,7 +13,7 @@ CORPUS = TOP / "tests" / "data" / "fuzz"
 # The processor time after which a run counts as a hang, and the address space of a run, in MB.
 SECONDS, MEGABYTES = 5, 1024
 # The time by the clock after which it does, on a busy machine.
-CLOCK_SECONDS = 60
+CLOCK_SECONDS = 300
 NOW = "1000"
 # The argument that stands for the input's file.
 INPUT = "@@"

@@ -11,7 +11,8 @@ CASES = TOP / "tests" / "data" / "cases"
 DSS = str(TOP / "dss")
 # ./check sets this to the program that ./dss runs, which is elsewhere if the repository cannot be written.
 BUILT = os.environ.get("DSS_PROGRAM") or str(TOP / ".dss" / "dss")
-SECONDS = 60
+# A limit for what ends soon, so that a test ends if the program does not. It is far above what a busy machine takes.
+SECONDS = 300
 
 
 def run(words, given=b"", folder=TOP, more=None, program=None):

@@ -1,6 +1,8 @@
 """A running service over a database in its own directory."""
+import contextlib
 import os
 import pathlib
+import signal
 import socket
 import subprocess
 import tempfile
@@ -9,6 +11,9 @@ import time
 import wire
 from ports import free_port
 from program import BUILT, SECONDS
+
+# The connections of this system.
+TCP_TABLES = pathlib.Path("/proc/net/tcp"), pathlib.Path("/proc/net/tcp6")
 
 
 def words(folder, port, count, clients=None, quota=None):
@@ -29,6 +34,15 @@ def until_closed(connection):
     except ConnectionResetError:
         pass
     return came
+
+
+def has_ipv6():
+    """Returns True if this machine has the address ::1."""
+    try:
+        with socket.create_server(("::1", 0), family=socket.AF_INET6):
+            return True
+    except OSError:
+        return False
 
 
 class Service:
@@ -56,10 +70,14 @@ class Service:
         """Returns the command line of the program."""
         return [*words(self.folder, self.port, self.count, self.clients, self.quota), *self.options]
 
+    def listens(self):
+        """Returns the lines about its open ports."""
+        return f"dss: listening on {self.address}:{self.port}\n"
+
     def start(self):
         """Starts the program, and waits until it listens."""
         self.port = free_port()
-        self.listening = self.preface + f"dss: listening on {self.address}:{self.port}\n".encode()
+        self.listening = self.preface + self.listens().encode()
         output, errors = self.folder / "output", self.folder / "errors"
         with output.open("wb") as stdout, errors.open("wb") as stderr:
             self.program = subprocess.Popen(
@@ -96,6 +114,43 @@ class Service:
     def ask(self, requests):
         """Returns the responses to requests over one connection."""
         return wire.answers_of(self.exchange(b"".join(requests)))
+
+    @contextlib.contextmanager
+    def paused(self):
+        """Stops the service for a while. When it continues, it finds all sent requests at once."""
+        self.program.send_signal(signal.SIGSTOP)
+        os.waitid(os.P_PID, self.program.pid, os.WSTOPPED | os.WNOWAIT)
+        try:
+            yield
+        finally:
+            self.program.send_signal(signal.SIGCONT)
+
+    def until_told(self, words):
+        """Waits until the service has printed these words after the lines of its start, or has exited."""
+        errors, until = self.folder / "errors", time.monotonic() + SECONDS
+        while self.program.poll() is None and time.monotonic() < until:
+            if words in errors.read_bytes().removeprefix(self.listening):
+                return
+            time.sleep(0.005)
+
+    def until_read(self, connection):
+        """Waits until the service has accepted a connection and has read all bytes that were sent over it, or has closed
+        it."""
+        here, there = (f"{it[1]:04X}" for it in (connection.getsockname(), connection.getpeername()))
+        until = time.monotonic() + SECONDS
+        while time.monotonic() < until:
+            tables = [it for it in TCP_TABLES if it.exists()]
+            lines = [it.split() for table in tables for it in table.read_text().splitlines()]
+            ends = {(it[1][-4:], it[2][-4:]): it for it in lines}
+            sender, reader = ends.get((here, there)), ends.get((there, here))
+            # It is no longer established.
+            if sender and sender[3] != "01":
+                return
+            # The bytes on the way and those to be read, and the inode, which a connection has once it was accepted.
+            if sender and reader and sender[4][:8] == reader[4][9:] == 8 * "0" and reader[9] != "0":
+                return
+            time.sleep(0.005)
+        raise OSError("the service has not read what was sent")
 
     def memory(self):
         """Returns the memory of the program, in kilobytes."""

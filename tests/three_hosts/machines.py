@@ -64,7 +64,7 @@ def until(holds, what, limit=MOST):
 
 def child_of(process):
     tasks = pathlib.Path(f"/proc/{process.pid}/task/{process.pid}/children")
-    return int(until(lambda: process.poll() is None and tasks.read_text().split(), "a process of its own", 10)[0])
+    return int(until(lambda: process.poll() is None and tasks.read_text().split(), "a process of its own", 60)[0])
 
 
 @contextlib.contextmanager

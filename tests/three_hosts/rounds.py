@@ -294,7 +294,7 @@ class Rounds:
             wrong = self.client.compare(folder)
         if wrong:
             raise Failed("; ".join(wrong))
-        until(lambda: len(set(self.hosts.copies())) == 1, "the copies are the same", 60)
+        until(lambda: len(set(self.hosts.copies())) == 1, "the copies are the same")
 
     def is_late(self, host, at):
         """Returns whether a paused host has just continued, so that its check of health may not have noticed yet."""

@@ -361,9 +361,9 @@ class OverService(unittest.TestCase):
 
     def test_notifications_of_many_threads(self):
         inbox, id = Subscriptions(self.all), uuid.uuid4()
-        inbox.put(id, SubscriptionPut(Volume(self.volume.cells, 0, 9000, NOW, NOW + 60), URL.format("b"), True))
+        inbox.put(id, SubscriptionPut(Volume(self.volume.cells, 0, 9000, NOW, NOW + 3600), URL.format("b"), True))
         for number in range(20):
-            volume = Volume(self.volume.cells, 2000 + 10 * number, 2001 + 10 * number, NOW, NOW + 60)
+            volume = Volume(self.volume.cells, 2000 + 10 * number, 2001 + 10 * number, NOW, NOW + 3600)
             self.a.put_intent(uuid.uuid4(), IntentPut([volume], "Accepted", URL.format("a")))
         barrier = threading.Barrier(4)
 
@@ -409,7 +409,7 @@ class OverService(unittest.TestCase):
         block, = self.blocks("docs/CLIENTS.md")
         put = SubscriptionPut(self.volume, URL.format("b"), True)
         root = self.b.put_subscription(uuid.uuid4(), put).subscription
-        other = Volume(["89c25bac"], 0, 100, NOW, NOW + 60)
+        other = Volume(["89c25bac"], 0, 100, NOW, NOW + 3600)
         made = [self.b.put_intent(uuid.uuid4(), IntentPut([it], "Accepted", URL.format("b"), subscription_id=root.id))
                 for it in (self.volume, other)]
         said = self.said_by(block, client=self.b, root=root.id)
