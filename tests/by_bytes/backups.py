@@ -247,6 +247,13 @@ def one_at_a_time():
         return found + difference("half made", [it for it in started.all() if it.startswith(".")], [])
 
 
+def until_begun(started, name):
+    """Waits until the backup of that name is in progress or made."""
+    end = time.monotonic() + SECONDS
+    while time.monotonic() < end and not any(it.startswith(".") or it == name for it in started.all()):
+        pass
+
+
 def killed():
     """If `serve` is killed during a backup, the next start removes the incomplete file. Complete backups stay."""
     with Backed() as started:
@@ -256,8 +263,10 @@ def killed():
         while at < 40 or not halves and at < 400:
             with started.operator() as operator:
                 operator.sendall(backs_up(f"k{at}"))
-                started.until_read(operator)
-                time.sleep(0.0005 * (at % 40))
+                if at % 2:
+                    until_begun(started, f"k{at}")
+                else:
+                    time.sleep(0.0005 * (at % 40))
                 started.kill()
             halves += any(it.startswith(".") for it in started.all())
             for name in started.all():

@@ -194,7 +194,7 @@ ROWS = (
     (QUERY, area(json.dumps({"cells": ["X"] * 512})), [*(f"area_of_interest.cells[{at}]: {NO_TOKEN}" for at in range(100)), "and 412 more"], FORM),
 )
 
-# What is told of a put that ends at 2000, by the time of the request.
+# The lines that explain a put that ends at 2000, by the time of the request.
 ENDINGS = (
     (None, []),
     (1999, []),
