@@ -23,7 +23,7 @@ use std::io::Write;
 use std::net::SocketAddr;
 use std::{fs, io};
 use token_conf::token_table::TokenTable;
-use wire_http::Moments;
+use wire_http::{Explaining, Moments};
 
 const MEBIBYTE: usize = 1_048_576;
 
@@ -211,6 +211,11 @@ pub(crate) fn serve<F: Start, E: Write>(
         tokens: &tokens,
         addresses: given.listen.as_slice(),
         limits: limits_of(rt, given),
+        explaining: if given.explain {
+            Explaining::On
+        } else {
+            Explaining::Off
+        },
         keep: given.retention,
         changed,
         operated: operated(rt, given),

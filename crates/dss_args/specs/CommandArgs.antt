@@ -178,6 +178,7 @@ pub record HasServing (rows : List Row) (given : ServeArgs) : Type 0 where
   pub access_log : HasText (codes "access-log") rows given.access_log
   pub copies : lacks_port rows ≡ false
   pub double_sync : is_set (codes "double-sync") rows ≡ given.double_sync
+  pub explain : is_set (codes "explain") rows ≡ given.explain
   pub verbose : is_set (codes "verbose") rows ≡ given.verbose
 
 -- The name of the subcommand that requests the command.

@@ -145,7 +145,11 @@ serve_watch =
 
 abbrev pub serve_app : App
 serve_app =
-    with_rule (with_rule serve_watch (flag_rule (codes "double-sync"))) (flag_rule (codes "verbose"))
+    with_rule
+    (with_rule
+    (with_rule serve_watch (flag_rule (codes "double-sync")))
+    (flag_rule (codes "explain")))
+    (flag_rule (codes "verbose"))
 
 abbrev pub self_app : App
 self_app =

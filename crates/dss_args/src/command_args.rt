@@ -462,6 +462,7 @@ fn serve_on<'a>(matches: &ArgMatches<'a>, listen: Vec<SocketAddr>) -> Option<Com
         backup_dir: matches.get_str("backup-dir"),
         access_log: matches.get_str("access-log"),
         double_sync: is_set(matches, "double-sync"),
+        explain: is_set(matches, "explain"),
         verbose: is_set(matches, "verbose"),
     }))
 }

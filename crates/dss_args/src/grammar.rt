@@ -405,6 +405,16 @@ fn double_sync_flag<'a>(alloc: Global) -> Arg<'a>
     )
 }
 
+// Returns the flag that adds explanations to responses.
+fn explain_flag<'a>(alloc: Global) -> Arg<'a>
+    ensures rule { rule_of result ≡ flag_rule (codes "explain") }
+    ensures local { result.global ≡ false }
+{
+    flag(alloc, "explain").help(
+        "Explain denials by P1, P2, P5, P6 and P13 in the response, and name ignored members",
+    )
+}
+
 // Returns the flag that prints warnings and limits before listening.
 fn verbose_flag<'a>(alloc: Global) -> Arg<'a>
     ensures rule { rule_of result ≡ flag_rule (codes "verbose") }
@@ -444,6 +454,7 @@ fn serve_command<'a>(alloc: Global) -> Result<Command<'a>, AllocError>
         .arg(listen_option(alloc))?
         .arg(log_option(alloc))?
         .arg(double_sync_flag(alloc))?
+        .arg(explain_flag(alloc))?
         .arg(verbose_flag(alloc))
 }
 

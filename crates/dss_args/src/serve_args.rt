@@ -32,6 +32,8 @@ pub struct ServeArgs<'a> {
     /// True if each commit is synced twice, and nothing is assumed about torn writes of the
     /// database.
     pub double_sync: bool,
+    /// True if responses have explanations.
+    pub explain: bool,
     /// True if warnings about the token file, and its limits, are printed before listening.
     pub verbose: bool,
 }

@@ -33,7 +33,7 @@ use std::io;
 use std::io::Write;
 use std::net::SocketAddr;
 use token_conf::token_table::TokenTable;
-use wire_http::{Moments, StreamFault};
+use wire_http::{Explaining, Moments, StreamFault};
 use wire_route::routes::Routes;
 
 /// Prints one line that says that the port of that address is open.
@@ -171,6 +171,8 @@ pub struct ServeConfig<'a> {
     pub addresses: &'a [SocketAddr],
     /// The limits on connections.
     pub limits: Limits,
+    /// Whether responses have explanations.
+    pub explaining: Explaining,
     /// The retention of what has ended in seconds; nothing is purged if `None`.
     pub keep: Option<u64>,
     /// The time of the last change of the database before the start, if it is known, in Unix
@@ -275,6 +277,7 @@ fn serve_sockets<
         sockets,
         backups,
         given.limits,
+        given.explaining,
         given.keep,
         given.changed,
         build,

@@ -13,6 +13,7 @@ use wire_explain::explain::{Explanation, Request, explain_request};
 use wire_explain::operation::name_of;
 use wire_explain::verdict::Verdict;
 use wire_head::target::path_of;
+use wire_route::routes::Routes;
 
 // The maximum length of a body that the service reads.
 const MAX_BODY_BYTES: usize = 1_048_576;
@@ -86,7 +87,10 @@ pub fn explain<R: Read, W: Write>(
         body: body.as_slice(),
         time: now,
     };
-    let Ok(explanation) = explain_request(alloc, &request) else {
+    let Ok(routes) = Routes::new(alloc) else {
+        return Err(Fault::Memory);
+    };
+    let Ok(explanation) = explain_request(alloc, &routes, &request) else {
         return Err(Fault::Memory);
     };
     put_explanation(&explanation, output)?;

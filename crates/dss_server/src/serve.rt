@@ -18,7 +18,7 @@ use std::alloc::Global;
 use std::io;
 use std::io::ErrorKind;
 use token_conf::token_table::TokenTable;
-use wire_http::Moments;
+use wire_http::{Explaining, Moments};
 use wire_route::routes::Routes;
 
 // Returns the active table: the one loaded last, or the first.
@@ -64,6 +64,10 @@ fn in_force<'a>(first: &'a TokenTable, newer: &'a Option<TokenTable>) -> &'a Tok
 /// admin request is no call of the service. It reads the service by `&`, so the service is the same
 /// before and after. Backups are made between batches, step by step.
 ///
+/// With `Explaining::On`, responses have explanations: the body of a denial that the request alone
+/// causes may have one more member, and a success one more field. Otherwise each response is that of
+/// the policy. The contracts of `ClientConnection` state both.
+///
 /// Returns `Ok` only if the number of connections is limited, or an operator can stop the service.
 /// Returns an error of the system that ends the service; the calls before it stand. A fault of a
 /// client is logged, and ends only the connection of that client.
@@ -84,6 +88,7 @@ pub fn serve_clients<
     sockets: &mut N,
     backups: Option<B>,
     limits: Limits,
+    explaining: Explaining,
     keep: Option<u64>,
     changed: Option<u64>,
     operated: Option<BuildInfo<'_>>,
@@ -111,6 +116,7 @@ pub fn serve_clients<
             alloc,
             routes,
             tokens: in_force(tokens, &newer),
+            explaining,
         };
         event_loop.run_once(sockets, context, service, moments, now, journal);
         event_loop.flush_log(journal);

@@ -6,7 +6,7 @@ use Rattle.service_calls.specs.Service.{reply_of}
 use Rattle.service_step.specs.declared.call_fault.CallFault.TheVariants as halts
 use Rattle.space_core.specs.declared.space.SpaceFault.{SpaceFault}
 use Rattle.wire_http.specs.DeferredResponse.{text_at}
-use Rattle.wire_http.specs.Text.{response_text, end_texts}
+use Rattle.wire_http.specs.Text.{noted_text, end_texts}
 use Rattle.server_client.specs.Account.{Account, IsAccountAfterCall, IsAccountAfterEnd, IsAccountAfterStep, IsAccountAtStart, IsAccountOf, after_outcome}
 use Rattle.server_client.specs.ClientState.{Aborts, ClientState, Discards, Drops, Receives, ReceivesEnd, Releases, Sends, after_commit}
 use Rattle.server_client.specs.CommitRecord.{outcome_of}
@@ -51,15 +51,15 @@ no_slot : {X : Type 0} (x : X) (b : List ℕ) → Some x ≡ None → b ≡ []
 no_slot x b h = cc
 
 pub call : IsAccountAfterCall
-call asked reply rest true batch l a p none =
+call asked reply notes rest true batch l a p none =
     let may = all_may_go l a p none in
     record {
       released = ap (λ v. a.sent ++ v) may ∙ p.released;
       deferred = refl;
       none = λ h. no_slot _ _ h;
     }
-call asked reply rest false batch l a p none =
-    let text = response_text asked.endpoint asked.closing reply in
+call asked reply notes rest false batch l a p none =
+    let text = noted_text notes asked.endpoint asked.closing reply in
     let may = all_may_go l a p none in
     record {
       released = sym (append_assoc a.sent l.output text) ∙ ap (λ v. (a.sent ++ v) ++ text) may ∙ ap (λ v. v ++ text) p.released;

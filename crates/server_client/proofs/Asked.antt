@@ -9,10 +9,11 @@ use Rattle.wire_http.specs.Count.{one_more}
 use Rattle.wire_http.specs.declared.connection.Connection.{Connection}
 use Rattle.wire_http.specs.declared.connection.Step.{Step}
 use Rattle.wire_http.specs.declared.connection.Step.TheVariants as steps
+use Rattle.wire_http.specs.declared.explaining.Explaining.{Explaining}
 use Rattle.wire_http.specs.declared.fault.StreamFault.{StreamFault}
 use Rattle.wire_http.specs.declared.fault.StreamFault.TheVariants as faults
 use Rattle.wire_http.specs.declared.moments.Moments as moments
-use Rattle.wire_http.specs.Connection.{IsStep, IsStepPart}
+use Rattle.wire_http.specs.Connection.{IsStepBy, IsStepPart}
 use Rattle.wire_http.specs.Wire.{ClockAfter}
 use Rattle.server_base.specs.Calls.{GoesOn}
 use Rattle.server_base.proofs.Calls.{goes_by_call, goes_nowhere}
@@ -31,8 +32,8 @@ module _ {S M : Type 0} (g : spaces.Ghosts S) (k : settles.Ghosts S) (m : moment
   unasked_goes_on faults.Write left same failed h = goes_nowhere g k m callers old new [] clock clock' same h
   unasked_goes_on faults.Turns left same failed h = goes_nowhere g k m callers old new [] clock clock' same h
 
-  module _ (c c' : Connection) where
-    step_goes_on : (step : Step) → IsStep g m.gives callers old new clock clock' c c' step → GoesOn g k m callers old new clock clock'
+  module _ (explaining : Explaining) (c c' : Connection) where
+    step_goes_on : (step : Step) → IsStepBy g m.gives callers old new clock clock' c c' explaining step → GoesOn g k m callers old new clock clock'
     step_goes_on steps.NeedsInput h = goes_nowhere g k m callers old new [] clock clock' h.0 h.1
     step_goes_on (steps.Answered n) h =
         goes_by_call g k m callers old new clock clock' h.1.0 h.1.1 ((h.1.5 []).body, (h.1.5 []).call) h.1.3.is_reply (h.1.5 []).moment
@@ -49,7 +50,7 @@ module _ {S M : Type 0} (g : spaces.Ghosts S) (k : settles.Ghosts S) (m : moment
           ]
         ]
 
-    pub asked_goes_on : (asked : Result Step StreamFault) → IfOk asked (IsStep g m.gives callers old new clock clock' c c')
+    pub asked_goes_on : (asked : Result Step StreamFault) → IfOk asked (IsStepBy g m.gives callers old new clock clock' c c' explaining)
         → IfErr asked (IsStepPart g m.gives callers old new clock clock' c c')
         → (asked ≡ Err faults.Clock → m.failures clock' ≡ one_more (m.failures clock))
         → GoesOn g k m callers old new clock clock'

@@ -56,5 +56,5 @@ step commit Drops l l' received all p h = alike received all l l' (ap (λ v. v.h
 step commit Aborts l l' received all p h = alike received all l l' (ap (λ v. v.held) h) (ap (λ v. v.left) h) p
 
 pub call : IsInOrderAfterCall
-call callers asked reply rest deferred batch l received all p some closing asks = λ later.
+call callers asked reply notes rest deferred batch l received all p some closing asks = λ later.
     one_more_asked callers asked (rest ++ later) max_requests l.left (received ++ later) (l.held ++ later) all some (p later) (asks later) closing

@@ -7,7 +7,7 @@ use Rattle.wire_http.specs.declared.connection.DeferredResponse.{DeferredRespons
 use Rattle.wire_http.specs.declared.end.End.{End}
 use Rattle.wire_http.specs.Connection.{IsSame, buffered_of, has_ended, holds_back, is_done, left_of, output_of, ready_of, slot_for, slot_of}
 use Rattle.wire_http.specs.DeferredResponse.{before_last, slot_at}
-use Rattle.wire_http.specs.Text.{end_texts, response_text}
+use Rattle.wire_http.specs.Text.{end_texts, noted_text}
 use Rattle.wire_http.specs.Wire.{RequestCall, left_after}
 use Rattle.server_client.specs.ClientIo.{ReleasesUnless}
 use Rattle.server_client.specs.ClientState.{aborted, batch_of, finished, state_of, with_response}
@@ -33,12 +33,12 @@ none_held c h = slot_none c.deferred_response h
 
 module _ (name batch before : ℕ) (gone : Bool) where
   -- After a call, whose response is released unless it is deferred.
-  pub answered_state : (deferred : Bool) (c next new : Connection) (asked : RequestCall) (reply : Reply)
+  pub answered_state : (deferred : Bool) (c next new : Connection) (asked : RequestCall) (reply : Reply) (notes : List (List ℕ))
       → has_ended next ≡ has_ended c → left_of next ≡ left_after (left_of c - 1) asked.head
-      → output_of next ≡ output_of c ++ response_text asked.endpoint asked.closing reply → ready_of next ≡ output_of c → slot_of next ≡ Some (slot_for asked)
+      → output_of next ≡ output_of c ++ noted_text notes asked.endpoint asked.closing reply → ready_of next ≡ output_of c → slot_of next ≡ Some (slot_for asked)
       → is_done next ≡ is_done c → ReleasesUnless deferred next new
-      → state_of name batch gone new ≡ with_response (state_of name before gone c) asked reply (buffered_of next) deferred batch
-  answered_state true c next new asked reply ended left output ready slot done goes =
+      → state_of name batch gone new ≡ with_response (state_of name before gone c) asked reply notes (buffered_of next) deferred batch
+  answered_state true c next new asked reply notes ended left output ready slot done goes =
       ap (λ v. state_of name batch gone v) goes ∙ (λ i. record {
         name = name;
         held = buffered_of next;
@@ -50,7 +50,7 @@ module _ (name batch before : ℕ) (gone : Bool) where
         batch = batch_of (slot i) batch;
         done = gone || done i;
       })
-  answered_state false c next new asked reply ended left output ready slot done goes =
+  answered_state false c next new asked reply notes ended left output ready slot done goes =
       let out = goes.output ∙ output in
       let may_go = goes.ready ∙ output in
       let ends = goes.ended ∙ ended in

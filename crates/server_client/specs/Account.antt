@@ -7,7 +7,7 @@ use Rattle.service_step.specs.declared.reply.Reply.{Reply}
 use Rattle.space_core.specs.declared.space.SpaceFault.{SpaceFault}
 use Rattle.wire_http.specs.declared.end.End.{End}
 use Rattle.wire_http.specs.DeferredResponse.{text_at}
-use Rattle.wire_http.specs.Text.{response_text, end_texts}
+use Rattle.wire_http.specs.Text.{noted_text, end_texts}
 use Rattle.wire_http.specs.Wire.{RequestCall}
 use Rattle.server_client.specs.declared.commit_record.CommitRecord.{CommitRecord}
 use Rattle.server_client.specs.ClientState.{Aborts, ClientState, ClientStep, Discards, Drops, Receives, ReceivesEnd, Releases, Sends, StepsTo, finished, new_client, with_response}
@@ -41,11 +41,12 @@ after_step outcome Drops l a = record a { deferred = [] }
 after_step outcome Aborts l a = a
 
 -- The account after a call: its response is deferred or released.
-abbrev pub after_call : RequestCall → Reply → (deferred : Bool) → Account → Account
-after_call asked reply true a =
-    record a { deferred = response_text asked.endpoint asked.closing reply }
-after_call asked reply false a =
-    record a { released = a.released ++ response_text asked.endpoint asked.closing reply }
+abbrev pub after_call : RequestCall → Reply → (notes : List (List ℕ)) → (deferred : Bool)
+    → Account → Account
+after_call asked reply notes true a =
+    record a { deferred = noted_text notes asked.endpoint asked.closing reply }
+after_call asked reply notes false a =
+    record a { released = a.released ++ noted_text notes asked.endpoint asked.closing reply }
 
 -- The account after the end of the stream.
 abbrev pub after_end : End → Account → Account
@@ -69,9 +70,10 @@ IsAccountAfterStep = (commit : CommitRecord) (x : ClientStep) (l l' : ClientStat
 
 -- States that each call keeps the account.
 abbrev pub IsAccountAfterCall : Type 0
-IsAccountAfterCall = (asked : RequestCall) (reply : Reply) (rest : List ℕ) (deferred : Bool)
-    (batch : ℕ) (l : ClientState) (a : Account) → IsAccountOf a l → l.slot ≡ None
-    → IsAccountOf (after_call asked reply deferred a) (with_response l asked reply rest deferred batch)
+IsAccountAfterCall = (asked : RequestCall) (reply : Reply) (notes : List (List ℕ)) (rest : List ℕ)
+    (deferred : Bool) (batch : ℕ) (l : ClientState) (a : Account) → IsAccountOf a l → l.slot ≡ None
+    → IsAccountOf (after_call asked reply notes deferred a)
+    (with_response l asked reply notes rest deferred batch)
 
 -- States that the end of the stream keeps the account.
 abbrev pub IsAccountAfterEnd : Type 0

@@ -48,10 +48,10 @@ IsInOrderAfterStep = (commit : CommitRecord) (x : ClientStep) (l l' : ClientStat
 
 -- States that each call is that of the next request.
 abbrev pub IsInOrderAfterCall : Type 0
-IsInOrderAfterCall = (callers : Callers) (asked : RequestCall) (reply : Reply) (rest : List ℕ)
-    (deferred : Bool) (batch : ℕ) (l : ClientState) (received : List ℕ)
+IsInOrderAfterCall = (callers : Callers) (asked : RequestCall) (reply : Reply)
+    (notes : List (List ℕ)) (rest : List ℕ) (deferred : Bool) (batch : ℕ) (l : ClientState) (received : List ℕ)
     (all : List (Callers × RequestCall)) → IsInOrder received all l → 0 < l.left
     → asked.closing ≡ (left_after (l.left - 1) asked.head == 0)
     → ((later : List ℕ) → AsksCall AnyMoment callers (l.held ++ later) tt asked (rest ++ later) tt)
     → IsInOrder received (all ++ (callers, asked) ∷ [])
-    (with_response l asked reply rest deferred batch)
+    (with_response l asked reply notes rest deferred batch)

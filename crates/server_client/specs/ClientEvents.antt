@@ -9,20 +9,22 @@ use Rattle.space_core.specs.declared.group_commit.GroupCommit as commits
 use Rattle.space_core.specs.declared.space.Space as spaces
 use Rattle.token_conf.specs.TokenFile.{TokenFile, callers_of}
 use Rattle.wire_http.specs.declared.end.End.{End}
+use Rattle.wire_http.specs.declared.explaining.Explaining.{Explaining}
 use Rattle.wire_http.specs.declared.moments.Moments as moments
 use Rattle.wire_http.specs.Count.{one_more}
 use Rattle.wire_http.specs.BufferState.{MayCome}
+use Rattle.wire_http.specs.Notes.{MayBeNotes}
 use Rattle.wire_http.specs.Wire.{RequestCall, AsksCall, Finishes, left_after}
 use Rattle.server_base.specs.History.{Extends, HistoryEvent}
 use Rattle.server_client.specs.declared.commit_record.CommitRecord.{CommitRecord}
 use Rattle.server_client.specs.ClientState.{ClientState, ClientStep, StepsTo, aborted, finished, history_of_step, with_response}
 use Rattle.server_client.specs.CommitRecord.{number_of}
 
--- An event of one client: a step, a call with its reply, a call whose response is lost (the code
+-- An event of one client: a step, a call with its reply and the texts in its response, a call whose response is lost (the code
 -- loses one only if memory runs out), the end of its stream, or a read of the clock without a call.
 pub data ClientEvent : Type 0 where
   Steps : (step : ClientStep) → ClientEvent
-  Calls : (asked : RequestCall) → (reply : Reply) → ClientEvent
+  Calls : (asked : RequestCall) → (reply : Reply) → (notes : List (List ℕ)) → ClientEvent
   LosesReply : (asked : RequestCall) → (reply : Reply) → ClientEvent
   EndsStream : (end : End) → ClientEvent
   ReadsClock : (moment : Option ℕ) → ClientEvent
@@ -30,7 +32,7 @@ pub data ClientEvent : Type 0 where
 -- What the history records of an event.
 abbrev pub history_of_event : ℕ → ClientEvent → List HistoryEvent
 history_of_event name (Steps step) = history_of_step name step
-history_of_event name (Calls asked reply) = []
+history_of_event name (Calls asked reply notes) = []
 history_of_event name (LosesReply asked reply) = []
 history_of_event name (EndsStream end) = []
 history_of_event name (ReadsClock moment) = []
@@ -57,20 +59,21 @@ pub record IsCallFor {S : Type 0} (g : spaces.Ghosts S) (l : ClientState) (old n
   pub closing : asked.closing ≡ (left_after (l.left - 1) asked.head == 0)
   pub is_reply : IsReplyTo g old new asked.moment asked.call reply
 
--- `table` is the active token table, and `commit` the record of the last commit.
+-- `explaining` says whether responses have explanations. `table` is the active token table, and
+-- `commit` the record of the last commit.
 module _ {S M : Type 0} (g : spaces.Ghosts S) (k : commits.Ghosts S) (m : moments.Ghosts M)
-    (table : TokenFile) (commit : CommitRecord) where
+    (explaining : Explaining) (table : TokenFile) (commit : CommitRecord) where
   -- Holds if the event leads from one state to the other. A call is the next request in the bytes
   -- of the client, whatever follows them; if its response is lost, this is stated of these bytes
   -- only. It is made at the next time of the clock, by the caller of its token in the active table.
   abbrev pub Occurs : ClientEvent → ServedClient S M → ServedClient S M → Type 0
   Occurs (Steps step) old new = (client : ClientState) × StepsTo commit step old.client client
       × (new ≡ record old { client = client })
-  Occurs (Calls asked reply) old new = (rest : List ℕ) × (service : Service S) × (clock : M)
-      × IsCallFor g old.client old.service service asked reply
+  Occurs (Calls asked reply notes) old new = (rest : List ℕ) × (service : Service S) × (clock : M)
+      × IsCallFor g old.client old.service service asked reply × MayBeNotes explaining notes
       × ((later : List ℕ) → AsksCall m.gives (callers_of table) (old.client.held ++ later) old.clock
       asked (rest ++ later) clock)
-      × (new ≡ served_client service clock (with_response old.client asked reply rest
+      × (new ≡ served_client service clock (with_response old.client asked reply notes rest
       (is_deferred k old.service service) (number_of commit)))
   Occurs (LosesReply asked reply) old new = (rest : List ℕ) × (service : Service S) × (clock : M)
       × IsCallFor g old.client old.service service asked reply

@@ -10,7 +10,7 @@ use Rattle.wire_http.specs.declared.end.End.{End}
 use Rattle.wire_http.specs.Connection.{has_ended, buffered_of, is_done, left_of, output_of, ready_of, slot_for, slot_of}
 use Rattle.wire_http.specs.Count.{max_count, max_requests}
 use Rattle.wire_http.specs.DeferredResponse.{Slot, text_at}
-use Rattle.wire_http.specs.Text.{response_text, end_texts}
+use Rattle.wire_http.specs.Text.{noted_text, end_texts}
 use Rattle.wire_http.specs.Wire.{RequestCall, left_after}
 use Rattle.server_base.specs.History.{Extends, HistoryEvent, Received, ReceivedEnd, Sent}
 use Rattle.server_client.specs.declared.commit_record.CommitRecord.{CommitRecord}
@@ -46,15 +46,16 @@ new_client name = record {
 }
 
 -- The state after a request was answered, with the bytes that follow the request. A deferred
--- response may not be sent yet.
-abbrev pub with_response : ClientState → RequestCall → Reply → (rest : List ℕ) → (deferred : Bool)
-    → (batch : ℕ) → ClientState
-with_response l asked reply rest deferred batch = record l {
+-- response may not be sent yet. `notes` are the texts in the response; without the option to explain
+-- there are none.
+abbrev pub with_response : ClientState → RequestCall → Reply → (notes : List (List ℕ))
+    → (rest : List ℕ) → (deferred : Bool) → (batch : ℕ) → ClientState
+with_response l asked reply notes rest deferred batch = record l {
   held = rest;
   left = left_after (l.left - 1) asked.head;
-  output = l.output ++ response_text asked.endpoint asked.closing reply;
+  output = l.output ++ noted_text notes asked.endpoint asked.closing reply;
   ready = if deferred then l.output
-      else (l.output ++ response_text asked.endpoint asked.closing reply);
+      else (l.output ++ noted_text notes asked.endpoint asked.closing reply);
   slot = if deferred then Some (slot_for asked) else None;
   batch = if deferred then batch else 0;
 }

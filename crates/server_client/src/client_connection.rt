@@ -576,7 +576,7 @@ impl<T: ClientSocket> ClientConnection<T> {
         now: Duration,
     ) -> Result<TurnOutcome, StreamFault>
         ensures runs { ClientRuns S.Space S.GroupCommit.own M.Moments
-            context.entry.tokens.now commit
+            context.entry.explaining context.entry.tokens.now commit
             (served_client service.old moments.old (state_of_client T.name self.old))
             (served_client service.new moments.new (state_of_client T.name self.new))
             (N.history sockets.old) (N.history sockets.new) }
@@ -620,7 +620,7 @@ impl<T: ClientSocket> ClientConnection<T> {
         now: Duration,
     ) -> TurnOutcome
         ensures runs { ClientRuns S.Space S.GroupCommit.own M.Moments
-            context.entry.tokens.now commit
+            context.entry.explaining context.entry.tokens.now commit
             (served_client service.old moments.old (state_of_client T.name self.old))
             (served_client service.new moments.new (state_of_client T.name self.new))
             (N.history sockets.old) (N.history sockets.new) }

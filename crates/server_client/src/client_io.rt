@@ -69,7 +69,7 @@ impl<T: ClientSocket> ClientIo<T> {
     ghost use Rattle.token_conf.specs.TokenFile.{callers_of};
     ghost use Rattle.service_calls.specs.Held.{Stays, space_of};
     ghost use Rattle.wire_http.specs.declared.connection.Connection.{Connection};
-    ghost use Rattle.wire_http.specs.Connection.{buffered_of, deferred_of, has_ended, holds_back, left_of, noted_of, ready_of, IsStep, IsStepPart};
+    ghost use Rattle.wire_http.specs.Connection.{buffered_of, deferred_of, has_ended, holds_back, left_of, noted_of, ready_of, IsStepBy, IsStepPart};
     ghost use Rattle.wire_http.specs.Peek.{IsPeek};
     ghost use Rattle.wire_http.specs.BufferState.{max_buffered};
     ghost use Rattle.server_base.specs.Calls.{GoesOn};
@@ -272,8 +272,9 @@ impl<T: ClientSocket> ClientIo<T> {
         requires open { (client_state T.name self.old).done ≡ false }
         requires none_back { holds_back (connection_of self.old) ≡ false }
         ensures step { IfOk result (λ step. (c : Connection)
-            × IsStep S.Space M.gives (callers_of context.entry.tokens.now)
-            service.old service.new moments.old moments.new (connection_of self.old) c step
+            × IsStepBy S.Space M.gives (callers_of context.entry.tokens.now)
+            service.old service.new moments.old moments.new (connection_of self.old) c
+            context.entry.explaining step
             × ReleasesUnless (S.GroupCommit.is_pending (space_of service.old)
             || S.GroupCommit.is_pending (space_of service.new))
             c (connection_of self.new)) }
@@ -282,7 +283,8 @@ impl<T: ClientSocket> ClientIo<T> {
             service.old service.new moments.old moments.new
             (connection_of self.old) (connection_of self.new)) }
         ensures runs { (past : Option (List HistoryEvent))
-            → ClientRuns S.Space S.GroupCommit.own M.Moments context.entry.tokens.now commit
+            → ClientRuns S.Space S.GroupCommit.own M.Moments context.entry.explaining
+            context.entry.tokens.now commit
             (served_client service.old moments.old (client_state T.name self.old))
             (served_client service.new moments.new (client_state T.name self.new)) past past }
         ensures is_running { GoesOn S.Space S.GroupCommit.own M.Moments
@@ -298,6 +300,7 @@ impl<T: ClientSocket> ClientIo<T> {
             service,
             context.tokens,
             moments,
+            context.explaining,
         )?;
         let waits = service.has_pending();
         self.release_unless(waited, waits);

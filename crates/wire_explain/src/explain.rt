@@ -53,6 +53,7 @@ fn refusal(alloc: Global, verdict: Verdict, report: Report) -> Result<Explanatio
     let Report {
         problems,
         remarks,
+        ignored: _,
         alloc: _,
     } = report;
     let problems = problems.into_texts(alloc)?;
@@ -199,12 +200,15 @@ fn kind_at(endpoint: Endpoint, method: &str) -> Option<OpKind>
 ///
 /// There is a problem exactly if the service's own reader finds no operation. The texts are only
 /// tested.
-pub fn explain_request(alloc: Global, request: &Request<'_>) -> Result<Explanation, AllocError>
+pub fn explain_request(
+    alloc: Global,
+    routes: &Routes,
+    request: &Request<'_>,
+) -> Result<Explanation, AllocError>
     ensures verdict { IfOk result (λ e.
         IsVerdict request.now.path.now request.now.method.now request.now.body.now e.verdict) }
     ensures problems { IfOk result (λ e. AreProblemsOf e.verdict (vec_len e.problems)) }
 {
-    let routes = Routes::new(alloc)?;
     let Some(route) = routes.find(request.path) else {
         return refusal_for(alloc, Verdict::NoRoute, "path", Problem::NoRoute);
     };
@@ -213,4 +217,17 @@ pub fn explain_request(alloc: Global, request: &Request<'_>) -> Result<Explanati
         return refusal_for(alloc, Verdict::NoMethod(route.endpoint), "method", problem);
     };
     explain_as(alloc, kind, &route.words, request)
+}
+
+/// Returns the members of a body that the service ignores in an operation of the kind, as the value
+/// of a list field (RFC 9110, section 5.6.1): at most 1,024 bytes of visible ASCII and spaces.
+/// Returns an empty text if there are none.
+pub fn ignored_members(alloc: Global, kind: OpKind, body: &[u8]) -> Result<String, AllocError> {
+    let mut report = Report::new(alloc);
+    if has_body(kind) {
+        if let Some(value) = value_in(alloc, &mut report, body)? {
+            check_body(alloc, &mut report, kind, &value)?;
+        }
+    }
+    report.ignored.into_text()
 }

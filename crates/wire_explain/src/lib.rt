@@ -4,6 +4,7 @@
 mod distance;
 pub mod explain;
 mod extent;
+mod ignored;
 mod json;
 mod lines;
 mod members;

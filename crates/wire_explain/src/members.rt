@@ -89,7 +89,7 @@ pub(crate) fn put_ignored(
                 Some(object) => object.member(name),
                 None => Place::named(name),
             };
-            report.remark(place, remark)?;
+            report.ignore(place, remark)?;
         }
     }
     Ok(())

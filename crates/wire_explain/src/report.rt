@@ -1,6 +1,7 @@
 //! What is found in a request.
 ghost use Rattle.std.specs.Prelude.{◌≤◌, OnOk, vec_len};
 
+use crate::ignored::IgnoredMembers;
 use crate::lines::Lines;
 use crate::place::Place;
 use crate::problem::Problem;
@@ -12,6 +13,7 @@ use std::alloc::{AllocError, Global};
 pub(crate) struct Report {
     pub(crate) problems: Lines,
     pub(crate) remarks: Lines,
+    pub(crate) ignored: IgnoredMembers,
     pub(crate) alloc: Global,
 }
 
@@ -21,6 +23,7 @@ impl Report {
         Report {
             problems: Lines::new(alloc),
             remarks: Lines::new(alloc),
+            ignored: IgnoredMembers::new(alloc),
             alloc,
         }
     }
@@ -51,5 +54,13 @@ impl Report {
         let alloc = self.alloc;
         let line = format!(in alloc; "{place}: {remark}")?;
         self.remarks.put(line)
+    }
+
+    /// Appends the line of a remark about a member that the service ignores.
+    pub(crate) fn ignore(&mut self, place: Place<'_>, remark: Remark) -> Result<(), AllocError> {
+        let alloc = self.alloc;
+        let name = format!(in alloc; "{place}")?;
+        self.ignored.put(name.as_str())?;
+        self.remark(place, remark)
     }
 }

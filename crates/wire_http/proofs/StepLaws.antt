@@ -17,6 +17,8 @@ use Rattle.wire_http.specs.declared.buffered.BufferState.TheVariants.{Gives, Wan
 use Rattle.wire_http.specs.declared.request_info.Outcome.{Outcome}
 use Rattle.wire_http.specs.declared.request.Next.{Next}
 use Rattle.wire_http.specs.declared.request.Next.TheVariants.{Request, Stop}
+use Rattle.wire_http.specs.declared.explaining.Explaining.{Explaining}
+use Rattle.wire_http.specs.declared.explaining.Explaining.TheVariants.{Off, On}
 use Rattle.wire_http.specs.declared.fault.StreamFault.{StreamFault}
 use Rattle.wire_http.specs.declared.fault.StreamFault.TheVariants as faults
 use Rattle.wire_http.specs.Connection.{slot_for}
@@ -26,6 +28,7 @@ use Rattle.wire_http.specs.BufferState.{IsHeld, MayCome}
 use Rattle.wire_http.specs.DeferredResponse.{Slot}
 use Rattle.wire_http.specs.Input.{BufferGrew}
 use Rattle.wire_http.specs.Next.{IsNext}
+use Rattle.wire_http.specs.Notes.{IsWritten}
 use Rattle.wire_http.specs.RequestInfo.{IsEntityNamed, IsNotedFor, requested_kind, info_for, outcome_of}
 use Rattle.wire_http.specs.declared.request_info.RequestInfo.{RequestInfo}
 use Rattle.wire_head.specs.Target.{path_of}
@@ -65,8 +68,14 @@ pub unsent_more : (sent : ℕ) (p q t : List ℕ) → sent ≤ length p → q �
 unsent_more sent p q t fits e = ap (λ v. drop sent v) e ∙ drop-append-le sent p t fits
 
 module _ {S : Type 0} (g : Ghosts S) (old new : Service S) (moment : ℕ) (call : Call) (endpoint : Option Endpoint) (closing : Bool) (sent : ℕ) (p q : List ℕ) (fits : sent ≤ length p) where
-  unfoldable pub replies_unsent : Replies g old new moment call endpoint closing (Some p) (Some q) → Replies g old new moment call endpoint closing (Some (drop sent p)) (Some (drop sent q))
-  replies_unsent r = record { reply = r.reply; is_reply = r.is_reply; written = unsent_more sent p q _ fits r.written }
+  pub written_unsent : (explaining : Explaining) (reply : Reply) → IsWritten explaining (Some p) (Some q) endpoint closing reply
+      → IsWritten explaining (Some (drop sent p)) (Some (drop sent q)) endpoint closing reply
+  written_unsent Off reply w = unsent_more sent p q _ fits w
+  written_unsent On reply w = (w.0, unsent_more sent p q _ fits w.1)
+
+  unfoldable pub replies_unsent : (explaining : Explaining) → Replies explaining g old new moment call endpoint closing (Some p) (Some q)
+      → Replies explaining g old new moment call endpoint closing (Some (drop sent p)) (Some (drop sent q))
+  replies_unsent explaining r = record { reply = r.reply; is_reply = r.is_reply; written = written_unsent explaining r.reply r.written }
 
   pub part_unsent : RepliesPart g old new moment call endpoint closing (Some p) (Some q) → RepliesPart g old new moment call endpoint closing (Some (drop sent p)) (Some (drop sent q))
   part_unsent r = record { reply = r.reply; is_reply = r.is_reply; size = r.size; short = r.short; written = unsent_more sent p q _ fits r.written }

@@ -16,6 +16,8 @@ use Rattle.service_calls.specs.Run.{IsReplyTo}
 use Rattle.token_conf.specs.TokenFile.{Callers}
 use Rattle.wire_http.specs.declared.end.End.{End}
 use Rattle.wire_http.specs.declared.end.End.TheVariants as ends
+use Rattle.wire_http.specs.declared.explaining.Explaining.{Explaining}
+use Rattle.wire_http.specs.declared.explaining.Explaining.TheVariants.{Off}
 use Rattle.wire_http.specs.declared.fault.StreamFault.{StreamFault}
 use Rattle.wire_http.specs.declared.fault.StreamFault.TheVariants as faults
 use Rattle.wire_route.specs.declared.endpoint.Endpoint.{Endpoint}
@@ -35,7 +37,7 @@ use Rattle.wire_head.specs.Rest.{after}
 use Rattle.wire_http.specs.Source.{HasGivenUp}
 use Rattle.wire_http.specs.Stop.{StopsAs}
 use Rattle.wire_http.specs.Text.{end_texts, rule_text}
-use Rattle.wire_http.specs.Turn.{Took, IsTurn, IsTurnPart, MayGoOn, StopsInRule}
+use Rattle.wire_http.specs.Turn.{Took, IsTurn, IsTurnBy, IsTurnPart, MayGoOn, StopsInRule}
 use Rattle.wire_http.specs.Wire.{RequestCall, AsksCall, ClockAfter, IsRequest, left_after}
 use Rattle.wire_http.proofs.KnownBytes.{Appends_nil, input_known, input_more, rest_at}
 use Rattle.wire_http.proofs.NextLaws.{body_size}
@@ -213,15 +215,15 @@ module _ {S M : Type 0} (sp : Ghosts S) (Gives : M → ℕ → M → Type 0) (ca
   }
 
   -- The answered request is at the front of the buffer.
-  pub turn_answered_at : (a b : Option (List ℕ)) (front buffer bytes left : List ℕ) (fields : List HeaderSpan) (m : Next) (spans : RequestSpans) (size : ℕ) (endpoint : Option Endpoint) (moment : ℕ) (call : Call) (n : ℕ)
+  pub turn_answered_at : (explaining : Explaining) (a b : Option (List ℕ)) (front buffer bytes left : List ℕ) (fields : List HeaderSpan) (m : Next) (spans : RequestSpans) (size : ℕ) (endpoint : Option Endpoint) (moment : ℕ) (call : Call) (n : ℕ)
       (old new : Service S) (clock clock' : M) (before text : Option (List ℕ))
       → m ≡ Request spans size → bytes ≡ buffer → BufferGrew a b front buffer → IsNext (known_bytes b) buffer fields m
       → spans.len + size ≤ length buffer → left ≡ drop (spans.len + size) buffer
       → Makes bytes fields spans size endpoint call → Leaves bytes fields spans n → Gives clock moment clock'
-      → (r : Replies sp old new moment call endpoint (n == 0) before text)
-      → (turn : IsTurn sp Gives callers k old new clock clock' before text a b front left (Answered n)) × (turn.0.endpoint ≡ endpoint) × (turn.0.closing ≡ (n == 0))
+      → (r : Replies explaining sp old new moment call endpoint (n == 0) before text)
+      → (turn : IsTurnBy sp Gives callers k old new clock clock' before text explaining a b front left (Answered n)) × (turn.0.endpoint ≡ endpoint) × (turn.0.closing ≡ (n == 0))
       × (turn.0.call ≡ call) × (turn.1 ≡ r.reply) × Covers buffer fields spans turn.0.head
-  turn_answered_at a b front buffer bytes left fields m spans size endpoint moment call n old new clock clock' before text e g (came, grown, p) h fits d made leaves gives r =
+  turn_answered_at explaining a b front buffer bytes left fields m spans size endpoint moment call n old new clock clock' before text e g (came, grown, p) h fits d made leaves gives r =
       let x : IsNext (known_bytes b) buffer fields (Request spans size) = known_next (known_bytes b) buffer fields m (Request spans size) e h in
       let asked : RequestCall = record { head = x.0; endpoint = endpoint; moment = moment; call = call; closing = n == 0 } in (
         (
@@ -247,10 +249,10 @@ module _ {S M : Type 0} (sp : Ghosts S) (Gives : M → ℕ → M → Type 0) (ca
       → m ≡ Request spans size → bytes ≡ buffer → BufferGrew a b front buffer → IsNext (known_bytes b) buffer fields m
       → spans.len + size ≤ length buffer → left ≡ drop (spans.len + size) buffer
       → Makes bytes fields spans size endpoint call → Leaves bytes fields spans n → Gives clock moment clock'
-      → Replies sp old new moment call endpoint (n == 0) before text
+      → Replies Off sp old new moment call endpoint (n == 0) before text
       → IsTurn sp Gives callers k old new clock clock' before text a b front left (Answered n)
   turn_answered a b front buffer bytes left fields m spans size endpoint moment call n old new clock clock' before text e g p h fits d made leaves gives r =
-      (turn_answered_at a b front buffer bytes left fields m spans size endpoint moment call n old new clock clock' before text e g p h fits d made leaves gives r).0
+      (turn_answered_at Off a b front buffer bytes left fields m spans size endpoint moment call n old new clock clock' before text e g p h fits d made leaves gives r).0
 
   pub part_answered : (a b : Option (List ℕ)) (front buffer bytes : List ℕ) (fields : List HeaderSpan) (m : Next) (spans : RequestSpans) (size : ℕ) (endpoint : Option Endpoint) (moment : ℕ) (call : Call) (n : ℕ)
       (old new : Service S) (clock clock' : M) (before text : Option (List ℕ)) (fault : StreamFault)

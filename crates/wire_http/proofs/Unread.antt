@@ -32,6 +32,7 @@ use Rattle.wire_body.specs.Laws.{KeepsKind}
 use Rattle.wire_route.specs.declared.endpoint.Endpoint.{Endpoint}
 use Rattle.wire_route.specs.Endpoint.{kind_at}
 use Rattle.wire_route.specs.Route.{IsRoute}
+use Rattle.wire_http.specs.declared.explaining.Explaining.{Explaining}
 use Rattle.wire_http.specs.Asked.{IsAsked, IsAskedAs, IsReadAs}
 use Rattle.wire_http.specs.Reply.{Replies, RepliesPart}
 use Rattle.wire_http.specs.Unread.{AreDeniedAlike, IsMadeAs, IsMadeFor}
@@ -210,9 +211,9 @@ module _ {S : Type 0} (g : Ghosts S) (old new : Service S) (moment : ℕ) where
         | inr alike ↦ reply_alike made other reply alike x
       ]
 
-  unfoldable pub replies_for : (made other : Call) (endpoint : Option Endpoint) (closing : Bool) (before text : Option (List ℕ)) → IsMadeFor made other
-      → Replies g old new moment made endpoint closing before text → Replies g old new moment other endpoint closing before text
-  replies_for made other endpoint closing before text h r = record { reply = r.reply; is_reply = reply_for made other r.reply h r.is_reply; written = r.written }
+  unfoldable pub replies_for : (explaining : Explaining) (made other : Call) (endpoint : Option Endpoint) (closing : Bool) (before text : Option (List ℕ)) → IsMadeFor made other
+      → Replies explaining g old new moment made endpoint closing before text → Replies explaining g old new moment other endpoint closing before text
+  replies_for explaining made other endpoint closing before text h r = record { reply = r.reply; is_reply = reply_for made other r.reply h r.is_reply; written = r.written }
 
   pub part_for : (made other : Call) (endpoint : Option Endpoint) (closing : Bool) (before text : Option (List ℕ)) → IsMadeFor made other
       → RepliesPart g old new moment made endpoint closing before text → RepliesPart g old new moment other endpoint closing before text

@@ -7,6 +7,8 @@ use Rattle.token_conf.specs.TokenFile.{Callers}
 use Rattle.wire_http.specs.declared.connection.Connection.{Connection}
 use Rattle.wire_http.specs.declared.connection.Step.{Step}
 use Rattle.wire_http.specs.declared.connection.Step.TheVariants as steps
+use Rattle.wire_http.specs.declared.explaining.Explaining.{Explaining}
+use Rattle.wire_http.specs.declared.explaining.Explaining.TheVariants.{Off}
 use Rattle.wire_http.specs.declared.fault.StreamFault.{StreamFault}
 use Rattle.wire_http.specs.declared.serve.Turn.TheVariants as turns
 use Rattle.wire_http.specs.BufferState.{HasNoRequest, MayCome, max_buffered}
@@ -14,7 +16,7 @@ use Rattle.wire_http.specs.declared.request_info.RequestInfo.{RequestInfo}
 use Rattle.wire_http.specs.RequestInfo.{IsNotedFor, noted_after}
 use Rattle.wire_http.specs.DeferredResponse.{Slot, before_last, last_alone, slot_at}
 use Rattle.wire_http.specs.Text.{end_texts}
-use Rattle.wire_http.specs.Turn.{IsTurn, IsTurnPart}
+use Rattle.wire_http.specs.Turn.{IsTurnBy, IsTurnPart}
 use Rattle.wire_http.specs.Wire.{RequestCall, Finishes}
 
 -- The received bytes after the last request.
@@ -82,17 +84,18 @@ module _ {S M : Type 0} (g : Ghosts S) (Gives : M → ℕ → M → Type 0) (cal
   -- A step reads from no reader: all received bytes are in the buffer. So the turn in the case
   -- `Answered` has a reader without bytes before it and after it, which are the two `Some []`. What
   -- it writes is the output: `Some (output_of c)` before it and `Some (output_of c')` after it.
-  abbrev pub IsStep : Step → Type 0
-  IsStep steps.NeedsInput =
+  abbrev pub IsStepBy : Explaining → Step → Type 0
+  IsStepBy explaining steps.NeedsInput =
       (new ≡ old) × (clock' ≡ clock) × IsSame c c' × (0 < left_of c) × (has_ended c ≡ false)
       × HasNoRequest (buffered_of c) × (length (buffered_of c) < max_buffered)
-  IsStep (steps.Answered n) =
+  IsStepBy explaining (steps.Answered n) =
       (0 < left_of c)
-      × (turn : IsTurn g Gives callers (left_of c - 1) old new clock clock' (Some (output_of c))
-      (Some (output_of c')) (Some []) (Some []) (buffered_of c) (buffered_of c') (turns.Answered n))
+      × (turn : IsTurnBy g Gives callers (left_of c - 1) old new clock clock'
+      (Some (output_of c)) (Some (output_of c')) explaining (Some []) (Some [])
+      (buffered_of c) (buffered_of c') (turns.Answered n))
       × (left_of c' ≡ n) × (has_ended c' ≡ has_ended c) × (is_done c' ≡ is_done c)
       × (ready_of c' ≡ output_of c) × (slot_of c' ≡ Some (slot_for turn.0))
-  IsStep (steps.Ended end) =
+  IsStepBy explaining (steps.Ended end) =
       (new ≡ old) × (clock' ≡ clock)
       × ((later : List ℕ) → MayCome (has_ended c) later
       → Finishes (left_of c) (buffered_of c ++ later) end)
@@ -100,16 +103,21 @@ module _ {S M : Type 0} (g : Ghosts S) (Gives : M → ℕ → M → Type 0) (cal
       × (buffered_of c' ≡ buffered_of c) × (left_of c' ≡ left_of c) × (is_done c' ≡ true)
       × (slot_of c' ≡ slot_of c) × (has_ended c' ≡ has_ended c)
 
+  -- The same without explanations: the response is that of the policy.
+  abbrev pub IsStep : Step → Type 0
+  IsStep = IsStepBy Off
+
   -- Holds if the recorded information is about that request and its reply, or about the protocol
   -- rule that ended the stream.
-  abbrev pub IsNotedAs : (step : Step) → IsStep step → Type 0
-  IsNotedAs steps.NeedsInput is = noted_of c' ≡ noted_of c
-  IsNotedAs (steps.Answered n) is = IsNotedFor is.1.0 is.1.1 (noted_of c')
-  IsNotedAs (steps.Ended end) is = noted_of c' ≡ noted_after end (noted_of c)
+  abbrev pub IsNotedAs : (explaining : Explaining) → (step : Step) → IsStepBy explaining step
+      → Type 0
+  IsNotedAs explaining steps.NeedsInput is = noted_of c' ≡ noted_of c
+  IsNotedAs explaining (steps.Answered n) is = IsNotedFor is.1.0 is.1.1 (noted_of c')
+  IsNotedAs explaining (steps.Ended end) is = noted_of c' ≡ noted_after end (noted_of c)
 
   -- Holds for a step with its recorded information.
-  abbrev pub IsNotedStep : Step → Type 0
-  IsNotedStep step = (is : IsStep step) × IsNotedAs step is
+  abbrev pub IsNotedStep : Explaining → Step → Type 0
+  IsNotedStep explaining step = (is : IsStepBy explaining step) × IsNotedAs explaining step is
 
   -- Holds if a turn was aborted by a fault: no byte of its text is sent, and no more requests are
   -- answered.

@@ -9,6 +9,7 @@ pub mod DeferredResponse
 pub mod Many
 pub mod Moments
 pub mod Next
+pub mod Notes
 pub mod Peek
 pub mod RequestInfo
 pub mod Received

@@ -1,11 +1,14 @@
 -- The text of a response (RFC 9112, section 2.1; this project's profile).
-use Rattle.std.specs.Prelude.{ℕ, Bool, true, List, [], ◌∷◌, ◌++◌, length, codes, if◌then◌else◌, Option, Some, None}
+use Rattle.std.specs.Prelude.{ℕ, Bool, true, List, [], ◌∷◌, ◌++◌, length, codes, ◌==◌, ◌||◌, if◌then◌else◌, Option, Some, None}
+use Rattle.std.specs.Char.{is_ascii_graphic}
+use Rattle.std.specs.List.{list_all}
 use Rattle.std.specs.Fmt.{decimal}
 use Rattle.policy_core.specs.declared.rule.Rule.{Rule}
 use Rattle.policy_core.specs.declared.rule.Rule.TheVariants.{Method, Token}
 use Rattle.service_step.specs.declared.reply.Reply.{Reply}
-use Rattle.service_step.specs.declared.reply.Reply.TheVariants.{Denied}
+use Rattle.service_step.specs.declared.reply.Reply.TheVariants.{Done, Denied}
 use Rattle.wire_reply.specs.Answer.{reply_text, status_of}
+use Rattle.wire_reply.specs.Explained.{explained_text}
 use Rattle.wire_route.specs.declared.endpoint.Endpoint.{Endpoint}
 use Rattle.wire_route.specs.Endpoint.{allow_of}
 use Rattle.wire_http.specs.declared.end.End.{End}
@@ -51,6 +54,28 @@ message status field closing body = front_of status field closing (length body) 
 abbrev pub response_text : Option Endpoint → Bool → Reply → List ℕ
 response_text endpoint closing reply =
     message (status_of reply) (reply_field endpoint reply) closing (reply_text reply)
+
+-- Returns true if a text can be the value of a field: visible ASCII and spaces.
+abbrev pub is_field_value : List ℕ → Bool
+is_field_value text = list_all (λ b. b == 32 || is_ascii_graphic b) text
+
+-- The field that names the members that the service ignored in a successful request: the first
+-- text, if it can be the value of a field.
+abbrev pub ignored_field : List (List ℕ) → List ℕ
+ignored_field [] = []
+ignored_field (note ∷ notes) =
+    if is_field_value note then line (codes "Warning-Ignored-Members: " ++ note) else []
+
+-- The field of a response with these texts.
+abbrev pub noted_field : List (List ℕ) → Option Endpoint → Reply → List ℕ
+noted_field notes endpoint (Done answer) = ignored_field notes
+noted_field notes endpoint reply = reply_field endpoint reply
+
+-- The text of the response with these texts, which explain a denial or warn of ignored members.
+-- Without texts it is the same text.
+abbrev pub noted_text : List (List ℕ) → Option Endpoint → Bool → Reply → List ℕ
+noted_text notes endpoint closing reply =
+    message (status_of reply) (noted_field notes endpoint reply) closing (explained_text notes reply)
 
 -- The body for a broken protocol rule: its number and its name.
 unfoldable pub rule_body : WireRule → List ℕ

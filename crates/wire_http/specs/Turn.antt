@@ -8,11 +8,14 @@ use Rattle.service_step.specs.declared.reply.Reply.{Reply}
 use Rattle.service_calls.specs.Run.{IsReplyTo}
 use Rattle.token_conf.specs.TokenFile.{Callers}
 use Rattle.wire_head.specs.declared.rule.WireRule.{WireRule}
+use Rattle.wire_http.specs.declared.explaining.Explaining.{Explaining}
+use Rattle.wire_http.specs.declared.explaining.Explaining.TheVariants.{Off}
 use Rattle.wire_http.specs.declared.fault.StreamFault.{StreamFault}
 use Rattle.wire_http.specs.declared.serve.Turn.{Turn}
 use Rattle.wire_http.specs.declared.serve.Turn.TheVariants.{Answered, Ended}
 use Rattle.wire_http.specs.Fault.{IsOfAnswering, IsOfAsking}
 use Rattle.wire_http.specs.Input.{IsInput}
+use Rattle.wire_http.specs.Notes.{IsWritten}
 use Rattle.wire_http.specs.Stop.{Breaks, StopsAs}
 use Rattle.wire_http.specs.Text.{response_text, end_texts, rule_text}
 use Rattle.wire_http.specs.Wire.{RequestCall, AsksCall, ClockAfter, left_after}
@@ -41,16 +44,21 @@ module _ {S M : Type 0} (g : Ghosts S) (Gives : M → ℕ → M → Type 0) (cal
   --
   -- Example: the buffer holds half of a request, and the reader has its other half and one more
   -- request. The turn reads both, answers the first request, and leaves the second in the buffer.
-  abbrev pub IsTurn : Option (List ℕ) → Option (List ℕ) → List ℕ → List ℕ → Turn → Type 0
-  IsTurn remaining remaining' buffer buffer' (Answered n) =
+  abbrev pub IsTurnBy : Explaining → Option (List ℕ) → Option (List ℕ) → List ℕ → List ℕ → Turn
+      → Type 0
+  IsTurnBy explaining remaining remaining' buffer buffer' (Answered n) =
       (asked : RequestCall) × (reply : Reply) × (came : List ℕ)
       × Took asked reply n × Consumes remaining remaining' came
       × ((later : List ℕ) → AsksCall Gives callers (buffer ++ (came ++ later)) clock asked
       (buffer' ++ later) clock')
-      × Appends before text (response_text asked.endpoint asked.closing reply)
-  IsTurn remaining remaining' buffer buffer' (Ended end) =
+      × IsWritten explaining before text asked.endpoint asked.closing reply
+  IsTurnBy explaining remaining remaining' buffer buffer' (Ended end) =
       (ahead : List ℕ) × IsInput remaining ahead × StopsAs (buffer ++ ahead) end
       × (new ≡ old) × (clock' ≡ clock) × Appends before text (concat (end_texts end))
+
+  -- The same without explanations: the written response is that of the policy.
+  abbrev pub IsTurn : Option (List ℕ) → Option (List ℕ) → List ℕ → List ℕ → Turn → Type 0
+  IsTurn = IsTurnBy Off
 
   -- Holds if the turn was aborted before the call of a request.
   pub record StopsUnasked (rest : List ℕ) (fault : StreamFault) : Type 0 where

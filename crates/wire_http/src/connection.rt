@@ -1,6 +1,6 @@
 //! One connection, as steps over bytes. It makes no system call: the caller moves the bytes.
 ghost use Rattle.std.specs.Prelude.{◌≡◌, ◌<◌, ◌≤◌, ◌+◌, ◌-◌, length, drop, take, Some};
-ghost use Rattle.std.specs.Prelude.{◌++◌, IfOk, OnOk, OnErr, vec_len, vec_capacity};
+ghost use Rattle.std.specs.Prelude.{◌++◌, IfOk, OnOk, OnErr, map, string_bytes, vec_len, vec_capacity};
 ghost use Rattle.std.specs.List.{concat};
 ghost use Rattle.std.specs.Option.{ForSome};
 ghost use Rattle.service_calls.specs.Held.{Stays};
@@ -8,20 +8,23 @@ ghost use Rattle.token_conf.specs.TokenFile.{callers_of};
 ghost use Rattle.wire_http.specs.BufferState.{HasNoneBelow, HasNoRequest, BufferedFits, IsHeld, IsLight, max_buffered};
 ghost use Rattle.wire_http.specs.DeferredResponse.{StandsWithin};
 ghost use Rattle.wire_http.specs.Peek.{IsPartPeek};
+ghost use Rattle.wire_http.specs.Received.{IsReceived};
 ghost use Rattle.wire_http.specs.RequestInfo.{outcome_of};
 ghost use Rattle.wire_http.specs.Reply.{Replies, RepliesPart};
-ghost use Rattle.wire_http.specs.Text.{response_text, end_texts};
+ghost use Rattle.wire_http.specs.Text.{noted_text, response_text, end_texts};
 
 use crate::buffered::{BufferState, HEAD_LIMIT, next_buffered};
 use crate::call::{Received, RoutedCall, ask, find_caller, left_after};
 use crate::end::End;
+use crate::explaining::Explaining;
 use crate::fault::StreamFault;
 use crate::moments::Moments;
+use crate::notes::notes_on;
 use crate::request::Next;
 use crate::request_info::{Outcome, RequestInfo, info_for, outcome_of, record_end, record_reply};
 use crate::serve::REQUESTS;
 use crate::source::shift;
-use crate::text::{response_text, rule_text};
+use crate::text::{noted_text, response_text, rule_text};
 use httparse::spans::{EMPTY_HEADER_SPAN, HeaderSpan, RequestSpans};
 use policy_core::scope::Caller;
 use service_calls::service::Service;
@@ -109,17 +112,46 @@ fn answer_behind(
     }
 }
 
+// Appends the response with these texts to the output. If memory runs out, appends nothing.
+fn noted_behind(
+    alloc: Global,
+    output: &mut Vec<u8>,
+    notes: &[String],
+    endpoint: Option<Endpoint>,
+    closing: bool,
+    reply: &Reply,
+) -> Result<(), AllocError>
+    requires light { IsLight (vec_len output.old) (vec_capacity output.old) }
+    ensures whole { OnOk result (output.new.items
+        ≡ output.old.items ++ noted_text (map string_bytes notes.now) endpoint closing reply.now) }
+    ensures same { OnErr result (output.new.items ≡ output.old.items) }
+    ensures light { IsLight (vec_len output.new) (vec_capacity output.new) }
+{
+    let Ok(text) = noted_text(alloc, notes, endpoint, closing, reply) else {
+        return Err(AllocError);
+    };
+    let bytes = text.as_slice();
+    match put_behind(output, bytes) {
+        Ok(()) => Ok(()),
+        Err(_) => Err(AllocError),
+    }
+}
+
 // Makes a call once, appends the text of the response to the output, and returns its outcome.
 fn reply_behind<S: Space + Drop>(
     alloc: Global,
     service: &mut Service<S>,
     output: &mut Vec<u8>,
+    routes: &Routes,
+    received: Received<'_>,
+    explaining: Explaining,
     pending: &RoutedCall,
     closing: bool,
 ) -> Result<Outcome, AllocError>
+    requires received { IsReceived received }
     requires light { IsLight (vec_len output.old) (vec_capacity output.old) }
-    ensures replies { IfOk result (λ outcome. (made : Replies S.Space service.old service.new
-        pending.now.moment pending.now.call pending.now.endpoint closing
+    ensures replies { IfOk result (λ outcome. (made : Replies explaining S.Space
+        service.old service.new pending.now.moment pending.now.call pending.now.endpoint closing
         (Some output.old.items) (Some output.new.items))
         × (outcome ≡ outcome_of made.reply)) }
     ensures part { OnErr result (RepliesPart S.Space service.old service.new
@@ -131,7 +163,9 @@ fn reply_behind<S: Space + Drop>(
     ensures light { IsLight (vec_len output.new) (vec_capacity output.new) }
 {
     let reply = service.call(alloc, pending.moment, &pending.call);
-    match answer_behind(alloc, output, pending.endpoint, closing, &reply) {
+    let notes = notes_on(alloc, explaining, routes, received, pending, &reply);
+    let texts = notes.as_slice();
+    match noted_behind(alloc, output, texts, pending.endpoint, closing, &reply) {
         Ok(()) => Ok(outcome_of(&reply)),
         Err(_) => Err(AllocError),
     }
@@ -213,7 +247,7 @@ impl Connection {
     ghost use Rattle.wire_http.specs.Connection.{buffered_of, left_of, has_ended, is_done};
     ghost use Rattle.wire_http.specs.Connection.{output_of, ready_of, deferred_of};
     ghost use Rattle.wire_http.specs.Connection.{holds_back, slot_of, noted_of, HasRoom};
-    ghost use Rattle.wire_http.specs.Connection.{IsStep, IsNotedStep, IsStepPart};
+    ghost use Rattle.wire_http.specs.Connection.{IsStepBy, IsNotedStep, IsStepPart};
     ghost use Rattle.wire_http.specs.DeferredResponse.{text_at};
     ghost use Rattle.wire_http.specs.Count.{one_more};
     ghost use Rattle.wire_http.specs.RequestInfo.{noted_instead};
@@ -425,6 +459,7 @@ impl Connection {
         service: &mut Service<S>,
         tokens: &TokenTable,
         moments: &mut M,
+        explaining: Explaining,
         fields: &[HeaderSpan],
         spans: RequestSpans,
         size: usize,
@@ -435,10 +470,10 @@ impl Connection {
             (BufferState.Gives (Next.Request spans size)) }
         requires fits { BufferedFits (buffered_of self.old) fields.now
             (BufferState.Gives (Next.Request spans size)) }
-        ensures step { IfOk result (IsStep S.Space M.gives (callers_of tokens.now)
-            service.old service.new moments.old moments.new self.old self.new) }
+        ensures step { IfOk result (IsStepBy S.Space M.gives (callers_of tokens.now)
+            service.old service.new moments.old moments.new self.old self.new explaining) }
         ensures noted { IfOk result (IsNotedStep S.Space M.gives (callers_of tokens.now)
-            service.old service.new moments.old moments.new self.old self.new) }
+            service.old service.new moments.old moments.new self.old self.new explaining) }
         ensures kept { OnErr result (noted_of self.new ≡ noted_of self.old) }
         ensures part { IfErr result (IsStepPart S.Space M.gives (callers_of tokens.now)
             service.old service.new moments.old moments.new self.old self.new) }
@@ -461,7 +496,16 @@ impl Connection {
             }
         };
         let start = self.answers.len();
-        let outcome = match reply_behind(alloc, service, &mut self.answers, &pending, left == 0) {
+        let outcome = match reply_behind(
+            alloc,
+            service,
+            &mut self.answers,
+            routes,
+            received,
+            explaining,
+            &pending,
+            left == 0,
+        ) {
             Ok(outcome) => outcome,
             Err(_) => {
                 self.done = true;
@@ -518,7 +562,8 @@ impl Connection {
 
     /// Answers the next request, if it is complete, and defers its response; or ends the stream.
     ///
-    /// This is what `serve_stream` does next with the same bytes, without reading and writing.
+    /// With `Explaining::Off` this is what `serve_stream` does next with the same bytes, without
+    /// reading and writing. With `Explaining::On` only the text of the response can differ.
     ///
     /// After a fault no more requests are answered, and nothing was appended to the output. At most
     /// one call was made whose response is lost; its effect stands.
@@ -529,13 +574,14 @@ impl Connection {
         service: &mut Service<S>,
         tokens: &TokenTable,
         moments: &mut M,
+        explaining: Explaining,
     ) -> Result<Step, StreamFault>
         requires not_done { is_done self.old ≡ false }
         requires none_back { holds_back self.old ≡ false }
-        ensures step { IfOk result (IsStep S.Space M.gives (callers_of tokens.now)
-            service.old service.new moments.old moments.new self.old self.new) }
+        ensures step { IfOk result (IsStepBy S.Space M.gives (callers_of tokens.now)
+            service.old service.new moments.old moments.new self.old self.new explaining) }
         ensures noted { IfOk result (IsNotedStep S.Space M.gives (callers_of tokens.now)
-            service.old service.new moments.old moments.new self.old self.new) }
+            service.old service.new moments.old moments.new self.old self.new explaining) }
         ensures kept { OnErr result (noted_of self.new ≡ noted_of self.old) }
         ensures part { IfErr result (IsStepPart S.Space M.gives (callers_of tokens.now)
             service.old service.new moments.old moments.new self.old self.new) }
@@ -555,7 +601,7 @@ impl Connection {
         match next_buffered(self.held.as_slice(), self.ended, &mut fields) {
             BufferState::Gives(Next::Request(spans, size)) => {
                 self.answer_first(
-                    alloc, routes, service, tokens, moments, &fields, spans, size,
+                    alloc, routes, service, tokens, moments, explaining, &fields, spans, size,
                 )
             }
             BufferState::Gives(Next::Stop(end)) => {

@@ -1,16 +1,25 @@
 //! Laws of the calls that the bytes of a stream represent.
-ghost use Rattle.std.specs.Prelude.{◌≡◌, ℕ, List, Option, codes};
+ghost use Rattle.std.specs.Prelude.{◌≡◌, ℕ, Bool, List, [], Option, codes, false};
 ghost use Rattle.httparse.specs.Grammar.{RequestHead};
 ghost use Rattle.policy_core.specs.declared.call.Call.{Call};
+ghost use Rattle.policy_core.specs.declared.reference.Missing.{Missing};
+ghost use Rattle.policy_core.specs.declared.rule.Rule.{Rule};
+ghost use Rattle.service_step.specs.declared.reply.Reply.{Reply};
 ghost use Rattle.token_conf.specs.TokenFile.{Callers};
 ghost use Rattle.wire_http.specs.Asked.{IsCallOf};
 ghost use Rattle.wire_http.specs.Laws.{OneStream};
+ghost use Rattle.service_step.specs.declared.reply.Answer.{Answer};
+ghost use Rattle.service_step.specs.declared.reply.Reply.TheVariants.{Done, Denied, Fault, Stopped};
+ghost use Rattle.wire_http.specs.Text.{ignored_field, message, noted_text, response_text};
+ghost use Rattle.wire_reply.specs.Answer.{reply_text, status_of};
 ghost use Rattle.wire_http.specs.Wire.{IsRequest};
 ghost use Rattle.wire_head.specs.Rest.{Kind, IsKind, AreSame};
 ghost use Rattle.wire_head.specs.Target.{path_of};
+ghost use Rattle.wire_reply.specs.Explained.{is_explained};
 ghost use Rattle.wire_route.specs.declared.endpoint.Endpoint.{Endpoint};
 
 use crate::moments::Moments;
+use wire_reply::explained::adds_nothing_else;
 
 /// States that a rest is of only one kind.
 ///
@@ -44,3 +53,25 @@ pub fn sample_path()
 pub fn one_stream<M: Moments>()
     ensures { OneStream M.gives }
 {}
+
+/// States what texts add to a response. Without texts it is that of the policy. A denial by another
+/// rule than P1, P2, P5, P6 and P13, a fault and a stop are those of the policy with any texts. A
+/// success has the status and the body of the policy, and at most one more field.
+pub fn adds_only_texts()
+    ensures no_texts { (endpoint : Option Endpoint) (closing : Bool) (reply : Reply)
+        → noted_text [] endpoint closing reply ≡ response_text endpoint closing reply }
+    ensures denials { (notes : List (List ℕ)) (endpoint : Option Endpoint) (closing : Bool)
+        (rule : Rule) (missing : Missing) → is_explained rule ≡ false
+        → noted_text notes endpoint closing (Denied rule missing)
+        ≡ response_text endpoint closing (Denied rule missing) }
+    ensures fault { (notes : List (List ℕ)) (endpoint : Option Endpoint) (closing : Bool)
+        → noted_text notes endpoint closing Fault ≡ response_text endpoint closing Fault }
+    ensures stopped { (notes : List (List ℕ)) (endpoint : Option Endpoint) (closing : Bool)
+        → noted_text notes endpoint closing Stopped ≡ response_text endpoint closing Stopped }
+    ensures successes { (notes : List (List ℕ)) (endpoint : Option Endpoint) (closing : Bool)
+        (answer : Answer) → noted_text notes endpoint closing (Done answer)
+        ≡ message (status_of (Done answer)) (ignored_field notes) closing
+        (reply_text (Done answer)) }
+{
+    adds_nothing_else();
+}

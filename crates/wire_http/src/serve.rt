@@ -5,6 +5,7 @@ ghost use Rattle.std.specs.List.{concat};
 ghost use Rattle.std.specs.Io.KnownBytes.{Appends};
 ghost use Rattle.token_conf.specs.TokenFile.{callers_of};
 ghost use Rattle.service_calls.specs.Held.{Stays};
+ghost use Rattle.wire_http.specs.declared.explaining.Explaining.TheVariants.{Off};
 ghost use Rattle.wire_http.specs.Counted.{inner_of, calls_of, failures_of, has_failed};
 ghost use Rattle.wire_http.specs.Count.{FailsLast, IsMax, one_more};
 ghost use Rattle.wire_http.specs.Count.{max_reads, max_requests};
@@ -46,7 +47,7 @@ fn answer<S: Space + Drop, W: Write>(
     pending: &RoutedCall,
     closing: bool,
 ) -> Result<(), StreamFault>
-    ensures replies { OnOk result (Replies S.Space service.old service.new
+    ensures replies { OnOk result (Replies Off S.Space service.old service.new
         pending.now.moment pending.now.call pending.now.endpoint closing
         (W.contents (inner_of writer.old)) (W.contents (inner_of writer.new))) }
     ensures part { OnErr result (RepliesPart S.Space service.old service.new

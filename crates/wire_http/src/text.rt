@@ -1,8 +1,10 @@
 //! The text of a response (RFC 9112, section 2.1; this project's profile).
-ghost use Rattle.std.specs.Prelude.{◌≡◌, IfOk};
+ghost use Rattle.std.specs.Prelude.{◌≡◌, IfOk, map};
 ghost use Rattle.std.specs.String.{string_bytes};
-ghost use Rattle.wire_http.specs.Text.{response_text, rule_field, reply_field};
+ghost use Rattle.wire_reply.specs.Answer.{status_of};
+ghost use Rattle.wire_http.specs.Text.{message, noted_text, response_text, rule_field, reply_field};
 ghost use Rattle.wire_http.specs.Text.{close_field, front_of, rule_body, rule_text};
+ghost use Rattle.wire_http.specs.Text.{ignored_field, is_field_value, noted_field};
 
 use policy_core::rule::Rule;
 use service_step::reply::Reply;
@@ -10,6 +12,7 @@ use std::alloc::{AllocError, Global};
 use wire_head::lines::{length_line, status_line};
 use wire_head::rule::WireRule;
 use wire_reply::answer::{reply_text, status};
+use wire_reply::explained::explained_text;
 use wire_route::endpoint::Endpoint;
 
 // Returns the line of the field Allow with the methods of the endpoint.
@@ -51,6 +54,47 @@ fn reply_field(
     }
 }
 
+// Returns true if the text can be the value of a field: visible ASCII and spaces.
+fn is_field_value(text: &str) -> bool
+    ensures { result ≡ is_field_value text.now }
+{
+    text.as_bytes()
+        .iter()
+        .all(|b| *b == b' ' || b.is_ascii_graphic())
+}
+
+// Returns the line of the field with the first text, if it can be the value of a field.
+fn ignored_field(alloc: Global, notes: &[String]) -> Result<String, AllocError>
+    ensures { IfOk result (λ field. string_bytes field
+        ≡ ignored_field (map string_bytes notes.now)) }
+{
+    let mut field = String::new(alloc);
+    if let Some(note) = notes.first() {
+        if is_field_value(note.as_str()) {
+            field.push_str("Warning-Ignored-Members: ")?;
+            field.push_str(note.as_str())?;
+            field.push_str("\r\n")?;
+        }
+    }
+    Ok(field)
+}
+
+// Returns the line of the field that a reply with these texts adds.
+fn noted_field(
+    alloc: Global,
+    notes: &[String],
+    endpoint: Option<Endpoint>,
+    reply: &Reply,
+) -> Result<String, AllocError>
+    ensures { IfOk result (λ field. string_bytes field
+        ≡ noted_field (map string_bytes notes.now) endpoint reply.now) }
+{
+    match reply {
+        Reply::Done(_) => ignored_field(alloc, notes),
+        _ => reply_field(alloc, endpoint, reply),
+    }
+}
+
 // Returns the line of the field that says that the connection closes.
 #[tactic(auto, unfolding(crate::specs::Text::close_field))]
 fn close_field(closing: bool) -> &'static str
@@ -79,6 +123,23 @@ fn front_of(
     Ok(front)
 }
 
+// Returns the text of the response for a reply, with this field and this body.
+fn text_with(
+    alloc: Global,
+    field: &str,
+    closing: bool,
+    reply: &Reply,
+    body: &[u8],
+) -> Result<Vec<u8>, AllocError>
+    ensures { IfOk result (λ text. text.items
+        ≡ message (status_of reply.now) field.now closing body.now) }
+{
+    let front = front_of(alloc, status(reply), field, closing, body.len())?;
+    let mut text = front.into_bytes();
+    text.extend_from_slice(body)?;
+    Ok(text)
+}
+
 /// Returns the text of the response to a request at an endpoint.
 pub(crate) fn response_text(
     alloc: Global,
@@ -90,10 +151,24 @@ pub(crate) fn response_text(
 {
     let body = reply_text(alloc, reply)?;
     let field = reply_field(alloc, endpoint, reply)?;
-    let front = front_of(alloc, status(reply), field.as_str(), closing, body.len())?;
-    let mut text = front.into_bytes();
-    text.extend_from_slice(body.as_slice())?;
-    Ok(text)
+    text_with(alloc, field.as_str(), closing, reply, body.as_slice())
+}
+
+/// Returns the same text, with these texts in it: in the body of an explained denial, and in a field
+/// of a success.
+pub(crate) fn noted_text(
+    alloc: Global,
+    notes: &[String],
+    endpoint: Option<Endpoint>,
+    closing: bool,
+    reply: &Reply,
+) -> Result<Vec<u8>, AllocError>
+    ensures { IfOk result (λ text. text.items
+        ≡ noted_text (map string_bytes notes.now) endpoint closing reply.now) }
+{
+    let body = explained_text(alloc, reply, notes)?;
+    let field = noted_field(alloc, notes, endpoint, reply)?;
+    text_with(alloc, field.as_str(), closing, reply, body.as_slice())
 }
 
 // Returns the body for a broken protocol rule.

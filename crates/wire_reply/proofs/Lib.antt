@@ -1,3 +1,4 @@
 mod Compact
+mod Explanations
 mod Texts
 mod Tokens

@@ -184,7 +184,7 @@ compact_answer (answers.SubListed ss) = compact_sub_listed ss
 
 -- ---- replies
 
-compact_message : (words : List ℕ) → compact_text (message_data words) ≡ message_text words
+pub compact_message : (words : List ℕ) → compact_text (message_data words) ≡ message_text words
 compact_message words = one_member (codes "message") (quoted words) (string words) refl
 
 compact_missing : (words : List ℕ) (m : Missing) → compact_text (missing_data words m) ≡ missing_text words m

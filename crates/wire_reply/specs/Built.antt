@@ -22,6 +22,7 @@ use Rattle.service_step.specs.declared.reply.Answer.TheVariants.{Created, Change
 use Rattle.service_step.specs.declared.reply.Reply.{Reply}
 use Rattle.service_step.specs.declared.reply.Reply.TheVariants.{Done, Denied, Fault, Stopped}
 use Rattle.wire_reply.specs.Answer.{rule_text}
+use Rattle.wire_reply.specs.Explained.{notes_data}
 use Rattle.wire_body.specs.Availability as availabilities
 use Rattle.wire_body.specs.Naming.{naming_text}
 use Rattle.wire_reply.specs.Reference.{reference_name, references_name}
@@ -132,3 +133,8 @@ reply_data (Done answer) = answer_data answer
 reply_data (Denied p m) = denied_data p m
 reply_data Fault = message_data (codes "fault")
 reply_data Stopped = message_data (codes "stopped")
+
+-- A message with an explanation.
+abbrev pub explained_data : List (List ℕ) → List ℕ → Data
+explained_data notes words =
+    object (member (codes "explanation") (notes_data notes) (member (codes "message") (string words) no_members))

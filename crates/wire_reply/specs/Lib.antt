@@ -3,5 +3,6 @@ pub mod Reference
 pub mod SubView
 pub mod Subscribers
 pub mod Answer
+pub mod Explained
 pub mod Built
 pub mod Tokens

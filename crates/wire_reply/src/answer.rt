@@ -178,7 +178,7 @@ fn write_missing(
 }
 
 /// Returns the message of a denial: the number and the name of the rule.
-fn rule_text(alloc: Global, rule: Rule) -> Result<String, AllocError>
+pub(crate) fn rule_text(alloc: Global, rule: Rule) -> Result<String, AllocError>
     ensures { IfOk result (λ s. string_bytes s ≡ rule_text rule) }
 {
     let number = rule.number();

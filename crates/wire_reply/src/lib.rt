@@ -2,6 +2,7 @@
 #![tactic(auto)]
 
 pub mod answer;
+pub mod explained;
 pub mod members;
 mod naming;
 pub mod reference;

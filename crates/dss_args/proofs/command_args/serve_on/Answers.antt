@@ -23,7 +23,8 @@ returns-clause-some c =
         access_log = sym (c.get_str-4.ensures ∙ first_value-rows f (codes "access-log"));
         copies = sym c.lacks_port.ensures ∙ c.if-lacks_port.false;
         double_sync = sym c.is_set.ensures;
-        verbose = sym c.is_set-2.ensures;
+        explain = sym c.is_set-2.ensures;
+        verbose = sym c.is_set-3.ensures;
       },
     )
 

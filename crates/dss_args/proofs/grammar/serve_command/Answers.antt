@@ -27,6 +27,7 @@ returns c =
     let with_11 = arg_more with_10 c.listen_option.ensures.rule c.listen_option.ensures.local c.in_ok-arg-11.ensures in
     let with_12 = arg_more with_11 c.log_option.ensures.rule c.log_option.ensures.local c.in_ok-arg-12.ensures in
     let with_13 = arg_more with_12 c.double_sync_flag.ensures.rule c.double_sync_flag.ensures.local c.in_ok-arg-13.ensures in
-    IfOk-weaker c.arg-14.result _ _
-    (λ command adds. arg_more with_13 c.verbose_flag.ensures.rule c.verbose_flag.ensures.local adds)
-    c.arg-14.ensures
+    let with_14 = arg_more with_13 c.explain_flag.ensures.rule c.explain_flag.ensures.local c.in_ok-arg-14.ensures in
+    IfOk-weaker c.arg-15.result _ _
+    (λ command adds. arg_more with_14 c.verbose_flag.ensures.rule c.verbose_flag.ensures.local adds)
+    c.arg-15.ensures

@@ -1,6 +1,7 @@
 use Rattle.std.proofs.Common.{◌-◌, Err, ap}
 use Rattle.std.proofs.lemmas.Result.{err_from_is_err_and}
 use Rattle.token_conf.specs.TokenFile.{callers_of}
+use Rattle.wire_http.specs.declared.explaining.Explaining.TheVariants.{Off}
 use Rattle.wire_http.specs.Source.{bytes_of}
 use Rattle.wire_http.proofs.Told.{tells_answering, tells_good}
 use Rattle.wire_http.proofs.TurnLaws.{of_answering, part_none, part_end, part_ask, part_answered, turn_answered, turn_stopped, fits_at, fewer_left}
@@ -49,7 +50,7 @@ returns-clause-turn g c =
     c.in-Request.is c.as_slice.ensures.value c.in_ok-spans.ensures.reads.came c.in_ok-spans.ensures.next
     (fits_at (bytes_of c.next_request.new.source) c.next_request.new.fields c.in_ok-spans.field-0 c.in-Request.spans c.in-Request.size c.in-Request.is c.in_ok-spans.ensures.within) c.shift.ensures
     c.in_ok-pending.ensures.made.1 c.left_after-left.ensures c.in_ok-pending.ensures.moment
-    (replies_for g.S.Space _ _ _ _ _ _ _ _ _ c.in_ok-pending.ensures.made.2 c.in_ok-answer.ensures.replies)
+    (replies_for g.S.Space _ _ _ Off _ _ _ _ _ _ c.in_ok-pending.ensures.made.2 c.in_ok-answer.ensures.replies)
 
 pub returns-clause-goes_on : goal.returns-clause-goes_on
 returns-clause-goes_on g c = fewer_left _ c.left_after-left.result c.args.count c.requires.some c.left_after-left.ensures

@@ -7,6 +7,7 @@ use Rattle.wire_http.proofs.DeferredLaws.{ready_then}
 use Rattle.wire_http.proofs.StepLaws.{came_none, clock_failed, held_next, noted_is, replies_unsent, part_unsent, slot_is}
 use Rattle.wire_http.proofs.TurnLaws.{part_ask, part_answered, turn_answered_at}
 use Rattle.wire_http.proofs.Unread.{part_for, replies_for}
+use Rattle.wire_http.proofs.Written.{some_written}
 use Rattle.wire_head.specs.Target.{path_of}
 use Rattle.wire_http.specs.RequestInfo.{IsNotedFor}
 use Rattle.wire_http.specs.declared.request_info.RequestInfo.{RequestInfo}
@@ -59,22 +60,23 @@ returns-clause-noted g c =
     let next = Request c.args.spans c.args.size in
     let starts : c.len-start.result ≡ length self.answers.items = omega arith in
     let made = c.in-Ok-reply_behind.ensures.replies in
+    let all = some_written c.args.explaining self.answers.items c.reply_behind.new.output.items _ _ _ made.0.written in
     let turn = turn_answered_at g.S.Space g.M.Moments.gives (callers_of c.args.tokens.now) (self.left - 1)
-    (Some []) (Some []) self.held.items self.held.items c.as_slice.result.now c.shrink.new.buffer.items c.args.fields.now next c.args.spans c.args.size
+    c.args.explaining (Some []) (Some []) self.held.items self.held.items c.as_slice.result.now c.shrink.new.buffer.items c.args.fields.now next c.args.spans c.args.size
     c.in-Ok.pending.endpoint c.in-Ok.pending.moment c.in-Ok.ensures.made.0 c.left_after-left.result
     c.args.service.now c.reply_behind.new.service c.args.moments.now c.ask.new.moments _ _
     refl c.as_slice.ensures.value (came_none self.held.items) (held_next self.held.items self.ended c.args.fields.now next c.requires.held)
     c.requires.fits.2 (c.shrink.ensures.same ∙ c.shift.ensures)
     c.in-Ok.ensures.made.1 c.left_after-left.ensures c.in-Ok.ensures.moment
-    (replies_for g.S.Space _ _ _ _ _ _ _ _ _ c.in-Ok.ensures.made.2
-    (replies_unsent g.S.Space _ _ _ _ _ _ self.sent self.answers.items c.reply_behind.new.output.items self.sent_fits made.0)) in (
+    (replies_for g.S.Space _ _ _ c.args.explaining _ _ _ _ _ _ c.in-Ok.ensures.made.2
+    (replies_unsent g.S.Space _ _ _ _ _ _ self.sent self.answers.items c.reply_behind.new.output.items self.sent_fits c.args.explaining made.0)) in (
       (
         c.requires.some,
         turn.0,
         refl,
         refl,
         refl,
-        ready_then self.sent c.len-start.result self.answers.items c.reply_behind.new.output.items _ self.sent_fits starts made.0.written,
+        ready_then self.sent c.len-start.result self.answers.items c.reply_behind.new.output.items all.0 self.sent_fits starts all.1,
         slot_is turn.0.0 c.in-Ok.pending.endpoint (c.left_after-left.result == 0) turn.1 turn.2,
       ),
       subst (λ (noted : Option RequestInfo). IsNotedFor turn.0.0 turn.0.1 noted) (sym (ap Some c.info_for.ensures))
