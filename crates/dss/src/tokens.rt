@@ -46,6 +46,8 @@ impl<'a> TokenSource for TokenFile<'a> {
     // nothing is claimed of the file's contents
     ghost gives = { λ bytes. Unit {0} };
 
+    ghost reads = { λ old bytes new. Unit {0} };
+
     fn read(&mut self) -> io::Result<Vec<u8>> {
         read_regular(self.rt, self.name)
     }

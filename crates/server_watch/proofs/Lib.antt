@@ -1,2 +1,3 @@
 mod Salts
+mod Verdicts
 mod Watches

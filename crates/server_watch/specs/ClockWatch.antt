@@ -138,6 +138,19 @@ jumps_of watch = watch.jumps
 abbrev pub is_held_in : ClockWatch → Bool
 is_held_in watch = holds_purges watch.state
 
+-- The last reading by the monotonic clock, or none if the clock is to be read at once.
+abbrev pub looked_of : ClockWatch → Option Duration
+looked_of watch = watch.looked
+
+-- True if the clock is read without a purge, too.
+abbrev pub is_watched_in : ClockWatch → Bool
+is_watched_in watch = watch.is_watched
+
+-- The last reading after a confirmation: none if purges were held, so that the clock is read at once.
+abbrev pub looked_after : (held : Bool) → Option Duration → Option Duration
+looked_after true looked = None
+looked_after false looked = looked
+
 -- Holds if the clock was not read for a second.
 abbrev pub IsUnreadFor : (looked : Option Duration) → (now : Duration) → Type 0
 IsUnreadFor None now = ⊤
@@ -145,4 +158,4 @@ IsUnreadFor (Some looked) now = as_nanos looked + 1_000_000_000 ≤ as_nanos now
 
 -- Holds if the clock is to be read: it is watched, and was not read for a second.
 abbrev pub IsDue : ClockWatch → (now : Duration) → Type 0
-IsDue watch now = (watch.is_watched ≡ true) × IsUnreadFor watch.looked now
+IsDue watch now = (is_watched_in watch ≡ true) × IsUnreadFor (looked_of watch) now

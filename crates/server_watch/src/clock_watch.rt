@@ -1,6 +1,6 @@
 //! The watch over the clock. A jump of the clock holds purges, since a wrong time ends flights.
-ghost use Rattle.std.specs.Prelude.{◌≡◌, ◌↔◌, IfNone, IfSome, IsTrue, true, false};
-ghost use Rattle.server_watch.specs.ClockWatch.{IsDrift, IsDue, IsJump, IsNear, IsPlausible, IsWrong, ReportsWrong, confirmed, expected_at, held_after, is_held_in, jumps_after, jumps_of, last_change, news_of_right, state_of};
+ghost use Rattle.std.specs.Prelude.{◌≡◌, ◌↔◌, None, Some, IfNone, IfSome, IsTrue, true, false};
+ghost use Rattle.server_watch.specs.ClockWatch.{IsDrift, IsDue, IsJump, IsNear, IsPlausible, IsWrong, ReportsWrong, confirmed, expected_at, held_after, is_held_in, is_watched_in, jumps_after, jumps_of, last_change, looked_after, looked_of, news_of_right, state_of};
 ghost use Rattle.server_watch.specs.declared.clock_watch.ClockState.TheVariants as state;
 
 use admin_http::clock::ClockMetrics;
@@ -103,6 +103,8 @@ impl ClockWatch {
     pub fn new(keep: Option<u64>, changed: Option<u64>, is_watched: bool) -> ClockWatch
         ensures state { state_of result ≡ state.Unread (last_change keep changed) }
         ensures jumps { jumps_of result ≡ 0 }
+        ensures looked { looked_of result ≡ None }
+        ensures watched { is_watched_in result ≡ is_watched }
     {
         let last = match (keep, changed) {
             (Some(keep), Some(changed)) => Some(LastChange {
@@ -145,6 +147,9 @@ impl ClockWatch {
         ensures held { is_held_in self.new ≡ false }
         ensures state { state_of self.new ≡ confirmed (state_of self.old) }
         ensures jumps { jumps_of self.new ≡ jumps_of self.old }
+        ensures looked { looked_of self.new
+            ≡ looked_after (is_held_in self.old) (looked_of self.old) }
+        ensures watched { is_watched_in self.new ≡ is_watched_in self.old }
     {
         if self.is_held() {
             self.state = ClockState::Confirmed;
@@ -178,6 +183,8 @@ impl ClockWatch {
         ensures right_event { IsPlausible (state_of self.old) moment now
             → result ≡ news_of_right (state_of self.old) }
         ensures jumps { jumps_of self.new ≡ jumps_after result (jumps_of self.old) }
+        ensures looked { looked_of self.new ≡ Some now }
+        ensures watched { is_watched_in self.new ≡ is_watched_in self.old }
     {
         self.looked = Some(now);
         let right = ClockState::Right(moment, now);

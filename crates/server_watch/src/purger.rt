@@ -1,8 +1,7 @@
 //! When ended entities are purged, and how many at once.
-ghost use Rattle.std.specs.Prelude.{◌≡◌, ◌⊎◌, Some, false, true};
-ghost use Rattle.server_watch.specs.ClockWatch.{confirmed, is_held_in, jumps_of, state_of};
-ghost use Rattle.server_watch.specs.Purger.{MayPurge, PurgesNothing, PurgesPlausibly, ReadsClock};
-ghost use Rattle.server_watch.specs.Purger.{WatchesClock, clock_of, is_held_by};
+ghost use Rattle.std.specs.Prelude.{◌≡◌, ◌⊎◌, None, Some, IfSome, IsSome, false, true};
+ghost use Rattle.server_watch.specs.ClockWatch.{IsDue, confirmed, is_held_in, is_watched_in, jumps_of, looked_after, looked_of, state_of};
+ghost use Rattle.server_watch.specs.Purger.{IsChunkDue, IsChunkEarly, IsLeft, IsPlanned, MayPurge, PurgesNothing, PurgesPlausibly, ReadsClock, ReadsOnce, RecordsClock, TellsChunk, WatchesClock, clock_of, count_of, due_of, is_held_by, is_running_in, removed_of, rests_in};
 
 use crate::clock_watch::ClockWatch;
 use admin_http::clock::ClockMetrics;
@@ -50,6 +49,9 @@ fn read_clock<M: Moments>(
     ensures reads { ReadsClock M.Moments moments.old moments.new }
     ensures watches { WatchesClock M.Moments now (state_of clock.old) (state_of clock.new)
         moments.old moments.new }
+    ensures records { RecordsClock M.Moments now clock.old clock.new result
+        moments.old moments.new }
+    ensures due { IsDue clock.old now → ReadsOnce M.Moments moments.old moments.new }
 {
     if !clock.is_due(now) {
         return None;
@@ -57,6 +59,24 @@ fn read_clock<M: Moments>(
     match moments.next() {
         Ok(moment) => clock.look(moment, now),
         Err(_) => None,
+    }
+}
+
+// Reads the clock, if a reading is due. Runs no chunk.
+fn without_chunk<M: Moments>(clock: &mut ClockWatch, moments: &mut M, now: Duration) -> PurgeStep
+    ensures reads { ReadsClock M.Moments moments.old moments.new }
+    ensures watches { WatchesClock M.Moments now (state_of clock.old) (state_of clock.new)
+        moments.old moments.new }
+    ensures records { RecordsClock M.Moments now clock.old clock.new result.clock
+        moments.old moments.new }
+    ensures due { IsDue clock.old now → ReadsOnce M.Moments moments.old moments.new }
+    ensures purged { result.purged ≡ None }
+    ensures removed { result.removed ≡ None }
+{
+    PurgeStep {
+        clock: read_clock(clock, moments, now),
+        purged: None,
+        removed: None,
     }
 }
 
@@ -79,6 +99,12 @@ fn chunk<S: PurgeEnded + Drop, M: Moments>(
         service.old service.new moments.old moments.new }
     ensures watches { WatchesClock M.Moments now (state_of clock.old) (state_of clock.new)
         moments.old moments.new }
+    ensures records { RecordsClock M.Moments now clock.old clock.new result.0
+        moments.old moments.new }
+    ensures reads { ReadsOnce M.Moments moments.old moments.new }
+    ensures tells { TellsChunk S.Space S.GroupCommit.own M.Moments (Some keep) result.1
+        service.old service.new moments.old moments.new }
+    ensures runs { is_held_in clock.new ≡ false → IsSome result.1 }
 {
     let moment = match moments.next() {
         Ok(moment) => moment,
@@ -113,7 +139,11 @@ pub struct Purger {
 impl Purger {
     /// Creates a schedule whose first purge is due at once, unless the clock holds it.
     pub fn new(clock: ClockWatch) -> Purger
-        ensures { clock_of result ≡ clock }
+        ensures clock { clock_of result ≡ clock }
+        ensures due { due_of result ≡ 0 }
+        ensures running { is_running_in result ≡ false }
+        ensures rests { rests_in result ≡ false }
+        ensures removed { removed_of result ≡ 0 }
     {
         Purger {
             clock,
@@ -125,7 +155,9 @@ impl Purger {
     }
 
     /// Returns true if the last chunk purged something, so that there may be more.
-    pub fn is_running(&self) -> bool {
+    pub fn is_running(&self) -> bool
+        ensures { result ≡ is_running_in self.now }
+    {
         self.is_running
     }
 
@@ -141,6 +173,14 @@ impl Purger {
     pub fn confirm_clock(&mut self)
         ensures held { is_held_by self.new ≡ false }
         ensures state { state_of (clock_of self.new) ≡ confirmed (state_of (clock_of self.old)) }
+        ensures jumps { jumps_of (clock_of self.new) ≡ jumps_of (clock_of self.old) }
+        ensures looked { looked_of (clock_of self.new)
+            ≡ looked_after (is_held_by self.old) (looked_of (clock_of self.old)) }
+        ensures watched { is_watched_in (clock_of self.new) ≡ is_watched_in (clock_of self.old) }
+        ensures due { due_of self.new ≡ 0 }
+        ensures running { is_running_in self.new ≡ is_running_in self.old }
+        ensures rests { rests_in self.new ≡ rests_in self.old }
+        ensures removed { removed_of self.new ≡ removed_of self.old }
     {
         self.clock.confirm();
         self.due = Duration::from_secs(0);
@@ -149,7 +189,8 @@ impl Purger {
     // Records the result of a chunk, and plans the next one. Returns how many items a purge removed
     // that ended with this chunk, if any.
     fn plan(&mut self, purged: Option<Result<usize, PurgeFault>>, now: Duration) -> Option<usize>
-        ensures { clock_of self.new ≡ clock_of self.old }
+        ensures clock { clock_of self.new ≡ clock_of self.old }
+        ensures plans { IsPlanned (count_of purged) now self.old self.new result }
     {
         let count = match purged {
             Some(Ok(count)) => count,
@@ -190,13 +231,26 @@ impl Purger {
         ensures watches { WatchesClock M.Moments now
             (state_of (clock_of self.old)) (state_of (clock_of self.new))
             moments.old moments.new }
+        ensures records { RecordsClock M.Moments now (clock_of self.old) (clock_of self.new)
+            result.clock moments.old moments.new }
+        ensures reads { IsDue (clock_of self.old) now
+            → ReadsOnce M.Moments moments.old moments.new }
+        ensures tells { TellsChunk S.Space S.GroupCommit.own M.Moments keep result.purged
+            service.old service.new moments.old moments.new }
+        ensures due { IfSome result.purged (λ it. IsChunkDue keep self.old now) }
+        ensures runs { IsChunkDue keep self.old now → is_held_by self.new ≡ false
+            → IsSome result.purged }
+        ensures plans { IsChunkDue keep self.old now
+            → IsPlanned (count_of result.purged) now self.old self.new result.removed }
+        ensures left { IsChunkEarly keep self.old now
+            → IsLeft self.old self.new result.removed }
     {
         let rests = mem::replace(&mut self.rests, false);
         let Some(keep) = keep else {
-            return self.look(moments, now);
+            return without_chunk(&mut self.clock, moments, now);
         };
-        if rests || now < self.due {
-            return self.look(moments, now);
+        if rests || !self.due.saturating_sub(now).is_zero() {
+            return without_chunk(&mut self.clock, moments, now);
         }
         let (clock, purged) = chunk(&mut self.clock, keep, service, moments, now);
         let removed = self.plan(purged, now);
@@ -204,20 +258,6 @@ impl Purger {
             clock,
             purged,
             removed,
-        }
-    }
-
-    // Reads the clock, if a reading is due.
-    fn look<M: Moments>(&mut self, moments: &mut M, now: Duration) -> PurgeStep
-        ensures reads { ReadsClock M.Moments moments.old moments.new }
-        ensures watches { WatchesClock M.Moments now
-            (state_of (clock_of self.old)) (state_of (clock_of self.new))
-            moments.old moments.new }
-    {
-        PurgeStep {
-            clock: read_clock(&mut self.clock, moments, now),
-            purged: None,
-            removed: None,
         }
     }
 }

@@ -1,7 +1,7 @@
 //! The state of the store, and when to report it.
-ghost use Rattle.std.specs.Prelude.{◌≡◌, ◌<◌, ◌↔◌, Some, IfSome, IfNone, IsNone, IsTrue, true};
+ghost use Rattle.std.specs.Prelude.{◌≡◌, ◌<◌, ◌≤◌, ◌↔◌, Some, IfSome, IfNone, IsNone, IsSome, IsTrue, false, true};
 ghost use Rattle.std.specs.Duration.{as_nanos};
-ghost use Rattle.server_watch.specs.StoreWatch.{failures_of, outcome_of_batch, outcome_of_purge, is_broken, news_of_breaking, news_of_keeping, one_more, silent_until, unreported_of};
+ghost use Rattle.server_watch.specs.StoreWatch.{failures_of, outcome_of_batch, outcome_of_purge, is_broken, news_of_breaking, news_of_keeping, one_more, silence_after, silent_until, unreported_of};
 ghost use Rattle.server_base.specs.declared.server_log.StoreEvent.TheVariants as news;
 
 use crate::purger::PurgeFault;
@@ -79,7 +79,9 @@ pub struct StoreWatch {
 impl StoreWatch {
     /// Creates a watch without failures.
     pub fn new() -> StoreWatch
-        ensures { failures_of result ≡ 0 }
+        ensures failures { failures_of result ≡ 0 }
+        ensures unreported { unreported_of result ≡ 0 }
+        ensures works { is_broken result ≡ false }
     {
         StoreWatch {
             failures: 0,
@@ -100,6 +102,8 @@ impl StoreWatch {
     fn tell(&mut self, now: Duration)
         ensures failures { failures_of self.new ≡ failures_of self.old }
         ensures unreported { unreported_of self.new ≡ 0 }
+        ensures silent { silent_until self.new ≡ silence_after (as_nanos now) }
+        ensures broken { is_broken self.new ≡ is_broken self.old }
     {
         self.unreported = 0;
         self.silent_until = now.saturating_add(Duration::from_secs(SILENCE));
@@ -114,9 +118,15 @@ impl StoreWatch {
             → IfSome result (λ it. it ≡ news.StillFailing (one_more (unreported_of self.old))) }
         ensures silent { 0 < failures_of self.old → as_nanos now < silent_until self.old
             → IsNone result }
+        ensures due { 0 < failures_of self.old → silent_until self.old ≤ as_nanos now
+            → IsSome result }
         ensures told { IfSome result (λ it. unreported_of self.new ≡ 0) }
         ensures unreported { IfNone result (unreported_of self.new
             ≡ one_more (unreported_of self.old)) }
+        ensures silenced { IfSome result
+            (λ it. silent_until self.new ≡ silence_after (as_nanos now)) }
+        ensures waits { IfNone result (silent_until self.new ≡ silent_until self.old) }
+        ensures broken { is_broken self.new ≡ is_broken self.old }
     {
         let is_first = !self.is_failing();
         self.failures = self.failures.saturating_add(1);
@@ -125,7 +135,7 @@ impl StoreWatch {
             return Some(StoreEvent::CommitFailed);
         }
         let count = self.unreported.saturating_add(1);
-        if now < self.silent_until {
+        if !self.silent_until.saturating_sub(now).is_zero() {
             self.unreported = count;
             return None;
         }
@@ -137,13 +147,15 @@ impl StoreWatch {
     pub fn keep(&mut self) -> Option<StoreEvent>
         ensures works { failures_of self.new ≡ 0 }
         ensures told { result ≡ news_of_keeping (failures_of self.old) }
+        ensures unreported { unreported_of self.new ≡ 0 }
+        ensures broken { is_broken self.new ≡ is_broken self.old }
     {
-        if !self.is_failing() {
-            return None;
-        }
         let failures = self.failures;
         self.failures = 0;
         self.unreported = 0;
+        if failures == 0 {
+            return None;
+        }
         Some(StoreEvent::Recovered(failures))
     }
 
@@ -151,6 +163,9 @@ impl StoreWatch {
     pub fn break_down(&mut self) -> Option<StoreEvent>
         ensures broken { is_broken self.new ≡ true }
         ensures told { result ≡ news_of_breaking (is_broken self.old) }
+        ensures failures { failures_of self.new ≡ failures_of self.old }
+        ensures unreported { unreported_of self.new ≡ unreported_of self.old }
+        ensures silent { silent_until self.new ≡ silent_until self.old }
     {
         if self.is_broken {
             return None;

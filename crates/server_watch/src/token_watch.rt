@@ -1,6 +1,6 @@
 //! The token file of a service, checked while the service runs.
-ghost use Rattle.std.specs.Prelude.{IfOk, IfSome};
-ghost use Rattle.server_watch.specs.Tokens.{ComesOf, IsTakenAfter};
+ghost use Rattle.std.specs.Prelude.{◌≡◌, ◌&&◌, nat_lt, Ok, IfOk, IfSome};
+ghost use Rattle.server_watch.specs.Tokens.{Checks, ComesOf, IsMissed, IsVerdict, lacks_memory};
 
 use admin_http::tokens::TokenMetrics;
 use server_base::limits::LOOKS;
@@ -14,20 +14,32 @@ use token_conf::token_table::TokenTable;
 
 /// The source of the token file's bytes.
 ///
-/// `gives` holds of the bytes that it may have.
+/// `gives` holds of the bytes that it may have. `reads old bytes new`: the source `old` read these
+/// bytes, or could not read the file, and is then `new`.
 pub trait TokenSource {
-    ghost use Rattle.std.specs.Prelude.{ℕ, List, IfOk};
+    ghost use Rattle.std.specs.Prelude.{ℕ, List, Option, None, Some, IfOk, OnErr};
 
     ghost gives: { List ℕ → Type 0 };
 
+    ghost reads: { Self → Option (List ℕ) → Self → Type 0 };
+
     /// Reads all bytes of the file as they are now.
     fn read(&mut self) -> io::Result<Vec<u8>>
-        ensures { IfOk result (λ bytes. gives bytes.items) };
+        ensures given { IfOk result (λ bytes. gives bytes.items) }
+        ensures ok { IfOk result (λ bytes. reads self.old (Some bytes.items) self.new) }
+        ensures err { OnErr result (reads self.old None self.new) };
 }
 
 // Returns true if memory ran out, after which the file is read again.
-fn is_memory(fault: TokenReloadFault) -> bool {
-    fault == TokenReloadFault::Wrong(ConfFault::Memory)
+fn is_memory(fault: TokenReloadFault) -> bool
+    ensures { result ≡ lacks_memory fault }
+{
+    match fault {
+        TokenReloadFault::Wrong(ConfFault::Memory) => true,
+        TokenReloadFault::Wrong(_) | TokenReloadFault::Unread | TokenReloadFault::OtherSalt => {
+            false
+        }
+    }
 }
 
 // Returns the table of a text of the file. Rejects a table with another salt than the first one.
@@ -42,6 +54,83 @@ fn table_of(alloc: Global, text: &str, first: &TokenTable) -> Result<TokenTable,
         return Ok(table);
     }
     Err(TokenReloadFault::OtherSalt)
+}
+
+// Records that the file could not be read. Reports it the second time, because a file that is being
+// replaced may not exist for a short time.
+fn miss(cause: &io::Error, misses: &mut u32) -> Result<Option<TokenTable>, TokenReloadFault>
+    ensures { IsMissed misses.old misses.new result }
+{
+    if cause.kind() == ErrorKind::OutOfMemory {
+        return Err(TokenReloadFault::Wrong(ConfFault::Memory));
+    }
+    *misses = misses.saturating_add(1);
+    if *misses == 2 {
+        Err(TokenReloadFault::Unread)
+    } else {
+        Ok(None)
+    }
+}
+
+// Returns the table of the bytes of the file.
+fn judge(alloc: Global, bytes: &[u8], first: &TokenTable) -> Result<TokenTable, TokenReloadFault>
+    ensures { IsVerdict first.now bytes.now result }
+{
+    match str::from_utf8(bytes) {
+        Ok(text) => table_of(alloc, text, first),
+        Err(_) => Err(TokenReloadFault::Unread),
+    }
+}
+
+// Checks the bytes of the file if they differ from those that were last checked.
+fn check(
+    alloc: Global,
+    bytes: Vec<u8>,
+    checked: &mut Vec<u8>,
+    first: &TokenTable,
+) -> Result<Option<TokenTable>, TokenReloadFault>
+    ensures checks { Checks first.now bytes.items checked.old.items checked.new.items result }
+    ensures taken { IfOk result (λ taken.
+        IfSome taken (λ table. ComesOf first.now bytes.items (Ok table))) }
+{
+    if bytes == *checked {
+        return Ok(None);
+    }
+    match judge(alloc, bytes.as_slice(), first) {
+        Ok(table) => {
+            *checked = bytes;
+            Ok(Some(table))
+        }
+        Err(fault) => {
+            if !is_memory(fault) {
+                *checked = bytes;
+            }
+            Err(fault)
+        }
+    }
+}
+
+// Returns true if the checked bytes are those of a loaded table, after a fault. A file that could not
+// be read leaves them.
+fn is_still_valid(is_valid: bool, misses: u32) -> bool
+    ensures { result ≡ (is_valid && nat_lt 0 misses) }
+{
+    is_valid && misses > 0
+}
+
+// Logs and counts a rejected table, unless it is known that memory ran out.
+fn reject<J: ServerLog>(
+    tokens: &mut TokenMetrics,
+    is_known: bool,
+    fault: TokenReloadFault,
+    checked: &[u8],
+    journal: &mut J,
+) {
+    tokens.is_valid = false;
+    if !is_known {
+        tokens.refusals = tokens.refusals.saturating_add(1);
+        journal.tokens_rejected(fault, checked);
+    }
 }
 
 /// The token file of a service, checked while the service runs.
@@ -62,8 +151,20 @@ pub struct TokenWatch<T: TokenSource> {
 }
 
 impl<T: TokenSource> TokenWatch<T> {
+    ghost use Rattle.std.specs.Prelude.{◌≡◌, IfOk, IfSome, IsNone, false, string_bytes, true};
+    ghost use Rattle.std.specs.Duration.{as_nanos};
+    ghost use Rattle.server_watch.specs.Tokens.{IsTakenAfter};
+    ghost use Rattle.server_watch.specs.TokenWatch.{IsReadingDue, IsReadingEarly, LooksAtFile, ReadsFile, checked_of, is_lacking_in, is_valid_in, looked_of, misses_of, source_of};
+
     /// Creates a watch on a file that had this text when the service started.
-    pub fn new(source: T, text: String) -> TokenWatch<T> {
+    pub fn new(source: T, text: String) -> TokenWatch<T>
+        ensures source { source_of result ≡ source }
+        ensures checked { checked_of result ≡ string_bytes text }
+        ensures looked { looked_of result ≡ 0 }
+        ensures misses { misses_of result ≡ 0 }
+        ensures lacking { is_lacking_in result ≡ false }
+        ensures valid { is_valid_in result ≡ true }
+    {
         TokenWatch {
             source,
             checked: text.into_bytes(),
@@ -80,56 +181,24 @@ impl<T: TokenSource> TokenWatch<T> {
         self.tokens
     }
 
-    // Records that the file could not be read. Reports it the second time, because a file that is
-    // being replaced may not exist for a short time.
-    fn miss(&mut self, cause: &io::Error) -> Option<TokenReloadFault> {
-        if cause.kind() == ErrorKind::OutOfMemory {
-            return Some(TokenReloadFault::Wrong(ConfFault::Memory));
-        }
-        self.misses = self.misses.saturating_add(1);
-        if self.misses == 2 {
-            Some(TokenReloadFault::Unread)
-        } else {
-            None
-        }
-    }
-
-    // Checks the file if its bytes differ from those that were last checked.
-    fn judge(
+    // Reads the file, and checks it if its bytes differ from those that were last checked.
+    fn read(
         &mut self,
         alloc: Global,
         first: &TokenTable,
     ) -> Result<Option<TokenTable>, TokenReloadFault>
-        ensures { IfOk result (λ taken. IfSome taken (IsTakenAfter T.gives first.now)) }
+        ensures taken { IfOk result (λ taken. IfSome taken (IsTakenAfter T.gives first.now)) }
+        ensures reads { ReadsFile T.TokenSource first.now self.old self.new result }
+        ensures looked { looked_of self.new ≡ looked_of self.old }
+        ensures lacking { is_lacking_in self.new ≡ is_lacking_in self.old }
+        ensures valid { is_valid_in self.new ≡ is_valid_in self.old }
     {
-        let bytes = match self.source.read() {
-            Ok(bytes) => bytes,
-            Err(cause) => {
-                return match self.miss(&cause) {
-                    Some(fault) => Err(fault),
-                    None => Ok(None),
-                };
+        match self.source.read() {
+            Ok(bytes) => {
+                self.misses = 0;
+                check(alloc, bytes, &mut self.checked, first)
             }
-        };
-        self.misses = 0;
-        if bytes == self.checked {
-            return Ok(None);
-        }
-        let checked = match str::from_utf8(&bytes) {
-            Ok(text) => table_of(alloc, text, first),
-            Err(_) => Err(TokenReloadFault::Unread),
-        };
-        match checked {
-            Ok(table) => {
-                self.checked = bytes;
-                Ok(Some(table))
-            }
-            Err(fault) => {
-                if !is_memory(fault) {
-                    self.checked = bytes;
-                }
-                Err(fault)
-            }
+            Err(cause) => miss(&cause, &mut self.misses),
         }
     }
 
@@ -142,13 +211,18 @@ impl<T: TokenSource> TokenWatch<T> {
         now: Duration,
         journal: &mut J,
     ) -> Option<TokenTable>
-        ensures { IfSome result (IsTakenAfter T.gives first.now) }
+        ensures taken { IfSome result (IsTakenAfter T.gives first.now) }
+        ensures waits { IsReadingEarly self.old now → IsNone result }
+        ensures stays { IsReadingEarly self.old now → self.new ≡ self.old }
+        ensures looked { IsReadingDue self.old now → looked_of self.new ≡ as_nanos now }
+        ensures looks { IsReadingDue self.old now
+            → LooksAtFile T.TokenSource first.now self.old self.new result }
     {
         if now.saturating_sub(self.looked) < Duration::from_millis(LOOKS) {
             return None;
         }
         self.looked = now;
-        match self.judge(alloc, first) {
+        match self.read(alloc, first) {
             Ok(taken) => {
                 self.is_lacking = false;
                 self.is_checked_valid = self.is_checked_valid || taken.is_some();
@@ -159,13 +233,11 @@ impl<T: TokenSource> TokenWatch<T> {
                 taken
             }
             Err(fault) => {
-                self.tokens.is_valid = false;
-                self.is_checked_valid = self.is_checked_valid && self.misses > 0;
-                if !(self.is_lacking && is_memory(fault)) {
-                    self.tokens.refusals = self.tokens.refusals.saturating_add(1);
-                    journal.tokens_rejected(fault, self.checked.as_slice());
-                }
+                let is_known = self.is_lacking && is_memory(fault);
                 self.is_lacking = is_memory(fault);
+                self.is_checked_valid = is_still_valid(self.is_checked_valid, self.misses);
+                let checked = self.checked.as_slice();
+                reject(&mut self.tokens, is_known, fault, checked, journal);
                 None
             }
         }

@@ -15,14 +15,14 @@ loop-preserved g c =
     up_to_looked g.S.Space g.S.GroupCommit g.M.Moments g.T.TokenSource.gives c.args.tokens.now c.args.keep c.loop.newer c.look.result c.or-newer.result c.in_force.result.now
     c.args.service.now c.loop.service c.run_once.new.service c.purge.new.service c.serve_operators.new.service
     c.args.moments.now c.loop.moments c.run_once.new.moments c.purge.new.moments
-    c.loop.invariant c.look.ensures c.or-newer.ensures c.in_force.ensures c.run_once.ensures c.purge.ensures c.serve_operators.ensures.same
+    c.loop.invariant c.look.ensures.taken c.or-newer.ensures c.in_force.ensures c.run_once.ensures c.purge.ensures c.serve_operators.ensures.same
 
 pub returns-then-serve_operators-clause-serves : goal.returns-then-serve_operators-clause-serves
 returns-then-serve_operators-clause-serves g c =
     let up_to = up_to_looked g.S.Space g.S.GroupCommit g.M.Moments g.T.TokenSource.gives c.args.tokens.now c.args.keep c.loop.newer c.look.result c.or-newer.result c.in_force.result.now
     c.args.service.now c.loop.service c.run_once.new.service c.purge.new.service c.serve_operators.new.service
     c.args.moments.now c.loop.moments c.run_once.new.moments c.purge.new.moments
-    c.loop.invariant c.look.ensures c.or-newer.ensures c.in_force.ensures c.run_once.ensures c.purge.ensures c.serve_operators.ensures.same in
+    c.loop.invariant c.look.ensures.taken c.or-newer.ensures c.in_force.ensures c.run_once.ensures c.purge.ensures c.serve_operators.ensures.same in
     up_to.serves
 
 pub returns-then-is_done-clause-serves : goal.returns-then-is_done-clause-serves
