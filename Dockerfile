@@ -9,4 +9,4 @@ USER dss
 VOLUME /var/lib/dss
 # Only its user can read what it makes, and it writes no core dumps.
 ENTRYPOINT ["/bin/sh", "-c", "umask 077 && ulimit -c 0 && exec /usr/bin/dss \"$@\"", "dss"]
-CMD ["serve", "--tokens", "/etc/dss/tokens.toml", "--db", "/var/lib/dss/dss.db", "--port", "8080", "--admin-port", "8078", "--verbose"]
+CMD ["serve", "--tokens", "/etc/dss/tokens.toml", "--db", "/var/lib/dss/dss.db", "--port", "8080", "--admin-port", "8078", "--explain", "--verbose"]

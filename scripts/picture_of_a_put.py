@@ -47,8 +47,11 @@ serve::serve_clients
             usage_table::delta
             space_mirror::changes::enqueue
               memory::replicate
-        text::response_text
-          answer::reply_text
+        notes::notes_on
+          explain::explain_request
+        text::noted_text
+          explained::explained_text
+            answer::reply_text
     event_loop::commit_batch
       service::commit
         quota_space::commit
@@ -74,7 +77,8 @@ PARTS = {
     "needed::needed_with": "The key",
     "effects::prepare": "Change and answer, prepared",
     "space_quota::changes::apply": "The quota, then the mirror: the change is pending",
-    "text::response_text": "The response, deferred",
+    "notes::notes_on": "With --explain: what is wrong, what is ignored",
+    "text::noted_text": "The response, deferred",
     "event_loop::commit_batch": "The end of the batch",
     "space_sql::batch::apply_batch": "The SQL space: one transaction, one sync",
     "client_connection::tell": "The response, sent",

@@ -4,6 +4,7 @@
 import contextlib
 import json
 import random
+import re
 import time
 
 import shapes
@@ -33,8 +34,8 @@ class Place:
 
 
 @contextlib.contextmanager
-def over_tables(files, program, *options, prepare=None):
-    service = Service(files, database=f"{new_id()}.db")
+def over_tables(files, program, *options, prepare=None, of_service=()):
+    service = Service(files, database=f"{new_id()}.db", options=of_service)
     gateway = Gateway(program, files, service.port, *options, prepare=prepare)
     try:
         yield Place(files, gateway, service)
@@ -264,7 +265,24 @@ def advice(files, program):
         expect(place.a("GET", f"{INTENTS}/{new_id()}"), 404, "P7 FOUND: nothing of this kind")
 
 
+def explanations(files, program):
+    """The explanation of a service that explains denials is passed on, after what to do. Without the option there is none."""
+    for options in ("--explain",), ():
+        with over_tables(files, program, of_service=options) as place:
+            began, ended = int(time.time()), extent(MANHATTAN, start=1000, end=2000)
+            for path, body in (
+                    (INTENTS, intent(ended)), (INTENTS, intent(ended, **NEW)),
+                    (SUBSCRIPTIONS, {"extents": ended, "notify_for_operational_intents": True, **URL})):
+                told = expect(place.a("PUT", f"{path}/{new_id()}", body), 400, "P13 ENDED: no volume ends after the current time")
+                texts = told.pop("explanation", [])
+                assert set(told) == {"message"} and len(texts) == len(options), (told, texts)
+                if options:
+                    now = re.fullmatch(r"extents: ended at 2000; now is (\d+)", texts[0])
+                    assert now and began <= int(now[1]) <= time.time(), texts
+            expect(place.a("PUT", f"{INTENTS}/{new_id()}", intent(extent(MANHATTAN))), 201)
+
+
 ALL = [
-    reports, advice,
+    reports, advice, explanations,
     states_and_scopes, explicit_subscriptions, implicit_subscriptions, shared_implicit_subscriptions, answers_lost_on_the_way,
     new_subscription_over_tables, drawn_outlines_meet, body_of_the_document]

@@ -40,7 +40,8 @@ FORMS = [
     form({"report_id": ID, "exchange": {"type": "object"}}),
 ]
 DENIED = [
-    form({"message": TEXT}),
+    # The standard permits further members. This one comes from a service that explains denials.
+    form({"message": TEXT}, explanation=many(TEXT)),
     form({"message": TEXT, "missing_operational_intents": many(INTENT), "missing_constraints": many(CONSTRAINT)}),
 ]
 

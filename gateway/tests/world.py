@@ -160,9 +160,9 @@ class Gateway:
 class Service:
     """`dss serve` over a database."""
 
-    def __init__(self, files, port=None, database="dss.db", admin=None):
+    def __init__(self, files, port=None, database="dss.db", admin=None, options=()):
         self.files, self.port, self.database = files, port or free_port(), files.folder / database
-        self.options = [] if admin is None else ["--admin-port", str(admin)]
+        self.options = [*options, *([] if admin is None else ["--admin-port", str(admin)])]
         self.start()
 
     def start(self):

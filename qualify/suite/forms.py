@@ -100,7 +100,17 @@ def forms_of(kind, word, dialect):
     return Form({one: form}, subscribers=many(TOLD))
 
 
-def denial(is_for_key):
-    """Returns the form of a denial."""
+def texts(value, _):
+    return isinstance(value, list) and value != [] and all(isinstance(it, str) for it in value)
+
+
+# The messages of denials that may have an explanation. The gateway adds to a message what to do.
+EXPLAINED = ("P1 ROUTE", "P2 METHOD", "P5 FORM", "P6 AREA", "P13 ENDED")
+
+
+def denial(is_for_key, value):
+    """Returns the form of a denial, given its body."""
     missing = {"missing_operational_intents": many(INTENT), "missing_constraints": many(CONSTRAINT)}
-    return Form({"message": text}, **(missing if is_for_key else {}))
+    message = value.get("message") if isinstance(value, dict) else None
+    is_explained = isinstance(message, str) and message.partition(":")[0] in EXPLAINED
+    return Form({"message": text}, **(missing if is_for_key else {}), **({"explanation": texts} if is_explained else {}))

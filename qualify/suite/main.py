@@ -89,6 +89,8 @@ def main(words):
         if result.why is not None:
             print(f"qualify: BROKEN {result.check.name}: {result.check.sentence}. Expected: {result.why} "
                   f"({report.sources(result.check, given.standard)})", flush=True)
+        if result.skipped is not None:
+            print(f"qualify: skipped {result.check.name}: {result.skipped}", flush=True)
     return told(given, run, results)
 
 
@@ -102,7 +104,7 @@ def told(given, run, results):
     except OSError as fault:
         print(f"qualify: {fault}", file=sys.stderr)
         return 2
-    broken = sum(it.why is not None for it in results)
+    broken, skipped = sum(it.why is not None for it in results), sum(it.skipped is not None for it in results)
     print(f"qualify: seed {run.seed}, {run.pace.sent} requests, {folder}/result.html, {folder}/result.xml")
-    print(f"{len(results) - broken} held, {broken} broken")
+    print(f"{len(results) - broken - skipped} held, {broken} broken" + (f", {skipped} skipped" if skipped else ""))
     return 1 if broken or not results else 0

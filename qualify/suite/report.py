@@ -22,6 +22,7 @@ td, code, pre { font: 12.5px/1.4 ui-monospace, monospace; } th { font-weight: 60
 pre { margin: .2rem 0 0; white-space: pre-wrap; } .rule { opacity: .75; font-size: 13px; display: block; margin-left: 5.9em; }
 details { border-top: 1px solid var(--line); padding: .35rem 0; } summary { cursor: pointer; }
 .mark { display: inline-block; min-width: 5.2em; font-weight: 600; } .held { color: var(--held); } .broken { color: var(--broken); }
+.skipped { opacity: .75; }
 .why { background: var(--soft); padding: .4rem .6rem; margin: .4rem 0; } .scroll { overflow-x: auto; }
 """
 
@@ -37,6 +38,10 @@ def shown(body):
 
 def mark(holds):
     return f'<span class="mark {"held" if holds else "broken"}">{"held" if holds else "BROKEN"}</span>'
+
+
+def mark_of(result):
+    return mark(result.why is None) if result.skipped is None else '<span class="mark skipped">skipped</span>'
 
 
 def sources(check, is_standard):
@@ -58,9 +63,10 @@ def row(exchange):
 def block(result, is_standard):
     holds = result.why is None
     why = "" if holds else f'<p class="why">Expected, but false: {html.escape(result.why)}</p>'
+    why += f'<p class="why">Skipped: {html.escape(result.skipped)}</p>' if result.skipped is not None else ""
     left = f'<p class="why">Left behind: {html.escape(", ".join(result.left))}</p>' if result.left else ""
     rows = "".join(map(row, result.exchanges))
-    return (f'<details{"" if holds else " open"} id="{result.check.name}"><summary>{mark(holds)}{html.escape(result.check.sentence)}.'
+    return (f'<details{"" if holds else " open"} id="{result.check.name}"><summary>{mark_of(result)}{html.escape(result.check.sentence)}.'
             f'<span class="rule">{html.escape(sources(result.check, is_standard))}</span></summary>{why}{left}'
             f'<div class="scroll"><table><tr><th>request</th><th>response</th><th>expected</th></tr>{rows}</table></div></details>')
 
@@ -68,12 +74,12 @@ def block(result, is_standard):
 def page(run, results):
     """Returns the page as a text."""
     is_standard = run.dialect.is_standard
-    broken = sum(it.why is not None for it in results)
+    broken, skipped = sum(it.why is not None for it in results), sum(it.skipped is not None for it in results)
     what = "the DSS interface of ASTM F3548-21, as far as this suite tests it" if is_standard else "the profile of dss, docs/POLICY.md"
     when = time.strftime("%Y-%m-%d %H:%M:%S UTC", time.gmtime(run.began))
     parts = [
         f"<p>{html.escape(run.url)} was tested against {what}, on {when}, with the seed {html.escape(str(run.seed))}: "
-        f"{len(results) - broken} checks held, {broken} broken; {run.pace.sent} requests. Each check has, below its sentence, the rules "
+        f"{len(results) - broken - skipped} checks held, {broken} broken, {skipped} skipped; {run.pace.sent} requests. Each check has, below its sentence, the rules "
         "and operations that it tests, and inside its requests, responses and expectations. Further expectations hold for every response: "
         "it arrives, has its form and no OVN of another USS, and no OVN is returned twice. They are shown only if they fail. "
         "Requests that clean up are not shown.</p>"]
@@ -99,10 +105,10 @@ def plain(text):
 
 def junit(run, results):
     """Returns JUnit XML as bytes."""
-    broken = sum(it.why is not None for it in results)
+    broken, skipped = sum(it.why is not None for it in results), sum(it.skipped is not None for it in results)
     suite = tree.Element("testsuite", {
-        "name": f"qualify {run.dialect.name}", "tests": str(len(results)), "failures": str(broken), "errors": "0", "skipped": "0",
-        "time": f"{sum(it.seconds for it in results):.3f}", "hostname": plain(run.url),
+        "name": f"qualify {run.dialect.name}", "tests": str(len(results)), "failures": str(broken), "errors": "0",
+        "skipped": str(skipped), "time": f"{sum(it.seconds for it in results):.3f}", "hostname": plain(run.url),
         "timestamp": time.strftime("%Y-%m-%dT%H:%M:%S", time.gmtime(run.began))})
     for it in results:
         named = {"classname": f"qualify.{it.check.group}", "name": it.check.name}
@@ -115,6 +121,8 @@ def junit(run, results):
             failure = tree.SubElement(case, "failure", {"message": plain(f"expected: {it.why}")})
             failure.text = plain("\n".join([*lines, f"expected: {it.why}"]))
         else:
+            if it.skipped is not None:
+                tree.SubElement(case, "skipped", {"message": plain(it.skipped)})
             tree.SubElement(case, "system-out").text = plain("\n".join(lines))
     root = tree.Element("testsuites")
     root.append(suite)

@@ -6,7 +6,7 @@ import traceback
 
 from suite import checks
 from suite.check import CHECKS
-from suite.trial import CONSTRAINTS, INTENTS, SUBSCRIPTIONS, Broken, Knowledge, Trial
+from suite.trial import CONSTRAINTS, INTENTS, SUBSCRIPTIONS, Broken, Knowledge, Skipped, Trial
 from suite.wire import Client, OutOfBounds, Pace
 
 # How many places are tried before the run fails.
@@ -25,6 +25,8 @@ class Result:
     why: str
     left: list
     seconds: float
+    # Why the check was skipped, or None.
+    skipped: str = None
 
 
 def chosen(dialect, names=()):
@@ -75,16 +77,18 @@ class Run:
         """Yields the result of each check, when it is done."""
         for check in chosen:
             began, trial = time.monotonic(), Trial(self)
-            is_interrupted, why = False, None
+            is_interrupted, why, skipped = False, None, None
             try:
                 why = broken_in(check, trial)
+            except Skipped as reason:
+                skipped = str(reason)
             except KeyboardInterrupt:
                 is_interrupted, why = True, "interrupted"
             left = trial.clean()
             if left and not why:
                 why = f"left behind, as it could not be deleted: {', '.join(left)}"
             self.hide_tokens(trial.exchanges)
-            yield Result(check, trial.exchanges, why, left, time.monotonic() - began)
+            yield Result(check, trial.exchanges, why, left, time.monotonic() - began, None if why else skipped)
             if is_interrupted:
                 break
         self.client.close()
@@ -99,11 +103,13 @@ class Run:
 
 
 def broken_in(check, trial):
-    """Returns what does not hold, or None."""
+    """Returns what does not hold, or None. Raises `Skipped` if the service need not have what the check tests."""
     try:
         check.body(trial)
     except (Broken, OutOfBounds) as fault:
         return str(fault) or "it does not hold"
+    except Skipped:
+        raise
     except Exception as fault:
         # A body of another form than the check expects.
         where = traceback.extract_tb(fault.__traceback__)[-1]

@@ -19,6 +19,10 @@ class Broken(Exception):
     """The error that an expectation does not hold."""
 
 
+class Skipped(Exception):
+    """The error that the service does not have what a check tests, and need not have it."""
+
+
 class Knowledge:
     """Knowledge over a whole run: each OVN and the USS that received it, and the name of each USS."""
 
@@ -196,7 +200,7 @@ class Trial:
         if exchange.status < 300 and kind:
             form = forms.forms_of(kind, rest, self.dialect)
         else:
-            form = forms.denial(exchange.status == 409 and kind == "operational_intent_references")
+            form = forms.denial(exchange.status == 409 and kind == "operational_intent_references", exchange.value)
         why = form.fault(exchange.value, self.dialect)
         answer.always(why is None, "the response's form" + (f": {why}" if why else ""))
         if not self.dialect.is_standard:

@@ -659,6 +659,49 @@ def unknown_members_that_are_refused(world, asked, pass_on):
     return answer
 
 
+@fault("denials_are_explained", only="profile")
+def ignored_members_that_are_not_named(world, asked, pass_on):
+    answer = pass_on(asked)
+    answer.set("Warning-Ignored-Members", None)
+    return answer
+
+
+@fault("denials_are_explained", only="profile")
+def a_mistake_that_is_not_named(world, asked, pass_on):
+    answer = pass_on(asked)
+    value = answer.value
+    if isinstance(value, dict) and len(value.get("explanation", ())) > 2:
+        answer.put(value | {"explanation": value["explanation"][:-1]})
+    return answer
+
+
+@fault("denials_are_explained", only="profile")
+def an_explanation_without_the_time(world, asked, pass_on):
+    answer = pass_on(asked)
+    value = answer.value
+    if isinstance(value, dict) and value.get("message") == "P13 ENDED":
+        answer.put(value | {"explanation": [it.partition(";")[0] for it in value["explanation"]]})
+    return answer
+
+
+@fault("denials_are_explained", only="profile")
+def an_explanation_by_one_rule_alone(world, asked, pass_on):
+    answer = pass_on(asked)
+    value = answer.value
+    if isinstance(value, dict) and value.get("message") not in (None, "P5 FORM"):
+        answer.put({name: it for name, it in value.items() if name != "explanation"})
+    return answer
+
+
+@fault("the_first_broken_rule_is_told", only="profile")
+def an_explanation_of_another_rule(world, asked, pass_on):
+    answer = pass_on(asked)
+    value = answer.value
+    if isinstance(value, dict) and value.get("message") == "P12 CHANGE":
+        answer.put(value | {"explanation": ["state: it is Activated"]})
+    return answer
+
+
 @fault("head_is_not_taken", only="profile")
 def a_head_that_is_answered_as_a_reading(world, asked, pass_on):
     if asked.method == "HEAD":

@@ -44,13 +44,14 @@ class Held:
         self.page, self.xml = (it.read_text() if it.exists() else "" for it in (folder / "result.html", folder / "result.xml"))
         self.cases = list(tree.fromstring(self.xml.encode()).iter("testcase")) if self.xml else []
         self.broken = {it.get("name") for it in self.cases if it.find("failure") is not None}
+        self.skipped = {it.get("name") for it in self.cases if it.find("skipped") is not None}
 
     def __repr__(self):
         return f"status {self.status}\n{self.text[-3000:]}{self.errors[-2000:]}"
 
     def must_hold(self, least):
-        assert self.status == 0 and not self.broken and len(self.cases) >= least, self
-        assert f"{len(self.cases)} held, 0 broken" in self.text, self
+        assert self.status == 0 and not self.broken and not self.skipped and len(self.cases) >= least, self
+        assert f"{len(self.cases)} held, 0 broken\n" in self.text, self
 
 
 class Place:
@@ -73,10 +74,10 @@ class Place:
         self.programs.append(subprocess.Popen(words, stdout=subprocess.DEVNULL, stderr=subprocess.DEVNULL, stdin=subprocess.DEVNULL))
         wait_for(port)
 
-    def serve(self):
+    def serve(self, *options):
         self.service = free_port()
         self.start(self.service, TOP / "dss", "serve", "--tokens", self.folder / "tokens.toml", "--db", self.folder / "dss.db",
-                   "--port", str(self.service), "--count", "1000000")
+                   "--port", str(self.service), "--count", "1000000", *options)
 
     def run(self, *words, port=None, seed="1", rate="100000"):
         """Runs the suite over a port, or over the one of this place."""
@@ -120,13 +121,13 @@ class Place:
 
 
 class Plain(Place):
-    """The service with its own profile."""
+    """The service with its own profile, and with `--explain` as in its unit."""
 
-    def __init__(self):
+    def __init__(self, *options):
         super().__init__()
         (self.folder / "tokens.toml").write_text((TOP / "examples" / "tokens.toml").read_text() + MORE)
         self.tokens = ["--tokens", self.folder / "tokens.toml"]
-        self.serve()
+        self.serve(*(options or ("--explain",)))
         self.port = self.service
 
 
@@ -143,7 +144,7 @@ class Before(Place):
         with open(self.folder / "tokens.toml", "wb") as it:
             subprocess.run([gateway, "tokens", "--secret", secret, "--suppliers", self.folder / "suppliers"], stdout=it, check=True)
         self.tokens = ["--standard", "--mint", f"env GATEWAY_FOLDER={self.folder} {TOP}/gateway/mint"]
-        self.serve()
+        self.serve("--explain")
         self.port = free_port()
         words = {"port": self.port, "service": self.service, "tokens": self.folder / "tokens.toml", "keys": self.folder / "keys.pem",
                  "issuer": "auth.example", "audience": "dss.example", "secret": secret}

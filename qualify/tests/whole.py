@@ -35,6 +35,15 @@ def all_holds(gateway):
         assert place.left() == []
 
 
+def no_explanations_are_skipped(gateway):
+    """A service that explains nothing passes all other checks. The run, its page and its XML say which one was skipped, and why."""
+    with Plain("--verbose") as place:
+        held, name = place.run(), "denials_are_explained"
+        assert held.status == 0 and not held.broken and held.skipped == {name}, held
+        assert f"{len(held.cases) - 1} held, 0 broken, 1 skipped\n" in held.text and f"skipped {name}: this service" in held.text, held
+        assert 'skipped="1"' in held.xml and held.page.count("Skipped: this service") == 1, held.page
+
+
 def all_holds_to_the_standard(gateway):
     """The gateway passes all checks that both promise, by two seeds, and its service stores nothing afterwards."""
     with Before(gateway) as place:
@@ -87,7 +96,7 @@ def the_gateway_adds_no_member(gateway):
         answer = pass_on(asked)
         kind, word, _ = asked.words
         if answer and kind:
-            form = forms.forms_of(kind, word, dialect) if answer.status < 300 else forms.denial(answer.status == 409)
+            form = forms.forms_of(kind, word, dialect) if answer.status < 300 else forms.denial(answer.status == 409, answer.value)
             faults.append(form.fault(answer.value, dialect))
             asked_of.add((kind, asked.method, answer.status < 300))
         return answer
@@ -261,7 +270,7 @@ def a_token_that_is_not_ours(gateway):
 
 
 CASES = {it.__name__: it for it in (
-    all_holds, all_holds_to_the_standard, each_check_can_break, all_holds_through_the_proxy, all_holds_over_tls,
+    all_holds, no_explanations_are_skipped, all_holds_to_the_standard, each_check_can_break, all_holds_through_the_proxy, all_holds_over_tls,
     the_gateway_adds_no_member, nothing_is_left_where_checks_break, what_is_there_is_left_alone, bounds_are_kept,
     one_that_is_ended_cleans_up, a_service_that_goes, runs_that_cannot_begin, pages_stand_alone, answers_are_shown_as_text, what_is_wrong_is_named,
     a_token_that_is_not_ours)}

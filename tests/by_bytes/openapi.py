@@ -138,7 +138,7 @@ def schema_and_examples(holder):
 
 def fields_of(response):
     """Returns the header fields of a response that has only one value for each."""
-    enums = {name: it["schema"]["enum"] for name, it in response.get("headers", {}).items()}
+    enums = {name: it["schema"].get("enum", ()) for name, it in response.get("headers", {}).items()}
     return [f"{name}: {enum[0]}" for name, enum in enums.items() if len(enum) == 1]
 
 

@@ -6,12 +6,14 @@ import json
 import random
 import time
 import uuid
+import warnings
 from ssl import SSLContext
 from types import TracebackType
 from typing import Any, Callable, Dict, Iterable, List, Optional, Sequence, Tuple, Type, TypeVar, Union
 
 from . import models
-from .errors import BadResponse, Denial, DssError, MissingKey, ProxyError, Unanswered, Unreachable, error_of
+from .errors import (
+    BadResponse, Denial, DssError, IgnoredMembers, MissingKey, ProxyError, Unanswered, Unreachable, error_of)
 from .models import (
     NO_SUBSCRIPTION, Area, Availability, AvailabilityPut, AvailabilityTold, Constraint, ConstraintChanged,
     ConstraintFound, ConstraintPut, ConstraintsListed, Intent, IntentChanged, IntentFound, IntentPut, IntentsListed,
@@ -216,7 +218,7 @@ class Client:
     def request(self, method: str, path: str, body: Any = None) -> Any:
         """Sends a JSON value with the same retries, such as a body of the standard to the gateway.
 
-        Returns the value of the response. The `value` of a `Denial` has what is missing. The caller decides what a lost
+        Warns of members that the service ignored, if it was started with `--explain`. Returns the value of the response. The `value` of a `Denial` has what is missing. The caller decides what a lost
         response means."""
         return self._call(method, path, body, object)
 
@@ -263,6 +265,10 @@ class Client:
         error = error_of(response)
         if error is not None:
             raise error
+        ignored = response.fields.get("warning-ignored-members")
+        if ignored:
+            # for the caller of `request`, which sends a body of its own
+            warnings.warn(f"the service ignored members of the body: {ignored}", IgnoredMembers, stacklevel=4)
         try:
             return models.decode(form, json.loads(response.body))
         except ValueError as fault:

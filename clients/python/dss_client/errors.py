@@ -10,8 +10,14 @@ from .pool import Response
 
 # The gateway says after the rule what to do.
 RULE = re.compile(r"([PH]\d+) ([A-Z]+)(?:: .*)?")
+# How many texts of an explanation the text of an error has.
+MOST_SHOWN = 5
 # A proxy sends these before it forwards a request: at its rate limit, and if the request took too long to arrive.
 NOT_FORWARDED = (408, 429)
+
+
+class IgnoredMembers(UserWarning):
+    """The service ignored members of the body of a successful request, which may be misspelt."""
 
 
 class DssError(Exception):
@@ -51,11 +57,13 @@ class ResponseError(DssError):
 class Denial(ResponseError):
     """The service denied the request and changed nothing. `rule` is such as `P8`, and `message` such as `P8 FRESH`.
 
-    `value` is the whole body. The gateway has messages of its own, whose `rule` is empty. `maybe_made` is True if an
-    earlier try of the same request was not answered. That try may have made the change."""
+    `explanation` says what is wrong with the request, if the service was started with `--explain`. `value` is the whole
+    body. The gateway has messages of its own, whose `rule` is empty. `maybe_made` is True if an earlier try of the same
+    request was not answered. That try may have made the change."""
 
     def __init__(self, message: str, response: Response, value: Any) -> None:
-        super().__init__(message, response)
+        self.explanation: Sequence[str] = _texts(value)
+        super().__init__(_with_explanation(message, self.explanation), response)
         found = RULE.fullmatch(message)
         self.message, self.rule, self.value = message, found[1] if found else "", value
 
@@ -121,6 +129,19 @@ def error_of(response: Response) -> Optional[ResponseError]:
     if RULE.fullmatch(message) or 400 <= response.status < 500 and response.status not in NOT_FORWARDED:
         return Denial(message, response, value)
     return ProxyError(response, response.status >= 500)
+
+
+def _texts(value: Any) -> Sequence[str]:
+    """Returns the texts of the explanation in a body."""
+    found = value.get("explanation") if isinstance(value, dict) else None
+    return tuple(it for it in found if isinstance(it, str)) if isinstance(found, list) else ()
+
+
+def _with_explanation(message: str, explanation: Sequence[str]) -> str:
+    """Returns a message with the first texts of its explanation."""
+    more = ("..",) if len(explanation) > MOST_SHOWN else ()
+    shown = "; ".join([*explanation[:MOST_SHOWN], *more])
+    return f"{message} ({shown})" if shown else message
 
 
 def _json(body: bytes) -> Any:

@@ -219,9 +219,10 @@ class AvailabilityTold:
 
 @dataclasses.dataclass(frozen=True)
 class Denied:
-    """The body of a denial."""
+    """The body of a denial. A service with `--explain` says what is wrong with the request."""
 
     message: str
+    explanation: Optional[Sequence[str]] = None
 
 
 @dataclasses.dataclass(frozen=True)

@@ -20,9 +20,11 @@ SCOPES = {wire.STRATEGIC, wire.MONITORING, wire.PROCESSING, wire.MANAGEMENT, wir
 MORE = {f"all-{it}": (f"uss-{it}", SCOPES) for it in "ab"}
 
 
-def service():
-    """The service of the repository, which `DSS_PROGRAM` names or ./dss has built."""
-    return Service({**wire.TOKENS, **MORE})
+def service(*options):
+    """The service of the repository, which `DSS_PROGRAM` names or ./dss has built, with options."""
+    made = Service({**wire.TOKENS, **MORE})
+    made.options = options
+    return made
 
 
 class Proxy:

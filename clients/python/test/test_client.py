@@ -8,11 +8,12 @@ import threading
 import time
 import unittest
 import uuid
+import warnings
 
 import places
 from dss_client import (
-    NO_SUBSCRIPTION, Area, BadResponse, Client, ConstraintPut, Denial, IntentPut, Known, MissingKey, Peers, ProxyError, Retry,
-    SubscriptionPut, Subscriptions, Unanswered, Unreachable, Volume, pool)
+    NO_SUBSCRIPTION, Area, BadResponse, Client, ConstraintPut, Denial, IgnoredMembers, IntentPut, Known, MissingKey, Peers,
+    ProxyError, Retry, SubscriptionPut, Subscriptions, Unanswered, Unreachable, Volume, pool)
 
 NOW = int(time.time())
 FAST = Retry(tries=4, first=0.001)
@@ -97,6 +98,34 @@ class OverService(unittest.TestCase):
         turning.read_availability("uss-a")
         turning.read_availability("uss-a")
         self.assertEqual(len(calls), 2)
+
+    def test_explanations(self):
+        """The error of a denial has the explanation, if the service gives one, and the first texts of it are in its text."""
+        path, body = "/dss/v1/operational_intent_references/query", {"area_of_interest": {"cells": ["89c2591"], "time_strat": 1}}
+        wrong = Area(["g"] * 8, time_start=2, time_end=1)
+        error = self.denied("P5", self.a.query_intents, wrong)
+        self.assertEqual((str(error), error.explanation), ("400 P5 FORM", ()))
+        with warnings.catch_warnings():
+            warnings.simplefilter("error")
+            self.assertEqual(self.a.request("POST", path, body), {"operational_intent_references": []})
+        with places.service("--explain") as place:
+            client = self.client("tok-a", f"http://127.0.0.1:{place.port}")
+            error = self.denied("P5", client.query_intents, wrong)
+            self.assertEqual((error.message, len(error.explanation)), ("P5 FORM", 9))
+            self.assertRegex(str(error), r"^400 P5 FORM \(area_of_interest\.cells\[0\]: .*; area_of_interest\.cells\[4\]: .*; \.\.\)$")
+            error = self.denied("P5", client.put_intent, "a1", self.intent())
+            self.assertEqual(str(error), "400 P5 FORM ({entityid}: not a UUID of 36 characters)")
+            with self.assertWarnsRegex(IgnoredMembers, r": area_of_interest\.time_strat$") as caught:
+                client.request("POST", path, body)
+            self.assertEqual(caught.filename, __file__)
+
+    def test_explanations_of_another_form(self):
+        """Whatever a service calls an explanation, the denial is an error."""
+        proxy = self.proxy()
+        through = self.client("tok-a", proxy.url)
+        for value, texts in (("no", ()), ([], ()), ([1, "so", None], ("so",)), ({"a": "b"}, ())):
+            proxy.script = [(400, {}, json.dumps({"explanation": value, "message": "P5 FORM"}).encode())]
+            self.assertEqual(self.denied("P5", through.read_availability, "uss-a").explanation, texts)
 
     # ---- the pool
 

@@ -1,10 +1,11 @@
 """Bodies and limits, as the profile defines them."""
 import json
+import re
 
 from suite.check import check
 from suite.checks.keys import lacks
 from suite.dialect import ENDS, URL, ZERO
-from suite.trial import INTENTS, SUBSCRIPTIONS
+from suite.trial import INTENTS, SUBSCRIPTIONS, Skipped
 
 VERSION = "0123456789abcdef0123456789abcdef"
 
@@ -68,3 +69,45 @@ def limits_hold(it):
         answer = it.a.put(INTENTS, id_, value).must(status, "P5 FORM" if status == 400 else None)
         if status == 201:
             it.a.delete(INTENTS, id_, answer.reference["ovn"]).must(200)
+
+
+def explains(answer, *places):
+    """Expects an explanation with a text for each of these places, and no other. Returns the texts."""
+    texts = (answer.value or {}).get("explanation") or []
+    said = f"an explanation of {', '.join(places)}"
+    answer.need(sorted(it.partition(": ")[0] for it in texts) == sorted(places), said)
+    return texts
+
+
+def names_ignored(answer, *names):
+    """Expects that a success names these members as ignored, or none."""
+    wanted = ", ".join(names) or None
+    said = f"Warning-Ignored-Members: {wanted}" if wanted else "no field Warning-Ignored-Members"
+    answer.need(answer.exchange.fields.get("warning-ignored-members") == wanted, said)
+
+
+@check("If a service explains denials, it names each mistake in a request, the covered cells and its time, and each success names the members "
+       "that were ignored", "P1 ROUTE, P2 METHOD, P5 FORM, P6 AREA, P13 ENDED, 13.7", only="profile")
+def denials_are_explained(it):
+    site, id_ = it.site(), it.id()
+    volume, path = it.volume(site), f"{INTENTS}/{id_}"
+    good = it.intent_body(volume)
+    wrong = {**volume, "cells": [*volume["cells"], "x"], "time_end": volume["time_start"] - 1}
+    first = it.a.put(INTENTS, id_, good | {"extents": [wrong], "state": "Ended", "priority": 1}).must(400, "P5 FORM")
+    if "explanation" not in first.value:
+        raise Skipped("this service does not explain denials (`dss serve` does with `--explain`)")
+    explains(first, "extents[0].time_end", "extents[0].cells[1]", "state", "priority")
+    explains(it.a.get(INTENTS, "x").must(400, "P5 FORM"), "{entityid}")
+    explains(it.nobody.ask("PUT", "/dss/v1/flights/1", "{").must(404, "P1 ROUTE"), "path")
+    explains(it.nobody.ask("POST", path, "{").must(405, "P2 METHOD"), "method")
+    explains(it.a.query(INTENTS, area=it.dialect.too_large(it.run.home)).must(413, "P6 AREA"), "area_of_interest")
+    past = it.volume(site, start=-7200, end=-3600)
+    ended = it.a.put(INTENTS, id_, good | {"extents": [past]}).must(400, "P13 ENDED")
+    told = re.fullmatch(rf"extents: ended at {past['time_end']}; now is (\d+)", *explains(ended, "extents"))
+    ended.need(told and int(told[1]) >= past["time_end"], "the time of the service")
+    found = it.a.query(INTENTS, area=it.dialect.area([site]) | {"time_strat": 1, "altitude low": 0}).must(200)
+    names_ignored(found, 'area_of_interest."altitude?low"', "area_of_interest.time_strat")
+    names_ignored(it.a.query(INTENTS, site).must(200))
+    put = it.a.put(INTENTS, id_, good | {"priority": 1, "new_subscription": {}}).must(201)
+    names_ignored(put, "new_subscription", "priority")
+    names_ignored(it.a.intent(id_, volume, over=put.reference["ovn"]).must(200))
