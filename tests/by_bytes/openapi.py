@@ -105,6 +105,8 @@ class Operation:
             self.body, self.bodies = schema_and_examples(said["requestBody"])
         self.answers = {}
         for status, response in said["responses"].items():
+            if response.get("x-of-proxy"):
+                continue
             fields = fields_of(response)
             schema, examples = schema_and_examples(response)
             self.answers |= {f"{status} {name}": (int(status), it, schema, fields) for name, it in examples.items()}
@@ -177,6 +179,22 @@ def is_document():
         wanted = {"503 stopped"} | ({"503 P15"} if operation.method in ("PUT", "DELETE") else set())
         found += [f"{operation.name}: {unreached}, not {wanted}"] if unreached != wanted else []
     return found
+
+
+def of_proxies():
+    """Each response of a proxy has its form, and both configurations in deploy give it."""
+    document, found = the_document(), []
+    told = {status: it for path in document.parts["paths"].values() for method in METHODS if method in path
+            for status, it in path[method]["responses"].items() if it.get("x-of-proxy")}
+    for status, response in told.items():
+        schema, examples = schema_and_examples(response)
+        for it in (it for value in examples.values() for it in schema.iter_errors(value)):
+            found += [f"{status}: {it.message}"]
+        texts = [wire.compact(it) for it in examples.values()]
+        for file in "nginx.conf", "haproxy.cfg":
+            lines = [it for it in (TOP / "deploy" / file).read_text().splitlines() if re.search(rf"\b{status}\b", it)]
+            found += [f"{file} has no {status} {it}" for it in texts if not any(it in line for line in lines)]
+    return found + ([] if set(told) == {"429", "502", "504"} else [f"{set(told)}"])
 
 
 def schemas_in(value):
@@ -593,6 +611,7 @@ def told(check):
 
 CHECKS = {
     "openapi-document": is_document,
+    "openapi-of-proxies": of_proxies,
     "openapi-examples": come_true,
     "openapi-drawn": answers_to_drawn_calls,
     "openapi-no-operation": others_denied,

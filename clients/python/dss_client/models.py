@@ -226,6 +226,13 @@ class Denied:
 
 
 @dataclasses.dataclass(frozen=True)
+class FromProxy:
+    """The body of a response that is not of the service but of a proxy in front of it."""
+
+    message: str
+
+
+@dataclasses.dataclass(frozen=True)
 class KeyMissing:
     """The body of `P14 KEY`, with all references whose OVN is missing in the key."""
 
