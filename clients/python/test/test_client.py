@@ -112,7 +112,7 @@ class OverService(unittest.TestCase):
             client = self.client("tok-a", f"http://127.0.0.1:{place.port}")
             error = self.denied("P5", client.query_intents, wrong)
             self.assertEqual((error.message, len(error.explanation)), ("P5 FORM", 9))
-            self.assertRegex(str(error), r"^400 P5 FORM \(area_of_interest\.cells\[0\]: .*; area_of_interest\.cells\[4\]: .*; \.\.\)$")
+            self.assertRegex(str(error), r"^400 P5 FORM \(area_of_interest\.time_end: before time_start; .*cells\[0\]: .*cells\[3\]: .*; \.\.\)$")
             error = self.denied("P5", client.put_intent, "a1", self.intent())
             self.assertEqual(str(error), "400 P5 FORM ({entityid}: not a UUID of 36 characters)")
             with self.assertWarnsRegex(IgnoredMembers, r": area_of_interest\.time_strat$") as caught:
