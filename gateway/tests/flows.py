@@ -266,14 +266,15 @@ def advice(files, program):
 
 
 def explanations(files, program):
-    """The explanation of a service that explains denials is passed on, after what to do. Without the option there is none."""
+    """The explanation of a service that explains denials is passed on, also that of a subscription for an intent. Without the option
+    there is none."""
     for options in ("--explain",), ():
         with over_tables(files, program, of_service=options) as place:
             began, ended = int(time.time()), extent(MANHATTAN, start=1000, end=2000)
             for path, body in (
                     (INTENTS, intent(ended)), (INTENTS, intent(ended, **NEW)),
                     (SUBSCRIPTIONS, {"extents": ended, "notify_for_operational_intents": True, **URL})):
-                told = expect(place.a("PUT", f"{path}/{new_id()}", body), 400, "P13 ENDED: no volume ends after the current time")
+                told = expect(place.a("PUT", f"{path}/{new_id()}", body), 400, "P13 ENDED: ")
                 texts = told.pop("explanation", [])
                 assert set(told) == {"message"} and len(texts) == len(options), (told, texts)
                 if options:
