@@ -3,6 +3,7 @@ import errno
 import json
 import random
 import re
+import shutil
 import time
 
 import seeds
@@ -10,6 +11,7 @@ import wire
 from devices import SIZES, WRITES, Page, library
 from explanations import ANY, INTENT, QUERY, ROWS, SETTING, SUBSCRIPTION, area, drawn_request, explained, sub, volume
 from lengths import of
+from program import run
 from scenes import ID, NOT_FOUND, OVN, V1, put
 from serving import Service, until_closed
 from wire import AVAILABILITY, CONSTRAINTS, INTENTS, SUBSCRIPTIONS
@@ -342,6 +344,86 @@ def without_memory():
     return found
 
 
+# ---- clients that others wrote
+
+# Each prints a list of [status, ignored members, explanation], of the requests [method, URL, body] in its argument.
+OF_PYTHON = """
+import json, sys, {0}
+with {0}.{1}() as client:
+    answers = [client.request(method, url, {2}=body.encode(), headers={{"Authorization": "Bearer all"}}) for method, url, body in json.loads(sys.argv[1])]
+print(json.dumps([[it.status_code, it.headers.get("Warning-Ignored-Members"), it.json().get("explanation")] for it in answers]))
+"""
+OF_AIOHTTP = """
+import aiohttp, asyncio, json, sys
+async def main():
+    found = []
+    async with aiohttp.ClientSession(headers={"Authorization": "Bearer all"}) as client:
+        for method, url, body in json.loads(sys.argv[1]):
+            async with client.request(method, url, data=body.encode()) as it:
+                found.append([it.status, it.headers.get("Warning-Ignored-Members"), (await it.json()).get("explanation")])
+    print(json.dumps(found))
+asyncio.run(main())
+"""
+OF_NODE = """
+const http = require('http'), found = [], agent = new http.Agent({ keepAlive: true, maxSockets: 1 });
+const ask = ([method, url, body]) => new Promise((done, fail) => http.request(url, { method, agent, headers: { Authorization: 'Bearer all' } }, (it) => {
+  let text = '';
+  it.on('data', (chunk) => { text += chunk; });
+  it.on('end', () => done([it.statusCode, it.headers['warning-ignored-members'] || null, JSON.parse(text).explanation || null]));
+}).on('error', fail).end(body));
+(async () => {
+  for (const it of JSON.parse(process.argv[1])) found.push(await ask(it));
+  console.log(JSON.stringify(found));
+  agent.destroy();
+})();
+"""
+# Debian's modules are those of its own Python.
+PYTHON = "/usr/bin/python3"
+CLIENTS = {
+    "requests": (PYTHON, "-c", OF_PYTHON.format("requests", "Session", "data")),
+    "httpx": (PYTHON, "-c", OF_PYTHON.format("httpx", "Client", "content")),
+    "aiohttp": (PYTHON, "-c", OF_AIOHTTP),
+    "node": ("node", "-e", OF_NODE),
+}
+
+
+def is_there(name):
+    """Returns True if this machine has a client."""
+    program, *_ = CLIENTS[name]
+    return bool(shutil.which(program)) and (program != PYTHON or run([PYTHON, "-c", f"import {name}"])[0] == 0)
+
+
+def of_curl(requests):
+    """Returns what curl prints of each request, over one connection."""
+    words = ["curl", "-s", "-i", "-H", "Authorization: Bearer all"]
+    asked = [[*words, "-X", method, "--data-binary", body, url] for method, url, body in requests]
+    status, output, error = run([it for line in asked for it in ([*line, "--next"] if line is not asked[-1] else line)])
+    if (status, error) != (0, b""):
+        raise OSError(f"curl: {status}, {error!r}")
+    return [[int(it[9:12]), ignored(it), explanation(it)] for it in wire.answers_of(output)]
+
+
+def real_clients():
+    """curl, and requests, httpx, aiohttp and node if they are installed, find the explanation in the body and the names in a field, and
+    go on with the connection."""
+    with Explaining(ANY) as service:
+        front = f"http://127.0.0.1:{service.port}"
+        named = area('{"cells":["89c3"],"time_strat":5,"\u2603":1}')
+        requests = [(*request, body) for request, body in ((INTENT, "{}"), (QUERY, named), (QUERY, area('{"cells":["89c3"]}')))]
+        wanted = [
+            [400, None, ["extents: missing", "uss_base_url: missing", "state: missing"]],
+            [200, 'area_of_interest.time_strat, area_of_interest."?"', None], [200, None, None],
+        ]
+        requests = [(method, f"{front}{target}", body) for method, target, body in requests]
+        found = difference("curl", of_curl(requests), wanted)
+        there = [it for it in CLIENTS if is_there(it)]
+        print(f"clients: curl {' '.join(there)}")
+        for name in there:
+            status, output, error = run([*CLIENTS[name], json.dumps(requests)])
+            found += difference(f"{name}: {error!r}", (status, json.loads(output or "null")), (0, wanted))
+    return found
+
+
 CASES = {
     "explained-requests": rows,
     "explained-by-no-other-rule": others,
@@ -352,4 +434,5 @@ CASES = {
     "explained-in-a-pipeline": pipelined,
     "explained-failed-commit": failed_commit,
     "explained-without-memory": without_memory,
+    "explained-to-clients": real_clients,
 }
