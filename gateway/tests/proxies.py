@@ -2,6 +2,7 @@
 import concurrent.futures
 import contextlib
 import datetime
+import email.utils
 import http.client
 import json
 import os
@@ -97,12 +98,14 @@ def together(job):
 
 
 def answer(connection, token, method, path, body=None, fields=None):
-    """Returns the status of a request. If the proxy made the response, it is JSON, and says when to try again."""
+    """Returns the status of a request. Each response has the time. If the proxy made it, it is JSON, and says when to try again."""
     # A proxy that refuses a request may close before it has read the whole body.
     with contextlib.suppress(BrokenPipeError, ConnectionResetError, ssl.SSLEOFError):
         connection.request(method, path, body, ({"Authorization": f"Bearer {token}"} if token else {}) | (fields or {}))
     got = connection.getresponse()
     text = got.read()
+    dates = [email.utils.parsedate_to_datetime(it).timestamp() for it in got.headers.get_all("Date", ())]
+    assert len(dates) == 1 and abs(time.time() - dates[0]) < 300, got.getheaders()
     if got.status != 200:
         assert got.getheader("Content-Type") == "application/json", (got.status, text)
         assert json.loads(text)["message"].startswith("proxy: "), (got.status, text)
