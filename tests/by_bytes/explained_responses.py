@@ -1,9 +1,11 @@
 """`serve --explain` adds an explanation to denials, and a field with ignored members to successes. Nothing else differs."""
+import contextlib
 import errno
 import json
 import random
 import re
 import shutil
+import socket
 import time
 
 import seeds
@@ -314,12 +316,17 @@ def refusals(service, page, request, whole):
     plain, ways, found, at = stripped(whole), set(), [], 0
     names = {whole: "whole", plain: "plain", wire.answer(500, '{"message":"fault"}'): "fault", b"": "none"}
     while "whole" not in ways or page.get("calls") >= at:
-        at += 1
-        with service.connect() as connection:
+        at, got = at + 1, b""
+        # The service may close the connection at once.
+        with contextlib.suppress(OSError), service.connect() as connection:
             page.set(at=at, row=1)
             connection.sendall(request)
-            connection.shutdown(1)
+            connection.shutdown(socket.SHUT_WR)
             got = until_closed(connection)
+        if service.program.poll() is not None:
+            # It may exit if memory runs out, and is started again as its unit does.
+            page.set()
+            service.start()
         ways.add(names.get(got))
         found += [] if got in names else [f"allocation {at}: {got!r}"]
         if found or at > 5_000:
