@@ -1,1 +1,4 @@
+pub mod ClientSet
+pub mod ServeEvents
+pub mod ServiceEvents
 pub mod Serve

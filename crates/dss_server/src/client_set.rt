@@ -1,8 +1,13 @@
 //! All clients of a port, and which of them goes on next.
+ghost use Rattle.std.specs.Prelude.{◌≡◌, IfOk};
+ghost use Rattle.dss_server.specs.ClientSet.{AddsIf, ChangesClients, KeepsClients, MayClose};
+ghost use Rattle.dss_server.specs.ClientSet.{clients_of, no_clients};
+
 use crate::deferred_clients::DeferredClients;
 use server_base::limits::{LARGE_BUFFERS, Limits, MAX_CONNECTIONS};
 use server_base::sockets::{ClientSocket, SocketEvent, Sockets};
 use server_client::client_connection::{ClientConnection, TurnOutcome};
+use server_client::commit_record::CommitRecord;
 use server_client::fair_queue::{ClassMember, FairQueue, WITHOUT_TOKEN};
 use slab::Slab;
 use std::alloc::{AllocError, Global};
@@ -17,6 +22,8 @@ use wire_http::StreamFault;
 pub(crate) struct ClientSet<T> {
     alloc: Global,
     pub(crate) connections: Slab<ClientConnection<T>>,
+    /// The record of the last commit.
+    pub(crate) committed: CommitRecord,
     // The maximum number of clients.
     most: usize,
     // The keys of the clients that have a turn next, a spare vector for the next turns, the keys of
@@ -36,7 +43,9 @@ pub(crate) struct ClientSet<T> {
 impl<T: ClientSocket> ClientSet<T> {
     /// Creates a set without clients. Allocates the memory for the maximum number of clients here,
     /// so that no client is dropped later for lack of it.
-    pub(crate) fn new(alloc: Global, limits: Limits) -> Result<ClientSet<T>, AllocError> {
+    pub(crate) fn new(alloc: Global, limits: Limits) -> Result<ClientSet<T>, AllocError>
+        ensures { IfOk result (λ set. clients_of T.name set ≡ no_clients) }
+    {
         let most = limits.clients.min(MAX_CONNECTIONS);
         let connections = Slab::with_capacity(alloc, most)?;
         let next = Vec::with_capacity(alloc, most)?;
@@ -47,6 +56,7 @@ impl<T: ClientSocket> ClientSet<T> {
         Ok(ClientSet {
             alloc,
             connections,
+            committed: CommitRecord::none(),
             most,
             next,
             spare,
@@ -84,7 +94,9 @@ impl<T: ClientSocket> ClientSet<T> {
     }
 
     /// Queues a client for its next turn.
-    pub(crate) fn queue(&mut self, key: usize) {
+    pub(crate) fn queue(&mut self, key: usize)
+        ensures { KeepsClients T.name self.old self.new }
+    {
         let Some(client) = self.connections.get_mut(key) else {
             return;
         };
@@ -95,26 +107,34 @@ impl<T: ClientSocket> ClientSet<T> {
     }
 
     /// Queues all clients for their next turn.
-    pub(crate) fn queue_all(&mut self) {
+    pub(crate) fn queue_all(&mut self)
+        ensures { KeepsClients T.name self.old self.new }
+    {
         for key in 0..MAX_CONNECTIONS {
             self.queue(key);
         }
     }
 
     /// Returns the keys of the queued clients, which are queued no more.
-    pub(crate) fn take_queued(&mut self) -> Vec<usize> {
+    pub(crate) fn take_queued(&mut self) -> Vec<usize>
+        ensures { KeepsClients T.name self.old self.new }
+    {
         let spare = mem::replace(&mut self.spare, Vec::new(self.alloc));
         mem::replace(&mut self.next, spare)
     }
 
     /// Keeps the memory of keys that were taken.
-    pub(crate) fn return_queued(&mut self, mut keys: Vec<usize>) {
+    pub(crate) fn return_queued(&mut self, mut keys: Vec<usize>)
+        ensures { KeepsClients T.name self.old self.new }
+    {
         keys.clear();
         self.spare = keys;
     }
 
     /// Records an event of a client's socket, and queues the client.
-    pub(crate) fn note(&mut self, key: usize, told: SocketEvent) {
+    pub(crate) fn note(&mut self, key: usize, told: SocketEvent)
+        ensures { KeepsClients T.name self.old self.new }
+    {
         let Some(client) = self.connections.get_mut(key) else {
             return;
         };
@@ -128,7 +148,10 @@ impl<T: ClientSocket> ClientSet<T> {
     }
 
     /// Adds a client. Returns false if memory runs out.
-    pub(crate) fn insert(&mut self, socket: T, number: u64, now: Duration) -> bool {
+    pub(crate) fn insert(&mut self, socket: T, number: u64, now: Duration) -> bool
+        ensures { AddsIf result (T.name socket) (clients_of T.name self.old)
+            (clients_of T.name self.new) }
+    {
         let client = ClientConnection::new(self.alloc, socket, number, now);
         let Ok(key) = self.connections.insert(client) else {
             return false;
@@ -139,7 +162,9 @@ impl<T: ClientSocket> ClientSet<T> {
     }
 
     // Gives a free large buffer to a client that waits for one, unless its class has its maximum.
-    fn grant_large_buffer(&mut self, key: usize, now: Duration) {
+    fn grant_large_buffer(&mut self, key: usize, now: Duration)
+        ensures { KeepsClients T.name self.old self.new }
+    {
         let Some(client) = self.connections.get_mut(key) else {
             return;
         };
@@ -158,7 +183,9 @@ impl<T: ClientSocket> ClientSet<T> {
 
     // Gives free large buffers to the clients that wait for one, in the order of their arrival.
     // Passes over a client whose class has its maximum.
-    fn grant_large_buffers(&mut self, now: Duration) {
+    fn grant_large_buffers(&mut self, now: Duration)
+        ensures { KeepsClients T.name self.old self.new }
+    {
         for _ in 0..self.wanting.len() {
             if self.large_buffers == 0 {
                 return;
@@ -171,7 +198,9 @@ impl<T: ClientSocket> ClientSet<T> {
     }
 
     // Makes a client wait for a large buffer. If memory runs out, the client times out.
-    fn await_large_buffer(&mut self, key: usize) {
+    fn await_large_buffer(&mut self, key: usize)
+        ensures { KeepsClients T.name self.old self.new }
+    {
         let Some(client) = self.connections.get_mut(key) else {
             return;
         };
@@ -182,13 +211,17 @@ impl<T: ClientSocket> ClientSet<T> {
     }
 
     // Makes a client wait for a large buffer, and gives it one if it can have it now.
-    fn request_large_buffer(&mut self, key: usize, now: Duration) {
+    fn request_large_buffer(&mut self, key: usize, now: Duration)
+        ensures { KeepsClients T.name self.old self.new }
+    {
         self.await_large_buffer(key);
         self.grant_large_buffers(now);
     }
 
     // Frees the large buffer of a client that no longer needs it.
-    fn free_large_buffer(&mut self, key: usize, now: Duration) {
+    fn free_large_buffer(&mut self, key: usize, now: Duration)
+        ensures { KeepsClients T.name self.old self.new }
+    {
         let Some(client) = self.connections.get_mut(key) else {
             return;
         };
@@ -201,7 +234,9 @@ impl<T: ClientSocket> ClientSet<T> {
     }
 
     // Adds the large buffer that a client returned, and gives it to a client that waits for one.
-    fn add_large_buffer(&mut self, member: ClassMember, now: Duration) {
+    fn add_large_buffer(&mut self, member: ClassMember, now: Duration)
+        ensures { KeepsClients T.name self.old self.new }
+    {
         self.fair.return_large_buffer(member);
         self.large_buffers = self.large_buffers.saturating_add(1);
         self.grant_large_buffers(now);
@@ -221,7 +256,9 @@ impl<T: ClientSocket> ClientSet<T> {
     }
 
     // Closes a client.
-    fn close(&mut self, key: usize, now: Duration) {
+    fn close(&mut self, key: usize, now: Duration)
+        ensures { MayClose key (clients_of T.name self.old) (clients_of T.name self.new) }
+    {
         let Some(mut client) = self.connections.try_remove(key) else {
             return;
         };
@@ -240,7 +277,10 @@ impl<T: ClientSocket> ClientSet<T> {
         sockets: &mut N,
         key: usize,
         now: Duration,
-    ) -> TurnOutcome {
+    ) -> TurnOutcome
+        ensures { ChangesClients T.name self.old self.new
+            (N.history sockets.old) (N.history sockets.new) }
+    {
         match self.connections.get_mut(key) {
             Some(client) => client.end(sockets, now),
             None => TurnOutcome::Gone,
@@ -254,7 +294,10 @@ impl<T: ClientSocket> ClientSet<T> {
         key: usize,
         turned: TurnOutcome,
         now: Duration,
-    ) -> TurnOutcome {
+    ) -> TurnOutcome
+        ensures { ChangesClients T.name self.old self.new
+            (N.history sockets.old) (N.history sockets.new) }
+    {
         match self.connections.get_mut(key) {
             Some(client) => client.end_after(sockets, turned, now),
             None => TurnOutcome::Gone,
@@ -262,7 +305,9 @@ impl<T: ClientSocket> ClientSet<T> {
     }
 
     // Makes a client wait for the end of the batch.
-    fn hold_back(&mut self, key: usize) -> TurnOutcome {
+    fn hold_back(&mut self, key: usize) -> TurnOutcome
+        ensures { KeepsClients T.name self.old self.new }
+    {
         let Some(client) = self.connections.get(key) else {
             return TurnOutcome::Gone;
         };
@@ -275,7 +320,9 @@ impl<T: ClientSocket> ClientSet<T> {
     }
 
     /// Makes a client wait for the end of the batch if its response is deferred.
-    pub(crate) fn hold_back_deferred(&mut self, key: usize, turned: TurnOutcome) -> TurnOutcome {
+    pub(crate) fn hold_back_deferred(&mut self, key: usize, turned: TurnOutcome) -> TurnOutcome
+        ensures { KeepsClients T.name self.old self.new }
+    {
         match turned {
             TurnOutcome::Deferred => self.hold_back(key),
             _ => turned,
@@ -283,7 +330,9 @@ impl<T: ClientSocket> ClientSet<T> {
     }
 
     /// Queues a client, makes it wait for a large buffer, or closes it.
-    pub(crate) fn schedule(&mut self, key: usize, turned: TurnOutcome, now: Duration) {
+    pub(crate) fn schedule(&mut self, key: usize, turned: TurnOutcome, now: Duration)
+        ensures { MayClose key (clients_of T.name self.old) (clients_of T.name self.new) }
+    {
         match turned {
             TurnOutcome::Again => {
                 self.queue(key);
@@ -298,7 +347,9 @@ impl<T: ClientSocket> ClientSet<T> {
     }
 
     /// Counts a client that got its last response in this turn.
-    pub(crate) fn count_ending(&mut self, key: usize, was_ending: bool) {
+    pub(crate) fn count_ending(&mut self, key: usize, was_ending: bool)
+        ensures { KeepsClients T.name self.old self.new }
+    {
         if let Some(client) = self.connections.get(key)
             && client.is_ending()
             && !was_ending
@@ -308,7 +359,9 @@ impl<T: ClientSocket> ClientSet<T> {
     }
 
     /// Counts the unsent bytes of a client for its class.
-    pub(crate) fn count_unsent(&mut self, key: usize) {
+    pub(crate) fn count_unsent(&mut self, key: usize)
+        ensures { KeepsClients T.name self.old self.new }
+    {
         let Some(client) = self.connections.get_mut(key) else {
             return;
         };
@@ -317,7 +370,9 @@ impl<T: ClientSocket> ClientSet<T> {
     }
 
     /// Charges the class of a client its share of a commit that took so long.
-    pub(crate) fn charge_share(&mut self, key: usize, took: u64, cost: u64) {
+    pub(crate) fn charge_share(&mut self, key: usize, took: u64, cost: u64)
+        ensures { KeepsClients T.name self.old self.new }
+    {
         if let Some(client) = self.connections.get(key) {
             self.fair.charge_share(client.member, took, cost);
         }
@@ -325,7 +380,9 @@ impl<T: ClientSocket> ClientSet<T> {
 
     // Determines the class of a client's next request, and queues the client there if the request
     // is complete or the stream ends.
-    fn classify(&mut self, key: usize, tokens: &TokenTable) -> TurnOutcome {
+    fn classify(&mut self, key: usize, tokens: &TokenTable) -> TurnOutcome
+        ensures { KeepsClients T.name self.old self.new }
+    {
         match self.connections.get_mut(key) {
             Some(client) => client.classify(&mut self.fair, key, tokens),
             None => TurnOutcome::Gone,
@@ -346,7 +403,9 @@ impl<T: ClientSocket> ClientSet<T> {
         key: usize,
         tokens: &TokenTable,
         moved: TurnOutcome,
-    ) -> TurnOutcome {
+    ) -> TurnOutcome
+        ensures { KeepsClients T.name self.old self.new }
+    {
         match moved {
             TurnOutcome::Ready => self.classify(key, tokens),
             _ => moved,

@@ -1,12 +1,13 @@
 //! The event loop over all clients of a port.
-ghost use Rattle.std.specs.Prelude.{◌≡◌, ◌⊎◌, IsSome, IsTrue, Result};
+ghost use Rattle.std.specs.Prelude.{◌≡◌, Bool, IfOk, IsSome, IsTrue};
 ghost use Rattle.token_conf.specs.TokenFile.{callers_of};
-ghost use Rattle.service_calls.specs.Batches.{IsCommitted};
-ghost use Rattle.space_core.specs.declared.space.SpaceFault.{SpaceFault};
 ghost use Rattle.server_base.specs.Calls.{GoesOn};
-ghost use Rattle.server_client.specs.CommitRecord.{outcome_of};
 ghost use Rattle.server_watch.specs.Purger.{MayPurge};
+ghost use Rattle.dss_server.specs.ClientSet.{AddsIf, ChangesClients, KeepsClients};
+ghost use Rattle.dss_server.specs.ClientSet.{clients_of, no_clients};
 ghost use Rattle.dss_server.specs.Serve.{ServesBy, ServesSoFar};
+ghost use Rattle.dss_server.specs.ServiceEvents.{CommitsBatch, MayCommitBatch, ServiceRuns};
+ghost use Rattle.dss_server.specs.ServiceEvents.{served_clients};
 
 use crate::acceptance::Acceptance;
 use crate::client_set::ClientSet;
@@ -23,7 +24,6 @@ use server_base::response_info::ResponseInfo;
 use server_base::server_log::ServerLog;
 use server_base::sockets::{AcceptFault, EventSource, SocketEvent, Sockets};
 use server_client::client_connection::TurnOutcome;
-use server_client::commit_record::CommitRecord;
 use server_client::fair_queue::{is_round_over, nanos_between};
 use server_client::request_context::RequestContext;
 use server_watch::clock_watch::ClockWatch;
@@ -46,8 +46,6 @@ use wire_http::{Moments, StreamFault};
 pub(crate) struct EventLoop<N: Sockets, B> {
     alloc: Global,
     clients: ClientSet<N::Client>,
-    // The record of the last commit.
-    committed: CommitRecord,
     // The last reading of the monotonic clock.
     clock: Option<Duration>,
     acceptance: Acceptance,
@@ -73,13 +71,15 @@ impl<N: Sockets + Drop, B: MakeBackups + Drop> EventLoop<N, B> {
         is_operated: bool,
         backups: Option<B>,
         watch: ClockWatch,
-    ) -> Result<EventLoop<N, B>, AllocError> {
+    ) -> Result<EventLoop<N, B>, AllocError>
+        ensures { IfOk result
+            (λ event_loop. clients_of N.Client.name event_loop.clients ≡ no_clients) }
+    {
         let clients = ClientSet::new(alloc, limits)?;
         let operators = AdminConnections::new(alloc, is_operated, backups)?;
         Ok(EventLoop {
             alloc,
             clients,
-            committed: CommitRecord::none(),
             clock: None,
             acceptance: Acceptance::new(limits.count),
             looked: Duration::from_millis(0),
@@ -131,7 +131,9 @@ impl<N: Sockets + Drop, B: MakeBackups + Drop> EventLoop<N, B> {
     }
 
     // Records a socket event.
-    fn note(&mut self, told: SocketEvent) {
+    fn note(&mut self, told: SocketEvent)
+        ensures { KeepsClients N.Client.name self.old.clients self.new.clients }
+    {
         match told.which {
             EventSource::Port => self.acceptance.set_waiting(true),
             EventSource::AdminPort => self.operators.note_waiting(),
@@ -141,7 +143,10 @@ impl<N: Sockets + Drop, B: MakeBackups + Drop> EventLoop<N, B> {
     }
 
     /// Waits until the system reports events, and records them.
-    pub(crate) fn wait(&mut self, sockets: &mut N, now: Duration) -> io::Result<()> {
+    pub(crate) fn wait(&mut self, sockets: &mut N, now: Duration) -> io::Result<()>
+        ensures clients { KeepsClients N.Client.name self.old.clients self.new.clients }
+        ensures history { N.history sockets.new ≡ N.history sockets.old }
+    {
         let patience = self.patience(now);
         sockets.wait(Some(patience))?;
         for _ in 0..usize::MAX {
@@ -155,7 +160,10 @@ impl<N: Sockets + Drop, B: MakeBackups + Drop> EventLoop<N, B> {
 
     // Adds a client. Closes it if it cannot be watched, or if memory runs out.
     fn take_in(&mut self, sockets: &mut N, mut socket: N::Client, now: Duration)
-        ensures { N.history sockets.new ≡ N.history sockets.old }
+        ensures adds { (added : Bool) × AddsIf added (N.Client.name socket)
+            (clients_of N.Client.name self.old.clients)
+            (clients_of N.Client.name self.new.clients) }
+        ensures history { N.history sockets.new ≡ N.history sockets.old }
     {
         let number = self.acceptance.count();
         self.metrics.connections.accept();
@@ -170,10 +178,22 @@ impl<N: Sockets + Drop, B: MakeBackups + Drop> EventLoop<N, B> {
     }
 
     // Counts an accept for which the system had no room, and logs it once a minute.
-    fn fail_accept<J: ServerLog>(&mut self, now: Duration, journal: &mut J) {
+    fn fail_accept<J: ServerLog>(&mut self, now: Duration, journal: &mut J)
+        ensures { KeepsClients N.Client.name self.old.clients self.new.clients }
+    {
         self.metrics.connections.note_failed_accept();
         if self.acceptance.is_reported(now) {
             journal.accept_failed();
+        }
+    }
+
+    // Accepts waiting admin connections.
+    fn accept_operators<J: ServerLog>(&mut self, sockets: &mut N, now: Duration, journal: &mut J)
+        ensures clients { KeepsClients N.Client.name self.old.clients self.new.clients }
+        ensures history { N.history sockets.new ≡ N.history sockets.old }
+    {
+        if self.operators.accept(sockets, now) {
+            self.fail_accept(now, journal);
         }
     }
 
@@ -184,10 +204,11 @@ impl<N: Sockets + Drop, B: MakeBackups + Drop> EventLoop<N, B> {
         sockets: &mut N,
         now: Duration,
         journal: &mut J,
-    ) -> io::Result<()> {
-        if self.operators.accept(sockets, now) {
-            self.fail_accept(now, journal);
-        }
+    ) -> io::Result<()>
+        ensures { ChangesClients N.Client.name self.old.clients self.new.clients
+            (N.history sockets.old) (N.history sockets.new) }
+    {
+        self.accept_operators(sockets, now, journal);
         for _ in 0..MAX_CONNECTIONS {
             if !self.has_room() || self.acceptance.is_paused(now) {
                 return Ok(());
@@ -214,7 +235,10 @@ impl<N: Sockets + Drop, B: MakeBackups + Drop> EventLoop<N, B> {
         fault: StreamFault,
         now: Duration,
         journal: &mut J,
-    ) -> TurnOutcome {
+    ) -> TurnOutcome
+        ensures { ChangesClients N.Client.name self.old.clients self.new.clients
+            (N.history sockets.old) (N.history sockets.new) }
+    {
         if let Some(client) = self.clients.connections.get(key) {
             journal.connection_failed(fault, client.aborted());
         }
@@ -230,7 +254,10 @@ impl<N: Sockets + Drop, B: MakeBackups + Drop> EventLoop<N, B> {
         turned: TurnOutcome,
         now: Duration,
         journal: &mut J,
-    ) -> TurnOutcome {
+    ) -> TurnOutcome
+        ensures { ChangesClients N.Client.name self.old.clients self.new.clients
+            (N.history sockets.old) (N.history sockets.new) }
+    {
         match turned {
             TurnOutcome::Failed(fault) => self.fail(sockets, key, fault, now, journal),
             TurnOutcome::Rests | TurnOutcome::WantsLargeBuffer if self.stopping.is_some() => {
@@ -248,7 +275,10 @@ impl<N: Sockets + Drop, B: MakeBackups + Drop> EventLoop<N, B> {
         turned: TurnOutcome,
         now: Duration,
         journal: &mut J,
-    ) {
+    )
+        ensures { ChangesClients N.Client.name self.old.clients self.new.clients
+            (N.history sockets.old) (N.history sockets.new) }
+    {
         let turned = self.clients.hold_back_deferred(key, turned);
         let turned = self.end_failed(sockets, key, turned, now, journal);
         self.clients.schedule(key, turned, now);
@@ -262,7 +292,10 @@ impl<N: Sockets + Drop, B: MakeBackups + Drop> EventLoop<N, B> {
         turned: TurnOutcome,
         now: Duration,
         journal: &mut J,
-    ) {
+    )
+        ensures { ChangesClients N.Client.name self.old.clients self.new.clients
+            (N.history sockets.old) (N.history sockets.new) }
+    {
         let Some(client) = self.clients.connections.get_mut(key) else {
             return;
         };
@@ -279,7 +312,10 @@ impl<N: Sockets + Drop, B: MakeBackups + Drop> EventLoop<N, B> {
         tokens: &TokenTable,
         now: Duration,
         journal: &mut J,
-    ) {
+    )
+        ensures { ChangesClients N.Client.name self.old.clients self.new.clients
+            (N.history sockets.old) (N.history sockets.new) }
+    {
         let Some(client) = self.clients.connections.get_mut(key) else {
             return;
         };
@@ -306,7 +342,10 @@ impl<N: Sockets + Drop, B: MakeBackups + Drop> EventLoop<N, B> {
         tokens: &TokenTable,
         now: Duration,
         journal: &mut J,
-    ) {
+    )
+        ensures { ChangesClients N.Client.name self.old.clients self.new.clients
+            (N.history sockets.old) (N.history sockets.new) }
+    {
         let keys = self.clients.take_queued();
         for key in &keys {
             self.move_one(sockets, *key, tokens, now, journal);
@@ -320,7 +359,9 @@ impl<N: Sockets + Drop, B: MakeBackups + Drop> EventLoop<N, B> {
         answer: Option<ResponseInfo>,
         now: Duration,
         journal: &mut J,
-    ) {
+    )
+        ensures { KeepsClients N.Client.name self.old.clients self.new.clients }
+    {
         let Some(answer) = answer else {
             return;
         };
@@ -340,9 +381,14 @@ impl<N: Sockets + Drop, B: MakeBackups + Drop> EventLoop<N, B> {
         now: Duration,
         journal: &mut J,
     )
-        ensures { GoesOn S.Space S.GroupCommit.own M.Moments
+        ensures is_running { GoesOn S.Space S.GroupCommit.own M.Moments
             (callers_of context.entry.tokens.now)
             service.old service.new moments.old moments.new }
+        ensures runs { ServiceRuns S.Space S.GroupCommit.own M.Moments
+            context.entry.explaining context.entry.tokens.now
+            (served_clients service.old moments.old (clients_of N.Client.name self.old.clients))
+            (served_clients service.new moments.new (clients_of N.Client.name self.new.clients))
+            (N.history sockets.old) (N.history sockets.new) }
     {
         let Some(client) = self.clients.connections.get_mut(key) else {
             return;
@@ -352,7 +398,8 @@ impl<N: Sockets + Drop, B: MakeBackups + Drop> EventLoop<N, B> {
         if !client.begin_turn(class, begun) {
             return;
         }
-        let turned = client.turn(context, service, moments, sockets, self.committed, now);
+        let commit = self.clients.committed;
+        let turned = client.turn(context, service, moments, sockets, commit, now);
         self.clock = sockets.monotonic_time().ok();
         let took = nanos_between(begun, self.clock);
         client.member.cost = took;
@@ -364,12 +411,15 @@ impl<N: Sockets + Drop, B: MakeBackups + Drop> EventLoop<N, B> {
     }
 
     // Sends a client its deferred response, which depends on the outcome of the last commit.
-    fn tell<J: ServerLog>(&mut self, sockets: &mut N, key: usize, now: Duration, journal: &mut J) {
+    fn tell<J: ServerLog>(&mut self, sockets: &mut N, key: usize, now: Duration, journal: &mut J)
+        ensures { ChangesClients N.Client.name self.old.clients self.new.clients
+            (N.history sockets.old) (N.history sockets.new) }
+    {
         let Some(client) = self.clients.connections.get_mut(key) else {
             return;
         };
         let was_ending = client.is_ending();
-        let turned = client.tell(self.alloc, sockets, self.committed, now);
+        let turned = client.tell(self.alloc, sockets, self.clients.committed, now);
         self.conclude(sockets, key, turned, now, journal);
         self.clients.count_ending(key, was_ending);
     }
@@ -381,7 +431,7 @@ impl<N: Sockets + Drop, B: MakeBackups + Drop> EventLoop<N, B> {
         now: Duration,
         journal: &mut J,
     )
-        ensures { self.new.committed ≡ self.old.committed }
+        ensures { KeepsClients N.Client.name self.old.clients self.new.clients }
     {
         let Some(outcome) = outcome else {
             return;
@@ -413,13 +463,14 @@ impl<N: Sockets + Drop, B: MakeBackups + Drop> EventLoop<N, B> {
         now: Duration,
         journal: &mut J,
     ) -> u64
-        ensures { IsCommitted S.Space S.GroupCommit.own
-            service.old service.new (outcome_of self.new.committed) }
+        ensures { CommitsBatch S.Space S.GroupCommit.own service.old service.new
+            (clients_of N.Client.name self.old.clients) (clients_of N.Client.name self.new.clients)
+            (N.history sockets.old) (N.history sockets.new) }
     {
         let waited = service.has_pending();
         let begun = self.clock;
-        let commit = self.committed.next(service);
-        self.committed = commit;
+        let commit = self.clients.committed.next(service);
+        self.clients.committed = commit;
         self.clock = sockets.monotonic_time().ok();
         let took = nanos_between(begun, self.clock);
         self.record_commit(outcome_of_batch(waited, commit.outcome()), now, journal);
@@ -435,7 +486,10 @@ impl<N: Sockets + Drop, B: MakeBackups + Drop> EventLoop<N, B> {
         cost: u64,
         now: Duration,
         journal: &mut J,
-    ) {
+    )
+        ensures { ChangesClients N.Client.name self.old.clients self.new.clients
+            (N.history sockets.old) (N.history sockets.new) }
+    {
         self.clients.charge_share(key, took, cost);
         self.tell(sockets, key, now, journal);
     }
@@ -448,8 +502,9 @@ impl<N: Sockets + Drop, B: MakeBackups + Drop> EventLoop<N, B> {
         now: Duration,
         journal: &mut J,
     )
-        ensures { (committed : Result (Unit {0}) SpaceFault)
-            × IsCommitted S.Space S.GroupCommit.own service.old service.new committed }
+        ensures { CommitsBatch S.Space S.GroupCommit.own service.old service.new
+            (clients_of N.Client.name self.old.clients) (clients_of N.Client.name self.new.clients)
+            (N.history sockets.old) (N.history sockets.new) }
     {
         let took = self.commit(sockets, service, now, journal);
         let cost = self.clients.deferred.cost();
@@ -469,8 +524,9 @@ impl<N: Sockets + Drop, B: MakeBackups + Drop> EventLoop<N, B> {
         now: Duration,
         journal: &mut J,
     )
-        ensures { (service.new ≡ service.old) ⊎ ((committed : Result (Unit {0}) SpaceFault)
-            × IsCommitted S.Space S.GroupCommit.own service.old service.new committed) }
+        ensures { MayCommitBatch S.Space S.GroupCommit.own service.old service.new
+            (clients_of N.Client.name self.old.clients) (clients_of N.Client.name self.new.clients)
+            (N.history sockets.old) (N.history sockets.new) }
     {
         if !self.clients.deferred.are_enough() {
             return;
@@ -488,9 +544,14 @@ impl<N: Sockets + Drop, B: MakeBackups + Drop> EventLoop<N, B> {
         now: Duration,
         journal: &mut J,
     )
-        ensures { ServesSoFar S.Space S.GroupCommit.own M.Moments
+        ensures so_far { ServesSoFar S.Space S.GroupCommit.own M.Moments
             (callers_of context.entry.tokens.now)
             service.old service.new moments.old moments.new }
+        ensures runs { ServiceRuns S.Space S.GroupCommit.own M.Moments
+            context.entry.explaining context.entry.tokens.now
+            (served_clients service.old moments.old (clients_of N.Client.name self.old.clients))
+            (served_clients service.new moments.new (clients_of N.Client.name self.new.clients))
+            (N.history sockets.old) (N.history sockets.new) }
     {
         let begun = self.clock;
         for _ in 0..MAX_CONNECTIONS {
@@ -519,8 +580,14 @@ impl<N: Sockets + Drop, B: MakeBackups + Drop> EventLoop<N, B> {
         now: Duration,
         journal: &mut J,
     )
-        ensures { ServesBy S.Space S.GroupCommit.own M.Moments (callers_of context.entry.tokens.now)
+        ensures serves { ServesBy S.Space S.GroupCommit.own M.Moments
+            (callers_of context.entry.tokens.now)
             service.old service.new moments.old moments.new }
+        ensures runs { ServiceRuns S.Space S.GroupCommit.own M.Moments
+            context.entry.explaining context.entry.tokens.now
+            (served_clients service.old moments.old (clients_of N.Client.name self.old.clients))
+            (served_clients service.new moments.new (clients_of N.Client.name self.new.clients))
+            (N.history sockets.old) (N.history sockets.new) }
     {
         self.clock = sockets.monotonic_time().ok();
         self.move_all(sockets, context.tokens, now, journal);
@@ -532,7 +599,9 @@ impl<N: Sockets + Drop, B: MakeBackups + Drop> EventLoop<N, B> {
     }
 
     /// Flushes the log lines of the iteration.
-    pub(crate) fn flush_log<J: ServerLog>(&mut self, journal: &mut J) {
+    pub(crate) fn flush_log<J: ServerLog>(&mut self, journal: &mut J)
+        ensures { KeepsClients N.Client.name self.old.clients self.new.clients }
+    {
         self.metrics.faults.dropped_lines = journal.flush();
     }
 
@@ -546,8 +615,9 @@ impl<N: Sockets + Drop, B: MakeBackups + Drop> EventLoop<N, B> {
         now: Duration,
         journal: &mut J,
     )
-        ensures { MayPurge S.Space S.GroupCommit.own M.Moments keep
+        ensures purges { MayPurge S.Space S.GroupCommit.own M.Moments keep
             service.old service.new moments.old moments.new }
+        ensures clients { KeepsClients N.Client.name self.old.clients self.new.clients }
     {
         let step = self.purger.purge(keep, service, moments, now);
         self.metrics.clock = self.purger.clock_metrics();
@@ -575,7 +645,10 @@ impl<N: Sockets + Drop, B: MakeBackups + Drop> EventLoop<N, B> {
         key: usize,
         now: Duration,
         journal: &mut J,
-    ) {
+    )
+        ensures { ChangesClients N.Client.name self.old.clients self.new.clients
+            (N.history sockets.old) (N.history sockets.new) }
+    {
         let Some(client) = self.clients.connections.get(key) else {
             return;
         };
@@ -592,7 +665,15 @@ impl<N: Sockets + Drop, B: MakeBackups + Drop> EventLoop<N, B> {
     }
 
     /// Ends all clients whose timeout has passed.
-    pub(crate) fn look<J: ServerLog>(&mut self, sockets: &mut N, now: Duration, journal: &mut J) {
+    pub(crate) fn end_all_late<J: ServerLog>(
+        &mut self,
+        sockets: &mut N,
+        now: Duration,
+        journal: &mut J,
+    )
+        ensures { ChangesClients N.Client.name self.old.clients self.new.clients
+            (N.history sockets.old) (N.history sockets.new) }
+    {
         let gap = if self.clients.is_any_ending() {
             LOOKS_SOON
         } else {
@@ -608,7 +689,9 @@ impl<N: Sockets + Drop, B: MakeBackups + Drop> EventLoop<N, B> {
     }
 
     // Begins the stop: accepts no more clients, and queues a turn for each.
-    fn stop(&mut self, now: Duration) {
+    fn stop(&mut self, now: Duration)
+        ensures { KeepsClients N.Client.name self.old.clients self.new.clients }
+    {
         self.stopping = Some(now.saturating_add(Duration::from_millis(STOPPING)));
         self.metrics.stop();
         self.clients.queue_all();
@@ -626,6 +709,7 @@ impl<N: Sockets + Drop, B: MakeBackups + Drop> EventLoop<N, B> {
     ) -> bool
         ensures told { IsTrue result → IsSome operated.entry }
         ensures same { service.new ≡ service.old }
+        ensures clients { KeepsClients N.Client.name self.old.clients self.new.clients }
     {
         match operated {
             Some(build) => self.has_ended(sockets, build, service.space().snapshot(), now),
@@ -634,7 +718,9 @@ impl<N: Sockets + Drop, B: MakeBackups + Drop> EventLoop<N, B> {
     }
 
     /// Sets the metrics of the token file.
-    pub(crate) fn show_tokens(&mut self, tokens: TokenMetrics) {
+    pub(crate) fn show_tokens(&mut self, tokens: TokenMetrics)
+        ensures { KeepsClients N.Client.name self.old.clients self.new.clients }
+    {
         self.metrics.tokens = tokens;
     }
 
@@ -645,7 +731,9 @@ impl<N: Sockets + Drop, B: MakeBackups + Drop> EventLoop<N, B> {
         build: BuildInfo<'_>,
         shown: Result<Snapshot<'_>, NoMirror>,
         now: Duration,
-    ) {
+    )
+        ensures { KeepsClients N.Client.name self.old.clients self.new.clients }
+    {
         if self.operators.is_idle() {
             return;
         }
@@ -673,7 +761,9 @@ impl<N: Sockets + Drop, B: MakeBackups + Drop> EventLoop<N, B> {
         build: BuildInfo<'_>,
         shown: Result<Snapshot<'_>, NoMirror>,
         now: Duration,
-    ) -> bool {
+    ) -> bool
+        ensures { KeepsClients N.Client.name self.old.clients self.new.clients }
+    {
         self.answer_operators(sockets, build, shown, now);
         let Some(until) = self.stopping else {
             if self.operators.stops() {

@@ -1,6 +1,7 @@
 //! The service to many clients at once, on one thread.
 ghost use Rattle.std.specs.Prelude.{◌≡◌, ◌⊎◌, OnOk, IsSome, unwrap_or};
 ghost use Rattle.dss_server.specs.Serve.{ServesAll};
+ghost use Rattle.dss_server.specs.ServeEvents.{ServesEachClient};
 
 use crate::event_loop::EventLoop;
 use admin_http::build::BuildInfo;
@@ -41,8 +42,8 @@ fn in_force<'a>(first: &'a TokenTable, newer: &'a Option<TokenTable>) -> &'a Tok
 /// Calls are made in batches. The changes of a batch are committed at its end, all or none. No
 /// response to a change, nor one that reflects it, is sent before that. If the commit fails, each of
 /// those responses is replaced by a fault: several clients then get status 500, or 503 if the
-/// service has stopped. When the function returns, every batch has ended in this way. The contracts
-/// of `ClientConnection` state this for each client.
+/// service has stopped. When the function returns, every batch has ended in this way. The clause
+/// `clients` states this for each client, from the bytes that its socket received to those sent.
 ///
 /// Each call is made at a time of the clock, which is read once for each request. A request is not
 /// executed only if the clock fails or memory runs out.
@@ -96,6 +97,9 @@ pub fn serve_clients<
 ) -> io::Result<()>
     ensures serves { ServesAll S.Space S.GroupCommit.own M.Moments T.gives keep tokens.now
         service.old service.new moments.old moments.new }
+    ensures clients { ServesEachClient S.Space S.GroupCommit.own M.Moments
+        explaining T.gives keep tokens.now service.old service.new moments.old moments.new
+        (N.history sockets.old) (N.history sockets.new) }
     ensures counted { OnOk result (IsSome limits.count ⊎ IsSome operated.entry) }
 {
     let mut newer = None;
@@ -121,7 +125,7 @@ pub fn serve_clients<
         event_loop.run_once(sockets, context, service, moments, now, journal);
         event_loop.flush_log(journal);
         event_loop.purge(keep, service, moments, now, journal);
-        event_loop.look(sockets, now, journal);
+        event_loop.end_all_late(sockets, now, journal);
         if event_loop.serve_operators(sockets, operated, service, now) {
             return Ok(());
         }

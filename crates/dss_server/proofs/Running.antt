@@ -1,0 +1,266 @@
+-- How the events of the service and of `serve` follow one another.
+use Rattle.std.proofs.Common.{◌≡◌, ℕ, List, [], ◌∷◌, ◌++◌, Option, Some, None, refl, sym, ap, subst, ◌∙◌, ◌⊎◌, inl, inr, map, Result}
+use Rattle.std.specs.Prelude.{IfSome, unwrap_or}
+use Rattle.std.specs.List.{flat_map}
+use Rattle.std.specs.Option.{option_or}
+use Rattle.std.proofs.lemmas.List.{append-nil}
+use Rattle.std.proofs.lemmas.List.Concat.{flat_map-append}
+use Rattle.slab.specs.Slab.{Slab, get, with_value}
+use Rattle.service_calls.specs.declared.service.Service.{Service}
+use Rattle.service_calls.specs.Batches.{IsCommitted}
+use Rattle.space_core.specs.declared.group_commit.GroupCommit as commits
+use Rattle.space_core.specs.declared.space.Space as spaces
+use Rattle.space_core.specs.declared.space.SpaceFault.{SpaceFault}
+use Rattle.token_conf.specs.TokenFile.{TokenFile}
+use Rattle.wire_http.specs.declared.explaining.Explaining.{Explaining}
+use Rattle.wire_http.specs.declared.moments.Moments as moments
+use Rattle.wire_http.specs.Count.{one_more}
+use Rattle.server_base.specs.History.{Extends, HistoryEvent}
+use Rattle.server_base.proofs.Histories.{extends_none, extends_same, extends_then}
+use Rattle.server_client.specs.declared.client_connection.ClientConnection.{ClientConnection}
+use Rattle.server_client.specs.declared.commit_record.CommitRecord.{CommitRecord}
+use Rattle.server_client.specs.ClientConnection.{state_of_client}
+use Rattle.server_client.specs.ClientEvents.{ClientRuns, served_client}
+use Rattle.server_client.specs.CommitRecord.{number_of, outcome_of}
+use Rattle.server_watch.specs.Purger.{MayPurge}
+use Rattle.server_watch.specs.Tokens.{IsTakenAfter}
+use Rattle.dss_server.specs.ClientSet.{ChangesBy, Clients, SetChange, SetChanges, clients_with, history_of_change, no_clients}
+use Rattle.dss_server.specs.ServeEvents.{FollowAll, Follows, Loads, Purges, Runs, ServeEvent, ServeRuns, ServeState, ServesEachClient, history_of_serve, serve_state}
+use Rattle.dss_server.specs.ServiceEvents.{Changes, Commits, CommitsBatch, HappenAll, Happens, MayCommitBatch, ServedClients, Serves, ServiceEvent, ServiceRuns, history_of_service, served_clients}
+use Rattle.dss_server.proofs.Clients.{changes_none, changes_then, client_there, clients_put}
+
+-- The changes as events of the service.
+abbrev map_changes : List SetChange → List ServiceEvent
+map_changes changes = map (λ change. Changes change) changes
+
+module _ {S M : Type 0} (g : spaces.Ghosts S) (k : commits.Ghosts S) (m : moments.Ghosts M) (explaining : Explaining) (table : TokenFile) where
+  -- A run in this context.
+  abbrev pub RunsTo : ServedClients S M → ServedClients S M → (past now : Option (List HistoryEvent)) → Type 0
+  RunsTo old new past now = ServiceRuns g k m explaining table old new past now
+
+  happen_then : (xs ys : List ServiceEvent) (old mid new : ServedClients S M) → HappenAll g k m explaining table xs old mid → HappenAll g k m explaining table ys mid new
+      → HappenAll g k m explaining table (xs ++ ys) old new
+  happen_then [] ys old mid new h q = subst (λ (v : ServedClients S M). HappenAll g k m explaining table ys v new) h q
+  happen_then (x ∷ xs) ys old mid new h q = (h.0, h.1, happen_then xs ys h.0 mid new h.2 q)
+
+  pub runs_none : (old new : ServedClients S M) (past now : Option (List HistoryEvent)) → new ≡ old → now ≡ past → RunsTo old new past now
+  runs_none old new past now same is = record { events = []; happen = same; history = extends_same past now is }
+
+  pub runs_then : (old mid new : ServedClients S M) (past between now : Option (List HistoryEvent)) → RunsTo old mid past between → RunsTo mid new between now → RunsTo old new past now
+  runs_then old mid new past between now p q = record {
+    events = p.events ++ q.events;
+    happen = happen_then p.events q.events old mid new p.happen q.happen;
+    history = subst (λ (v : List HistoryEvent). Extends past now v) (sym (flat_map-append history_of_service p.events q.events))
+        (extends_then past between now (flat_map history_of_service p.events) (flat_map history_of_service q.events) p.history q.history);
+  }
+
+  runs_once : (x : ServiceEvent) (old new : ServedClients S M) (past now : Option (List HistoryEvent)) → Happens g k m explaining table x old new → Extends past now (history_of_service x)
+      → RunsTo old new past now
+  runs_once x old new past now h recorded = record {
+    events = x ∷ [];
+    happen = (new, h, refl);
+    history = subst (λ (v : List HistoryEvent). Extends past now v) (sym (append-nil (history_of_service x))) recorded;
+  }
+
+  changes_happen : (xs : List SetChange) (service : Service S) (clock : M) (old new : Clients) → ChangesBy xs old new
+      → HappenAll g k m explaining table (map_changes xs) (served_clients service clock old) (served_clients service clock new)
+  changes_happen [] service clock old new h = ap (λ v. served_clients service clock v) h
+  changes_happen (x ∷ xs) service clock old new h = (served_clients service clock h.0, (h.0, h.1, refl), changes_happen xs service clock h.0 new h.2)
+
+  changes_recorded : (xs : List SetChange) → flat_map history_of_service (map_changes xs) ≡ flat_map history_of_change xs
+  changes_recorded [] = refl
+  changes_recorded (x ∷ xs) = ap (λ v. history_of_change x ++ v) (changes_recorded xs)
+
+  -- Changes of the clients.
+  pub runs_changes : (service : Service S) (clock : M) (old new : Clients) (past now : Option (List HistoryEvent)) → SetChanges old new past now
+      → RunsTo (served_clients service clock old) (served_clients service clock new) past now
+  runs_changes service clock old new past now h = record {
+    events = map_changes h.changes;
+    happen = changes_happen h.changes service clock old new h.by;
+    history = subst (λ (v : List HistoryEvent). Extends past now v) (sym (changes_recorded h.changes)) h.history;
+  }
+
+  -- Events of one client, from a state that was found in between.
+  pub runs_client : {T : Type 0} (name : T → ℕ) (commit : CommitRecord) (connections : Slab (ClientConnection T)) (key : ℕ) (p mid p' : ClientConnection T) (old new : Service S) (clock clock' : M)
+      (past now : Option (List HistoryEvent)) → Some p ≡ get connections key → state_of_client name mid ≡ state_of_client name p
+      → ClientRuns g k m explaining table commit (served_client old clock (state_of_client name mid)) (served_client new clock' (state_of_client name p')) past now
+      → RunsTo (served_clients old clock (clients_with name connections commit)) (served_clients new clock' (clients_with name (with_value connections key p') commit)) past now
+  runs_client name commit connections key p mid p' old new clock clock' past now there same h =
+      let l = state_of_client name mid in
+      let end = served_client new clock' (state_of_client name p') in
+      let found = client_there name commit connections key p (sym there) ∙ ap (λ v. Some v) (sym same) in
+      runs_once (Serves key l.name h.events) (served_clients old clock (clients_with name connections commit))
+      (served_clients new clock' (clients_with name (with_value connections key p') commit)) past now
+      (l, found, refl, end, h.occur, ap (λ v. served_clients new clock' v) (clients_put name commit connections key p p' (sym there))) h.history
+
+  -- Changes that follow other events, with the clients as they are found in between and at the end.
+  pub runs_amid : (old : ServedClients S M) (service : Service S) (clock : M) (mid mid' new new' : Clients) (past between now : Option (List HistoryEvent))
+      → RunsTo old (served_clients service clock mid) past between → mid' ≡ mid → SetChanges mid' new between now → new' ≡ new → RunsTo old (served_clients service clock new') past now
+  runs_amid old service clock mid mid' new new' past between now p same q is =
+      let changed = subst (λ (v : Clients). SetChanges v new between now) same q in
+      let all = runs_then old (served_clients service clock mid) (served_clients service clock new) past between now p (runs_changes service clock mid new between now changed) in
+      subst (λ (v : Clients). RunsTo old (served_clients service clock v) past now) (sym is) all
+
+  -- A commit, and what the clients were sent after it.
+  pub runs_batch : (old : ServedClients S M) (service service' : Service S) (clock : M) (mid new : Clients) (past between now : Option (List HistoryEvent))
+      → RunsTo old (served_clients service clock mid) past between → CommitsBatch g k service service' mid new between now → RunsTo old (served_clients service' clock new) past now
+  runs_batch old service service' clock mid new past between now p q =
+      let after = record mid { commit = q.commit } in
+      let committed = runs_once Commits (served_clients service clock mid) (served_clients service' clock after) between between
+      (service', q.commit, q.committed, q.next, refl) (extends_none between) in
+      runs_then old (served_clients service clock mid) (served_clients service' clock new) past between now p
+      (runs_then (served_clients service clock mid) (served_clients service' clock after) (served_clients service' clock new) between between now committed
+      (runs_changes service' clock after new between now q.changes))
+
+  pub runs_may_commit : (old : ServedClients S M) (service service' : Service S) (clock : M) (mid new : Clients) (past between now : Option (List HistoryEvent))
+      → RunsTo old (served_clients service clock mid) past between → MayCommitBatch g k service service' mid new between now → RunsTo old (served_clients service' clock new) past now
+  runs_may_commit old service service' clock mid new past between now p q =
+      elim q [
+        | inl same ↦
+            runs_then old (served_clients service clock mid) (served_clients service' clock new) past between now p
+            (runs_none (served_clients service clock mid) (served_clients service' clock new) between now (λ i. served_clients (same.0 i) clock (same.1 i)) same.2)
+        | inr batch ↦ runs_batch old service service' clock mid new past between now p batch
+      ]
+
+module _ {S : Type 0} (g : spaces.Ghosts S) (k : commits.Ghosts S) where
+  -- A commit, with the clients as they are found after it.
+  pub batch_begins : (old new : Service S) (clients clients' : Clients) (commit : CommitRecord) (past now : Option (List HistoryEvent)) → IsCommitted g k old new (outcome_of commit)
+      → number_of commit ≡ one_more (number_of clients.commit) → clients' ≡ record clients { commit = commit } → now ≡ past → CommitsBatch g k old new clients clients' past now
+  batch_begins old new clients clients' commit past now committed next same is =
+      record { commit = commit; committed = committed; next = next; changes = changes_none (record clients { commit = commit }) clients' past now same is }
+
+  -- Changes of the clients after a commit.
+  pub batch_goes_on : (old new : Service S) (clients mid clients' : Clients) (past between now : Option (List HistoryEvent)) → CommitsBatch g k old new clients mid past between
+      → SetChanges mid clients' between now → CommitsBatch g k old new clients clients' past now
+  batch_goes_on old new clients mid clients' past between now p q = record {
+    commit = p.commit;
+    committed = p.committed;
+    next = p.next;
+    changes = changes_then (record clients { commit = p.commit }) mid clients' past between now p.changes q;
+  }
+
+  -- Of a batch that may have been committed only the outcome.
+  pub may_settle : (old new : Service S) (clients clients' : Clients) (past now : Option (List HistoryEvent)) → MayCommitBatch g k old new clients clients' past now
+      → (new ≡ old) ⊎ ((committed : Result (Unit {0}) SpaceFault) × IsCommitted g k old new committed)
+  may_settle old new clients clients' past now q =
+      elim q [
+        | inl same ↦ inl same.0
+        | inr batch ↦ inr (outcome_of batch.commit, batch.committed)
+      ]
+
+-- ---- serve
+
+module _ {S M : Type 0} (g : spaces.Ghosts S) (k : commits.Ghosts S) (m : moments.Ghosts M) (explaining : Explaining) (gives : List ℕ → Type 0) (keep : Option ℕ) (first : TokenFile) where
+  -- A run of `serve` in this context.
+  abbrev GoesTo : ServeState S M → ServeState S M → (past now : Option (List HistoryEvent)) → Type 0
+  GoesTo old new past now = ServeRuns g k m explaining gives keep first old new past now
+
+  follow_then : (xs ys : List ServeEvent) (old mid new : ServeState S M) → FollowAll g k m explaining gives keep first xs old mid → FollowAll g k m explaining gives keep first ys mid new
+      → FollowAll g k m explaining gives keep first (xs ++ ys) old new
+  follow_then [] ys old mid new h q = subst (λ (v : ServeState S M). FollowAll g k m explaining gives keep first ys v new) h q
+  follow_then (x ∷ xs) ys old mid new h q = (h.0, h.1, follow_then xs ys h.0 mid new h.2 q)
+
+  serve_then : (old mid new : ServeState S M) (past between now : Option (List HistoryEvent)) → GoesTo old mid past between → GoesTo mid new between now → GoesTo old new past now
+  serve_then old mid new past between now p q = record {
+    events = p.events ++ q.events;
+    follow = follow_then p.events q.events old mid new p.follow q.follow;
+    history = subst (λ (v : List HistoryEvent). Extends past now v) (sym (flat_map-append history_of_serve p.events q.events))
+        (extends_then past between now (flat_map history_of_serve p.events) (flat_map history_of_serve q.events) p.history q.history);
+  }
+
+  serve_once : (x : ServeEvent) (old new : ServeState S M) (past now : Option (List HistoryEvent)) → Follows g k m explaining gives keep first x old new → Extends past now (history_of_serve x)
+      → GoesTo old new past now
+  serve_once x old new past now h recorded = record {
+    events = x ∷ [];
+    follow = (new, h, refl);
+    history = subst (λ (v : List HistoryEvent). Extends past now v) (sym (append-nil (history_of_serve x))) recorded;
+  }
+
+  -- What was served since the start: the service, its clock, its clients and the active table.
+  pub record ServesSince (old : Service S) (clock : M) (new : Service S) (clock' : M) (clients : Clients) (table : TokenFile) (past now : Option (List HistoryEvent)) : Type 0 where
+    pub runs : GoesTo (serve_state (served_clients old clock no_clients) first) (serve_state (served_clients new clock' clients) table) past now
+
+  pub since_none : (service : Service S) (clock : M) (clients : Clients) (past now : Option (List HistoryEvent)) → clients ≡ no_clients → now ≡ past
+      → ServesSince service clock service clock clients first past now
+  since_none service clock clients past now none same = record {
+    runs = record { events = []; follow = ap (λ v. serve_state (served_clients service clock v) first) none; history = extends_same past now same };
+  }
+
+  pub since_serves : (old new : Service S) (clock clock' : M) (clients : Clients) (table : TokenFile) (past now : Option (List HistoryEvent))
+      → ServesSince old clock new clock' clients table past now → ServesEachClient g k m explaining gives keep first old new clock clock' past now
+  since_serves old new clock clock' clients table past now p =
+      record { end = serve_state (served_clients new clock' clients) table; runs = p.runs; service_is = refl; clock_is = refl }
+
+  -- Nothing was served.
+  pub serves_still : (service : Service S) (clock : M) (past : Option (List HistoryEvent)) → ServesEachClient g k m explaining gives keep first service service clock clock past past
+  serves_still service clock past = since_serves service service clock clock no_clients first past past (since_none service clock no_clients past past refl refl)
+
+  -- Events of the service under the active table.
+  since_runs : (old mid new : Service S) (clock between clock' : M) (c0 c1 : Clients) (table : TokenFile) (past h0 h1 : Option (List HistoryEvent))
+      → ServesSince old clock mid between c0 table past h0 → ServiceRuns g k m explaining table (served_clients mid between c0) (served_clients new clock' c1) h0 h1
+      → ServesSince old clock new clock' c1 table past h1
+  since_runs old mid new clock between clock' c0 c1 table past h0 h1 p q =
+      let at = serve_state (served_clients mid between c0) table in
+      let end = serve_state (served_clients new clock' c1) table in
+      record {
+        runs = serve_then (serve_state (served_clients old clock no_clients) first) at end past h0 h1 p.runs (serve_once (Runs q.events) at end h0 h1 (served_clients new clock' c1, q.happen, refl) q.history);
+      }
+
+  since_loads : (old new : Service S) (clock clock' : M) (clients : Clients) (newer taken : Option TokenFile) (past now : Option (List HistoryEvent))
+      → ServesSince old clock new clock' clients (unwrap_or newer first) past now → IfSome taken (IsTakenAfter gives first)
+      → ServesSince old clock new clock' clients (unwrap_or (option_or taken newer) first) past now
+  since_loads old new clock clock' clients newer None past now p is = p
+  since_loads old new clock clock' clients newer (Some table) past now p is =
+      let served = served_clients new clock' clients in
+      record {
+        runs = serve_then (serve_state (served_clients old clock no_clients) first) (serve_state served (unwrap_or newer first)) (serve_state served table) past now now p.runs
+            (serve_once (Loads table) (serve_state served (unwrap_or newer first)) (serve_state served table) now now (is, refl) (extends_none now));
+      }
+
+  since_purges : (old mid new : Service S) (clock between clock' : M) (clients : Clients) (table : TokenFile) (past now : Option (List HistoryEvent))
+      → ServesSince old clock mid between clients table past now → MayPurge g k m keep mid new between clock' → ServesSince old clock new clock' clients table past now
+  since_purges old mid new clock between clock' clients table past now p purged =
+      let at = serve_state (served_clients mid between clients) table in
+      let end = serve_state (served_clients new clock' clients) table in
+      record {
+        runs = serve_then (serve_state (served_clients old clock no_clients) first) at end past now now p.runs
+            (serve_once Purges at end now now (new, clock', purged, refl) (extends_none now));
+      }
+
+  -- The clients change, and the service stays.
+  since_changes : (old new : Service S) (clock clock' : M) (c0 c1 : Clients) (table : TokenFile) (past h0 h1 : Option (List HistoryEvent)) → ServesSince old clock new clock' c0 table past h0
+      → SetChanges c0 c1 h0 h1 → ServesSince old clock new clock' c1 table past h1
+  since_changes old new clock clock' c0 c1 table past h0 h1 p q =
+      since_runs old new new clock clock' clock' c0 c1 table past h0 h1 p (runs_changes g k m explaining table new clock' c0 c1 h0 h1 q)
+
+  -- The clients stay.
+  pub since_same : (old new : Service S) (clock clock' : M) (c0 c1 : Clients) (table : TokenFile) (past h0 h1 : Option (List HistoryEvent)) → ServesSince old clock new clock' c0 table past h0
+      → c1 ≡ c0 → h1 ≡ h0 → ServesSince old clock new clock' c1 table past h1
+  since_same old new clock clock' c0 c1 table past h0 h1 p same is =
+      subst (λ (h : Option (List HistoryEvent)). ServesSince old clock new clock' c1 table past h) (sym is)
+      (subst (λ (c : Clients). ServesSince old clock new clock' c table past h0) (sym same) p)
+
+  -- The wait for events, and the accepted clients.
+  pub since_accepts : (old new : Service S) (clock clock' : M) (c0 c1 c2 : Clients) (table : TokenFile) (past h0 h1 h2 : Option (List HistoryEvent))
+      → ServesSince old clock new clock' c0 table past h0 → c1 ≡ c0 → h1 ≡ h0 → SetChanges c1 c2 h1 h2 → ServesSince old clock new clock' c2 table past h2
+  since_accepts old new clock clock' c0 c1 c2 table past h0 h1 h2 p same is q =
+      since_changes old new clock clock' c1 c2 table past h1 h2 (since_same old new clock clock' c0 c1 table past h0 h1 p same is) q
+
+  -- The check of the token file, and the batches under the active table.
+  pub since_answers : (old s0 s1 : Service S) (clock m0 m1 : M) (c0 c1 c2 : Clients) (newer taken newer' : Option TokenFile) (used : TokenFile) (past h0 h1 : Option (List HistoryEvent))
+      → ServesSince old clock s0 m0 c0 (unwrap_or newer first) past h0 → IfSome taken (IsTakenAfter gives first) → newer' ≡ option_or taken newer → used ≡ unwrap_or newer' first → c1 ≡ c0
+      → ServiceRuns g k m explaining used (served_clients s0 m0 c1) (served_clients s1 m1 c2) h0 h1 → ServesSince old clock s1 m1 c2 (unwrap_or newer' first) past h1
+  since_answers old s0 s1 clock m0 m1 c0 c1 c2 newer taken newer' used past h0 h1 p is_taken is_newer is_used same q =
+      let loaded = subst (λ (n : Option TokenFile). ServesSince old clock s0 m0 c0 (unwrap_or n first) past h0) (sym is_newer) (since_loads old s0 clock m0 c0 newer taken past h0 p is_taken) in
+      let shown = since_same old s0 clock m0 c0 c1 (unwrap_or newer' first) past h0 h0 loaded same refl in
+      let runs = subst (λ (t : TokenFile). ServiceRuns g k m explaining t (served_clients s0 m0 c1) (served_clients s1 m1 c2) h0 h1) is_used q in
+      since_runs old s0 s1 clock m0 m1 c1 c2 (unwrap_or newer' first) past h0 h1 shown runs
+
+  -- The rest of an iteration: a purge, late clients, and the admin port.
+  pub since_ends : (old s0 s1 s2 : Service S) (clock m0 m1 : M) (c0 c1 c2 c3 c4 : Clients) (table : TokenFile) (past h0 h1 : Option (List HistoryEvent))
+      → ServesSince old clock s0 m0 c0 table past h0 → c1 ≡ c0 → MayPurge g k m keep s0 s1 m0 m1 → c2 ≡ c1 → SetChanges c2 c3 h0 h1 → c4 ≡ c3 → s2 ≡ s1
+      → ServesSince old clock s2 m1 c4 table past h1
+  since_ends old s0 s1 s2 clock m0 m1 c0 c1 c2 c3 c4 table past h0 h1 p flushed purged same q shown stays =
+      let after = since_purges old s0 s1 clock m0 m1 c1 table past h0 (since_same old s0 clock m0 c0 c1 table past h0 h0 p flushed refl) purged in
+      let looked = since_changes old s1 clock m1 c2 c3 table past h0 h1 (since_same old s1 clock m1 c1 c2 table past h0 h0 after same refl) q in
+      subst (λ (s : Service S). ServesSince old clock s m1 c4 table past h1) (sym stays) (since_same old s1 clock m1 c3 c4 table past h1 h1 looked shown refl)
