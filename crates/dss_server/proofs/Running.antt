@@ -150,6 +150,14 @@ module _ {S : Type 0} (g : spaces.Ghosts S) (k : commits.Ghosts S) where
 
 -- ---- serve
 
+-- The events of the service as events of `serve`.
+abbrev map_runs : List ServiceEvent → List ServeEvent
+map_runs events = map (λ event. Runs event) events
+
+runs_recorded : (xs : List ServiceEvent) → flat_map history_of_serve (map_runs xs) ≡ flat_map history_of_service xs
+runs_recorded [] = refl
+runs_recorded (x ∷ xs) = ap (λ v. history_of_service x ++ v) (runs_recorded xs)
+
 module _ {S M : Type 0} (g : spaces.Ghosts S) (k : commits.Ghosts S) (m : moments.Ghosts M) (explaining : Explaining) (gives : List ℕ → Type 0) (keep : Option ℕ) (first : TokenFile) where
   -- A run of `serve` in this context.
   abbrev GoesTo : ServeState S M → ServeState S M → (past now : Option (List HistoryEvent)) → Type 0
@@ -195,6 +203,11 @@ module _ {S M : Type 0} (g : spaces.Ghosts S) (k : commits.Ghosts S) (m : moment
   pub serves_still : (service : Service S) (clock : M) (past : Option (List HistoryEvent)) → ServesEachClient g k m explaining gives keep first service service clock clock past past
   serves_still service clock past = since_serves service service clock clock no_clients first past past (since_none service clock no_clients past past refl refl)
 
+  runs_follow : (xs : List ServiceEvent) (table : TokenFile) (old new : ServedClients S M) → HappenAll g k m explaining table xs old new
+      → FollowAll g k m explaining gives keep first (map_runs xs) (serve_state old table) (serve_state new table)
+  runs_follow [] table old new h = ap (λ v. serve_state v table) h
+  runs_follow (x ∷ xs) table old new h = (serve_state h.0 table, (h.0, h.1, refl), runs_follow xs table h.0 new h.2)
+
   -- Events of the service under the active table.
   since_runs : (old mid new : Service S) (clock between clock' : M) (c0 c1 : Clients) (table : TokenFile) (past h0 h1 : Option (List HistoryEvent))
       → ServesSince old clock mid between c0 table past h0 → ServiceRuns g k m explaining table (served_clients mid between c0) (served_clients new clock' c1) h0 h1
@@ -203,7 +216,11 @@ module _ {S M : Type 0} (g : spaces.Ghosts S) (k : commits.Ghosts S) (m : moment
       let at = serve_state (served_clients mid between c0) table in
       let end = serve_state (served_clients new clock' c1) table in
       record {
-        runs = serve_then (serve_state (served_clients old clock no_clients) first) at end past h0 h1 p.runs (serve_once (Runs q.events) at end h0 h1 (served_clients new clock' c1, q.happen, refl) q.history);
+        runs = serve_then (serve_state (served_clients old clock no_clients) first) at end past h0 h1 p.runs (record {
+          events = map_runs q.events;
+          follow = runs_follow q.events table (served_clients mid between c0) (served_clients new clock' c1) q.happen;
+          history = subst (λ (v : List HistoryEvent). Extends h0 h1 v) (sym (runs_recorded q.events)) q.history;
+        });
       }
 
   since_loads : (old new : Service S) (clock clock' : M) (clients : Clients) (newer taken : Option TokenFile) (past now : Option (List HistoryEvent))

@@ -16,7 +16,7 @@ use Rattle.service_calls.specs.Purged.{MadeSegments, Segment, PurgesOnce}
 use Rattle.token_conf.specs.TokenFile.{Callers, TokenFile, callers_of}
 use Rattle.wire_http.specs.declared.moments.Moments as moments
 use Rattle.wire_http.specs.Wire.{RequestCall, timed}
-use Rattle.server_base.specs.Calls.{AreAmong, ClockReadings, GoesOn, IsAskedBy, moments_of}
+use Rattle.server_base.specs.Calls.{AreAmong, GoesOn, IsAskedBy, moments_of}
 use Rattle.server_base.proofs.Calls.{among_before, among_then, goes_on_then, goes_still, told_then}
 use Rattle.server_watch.specs.Purger.{MayPurge, PurgesChunk, PurgesNothing}
 use Rattle.server_watch.specs.Tokens.{IsTakenAfter}

@@ -11,18 +11,18 @@ use Rattle.server_base.specs.History.{Extends, HistoryEvent}
 use Rattle.server_watch.specs.Purger.{MayPurge}
 use Rattle.server_watch.specs.Tokens.{IsTakenAfter}
 use Rattle.dss_server.specs.ClientSet.{no_clients}
-use Rattle.dss_server.specs.ServiceEvents.{HappenAll, ServedClients, ServiceEvent, history_of_service, served_clients}
+use Rattle.dss_server.specs.ServiceEvents.{Happens, ServedClients, ServiceEvent, history_of_service, served_clients}
 
--- An event of `serve`: events of the service under the active token table, a step of the purges, or
--- another table becomes active.
+-- An event of `serve`: an event of the service under the active token table, a step of the schedule
+-- of purges, or another table becomes active.
 pub data ServeEvent : Type 0 where
-  Runs : (events : List ServiceEvent) → ServeEvent
+  Runs : (event : ServiceEvent) → ServeEvent
   Purges : ServeEvent
   Loads : (table : TokenFile) → ServeEvent
 
 -- What the history records of an event.
 abbrev pub history_of_serve : ServeEvent → List HistoryEvent
-history_of_serve (Runs events) = flat_map history_of_service events
+history_of_serve (Runs event) = history_of_service event
 history_of_serve Purges = []
 history_of_serve (Loads table) = []
 
@@ -41,8 +41,8 @@ module _ {S M : Type 0} (g : spaces.Ghosts S) (k : commits.Ghosts S) (m : moment
   -- Holds if the event leads from one state to the other. A purge leaves the clients. A loaded table
   -- was read whole from the token file, and has the same salt.
   abbrev pub Follows : ServeEvent → ServeState S M → ServeState S M → Type 0
-  Follows (Runs events) old new = (served : ServedClients S M)
-      × HappenAll g k m explaining old.table events old.served served
+  Follows (Runs event) old new = (served : ServedClients S M)
+      × Happens g k m explaining old.table event old.served served
       × (new ≡ serve_state served old.table)
   Follows Purges old new = (service : Service S) × (clock : M)
       × MayPurge g k m keep old.served.service service old.served.clock clock
@@ -63,11 +63,9 @@ module _ {S M : Type 0} (g : spaces.Ghosts S) (k : commits.Ghosts S) (m : moment
     pub follow : FollowAll events old new
     pub history : Extends past now (flat_map history_of_serve events)
 
-  -- States that one sequence of events leads from a service without clients to the service and the
-  -- clock as they are, and that the history of the sockets records exactly these events. So each
-  -- byte that was sent to a client was a byte of its responses that might be sent at that time: of
-  -- responses to its own requests, in their order, and of no deferred response before the commit of
-  -- its batch. What was sent after a failed commit is the response to that fault.
+  -- States that one sequence of events leads from the service and the clock at the start, without
+  -- clients and without a commit, to those at the end, and that the history of the sockets records
+  -- exactly these events.
   pub record ServesEachClient (old new : Service S) (clock clock' : M)
       (past now : Option (List HistoryEvent)) : Type 0 where
     pub end : ServeState S M
