@@ -14,7 +14,7 @@ pub const SMALL: usize = 65_536;
 pub const LARGE_BUFFERS: usize = 64;
 
 /// The timeout of an idle client in milliseconds.
-pub const IDLE_TIMEOUT: u64 = 60_000;
+pub const IDLE_TIMEOUT: u64 = 75_000;
 
 /// The timeout of the bytes of one request in milliseconds.
 pub const REQUEST_TIMEOUT: u64 = 30_000;

@@ -54,6 +54,7 @@ fn refusal(alloc: Global, verdict: Verdict, report: Report) -> Result<Explanatio
         problems,
         remarks,
         ignored: _,
+        only_names: _,
         alloc: _,
     } = report;
     let problems = problems.into_texts(alloc)?;
@@ -160,9 +161,10 @@ fn explain_form(
     ensures problems { IfOk result (λ e. vec_len e.problems ≡ 0) }
 {
     let mut report = Report::new(alloc);
-    put_findings(alloc, &mut report, kind, words, request.body)?;
+    // before remarks on members, of which there may be too many
     put_covered(&mut report, op)?;
     put_ended(&mut report, op, request.time)?;
+    put_findings(alloc, &mut report, kind, words, request.body)?;
     Ok(Explanation {
         verdict: Verdict::HasForm(kind),
         problems: Vec::new(alloc),
@@ -223,7 +225,7 @@ pub fn explain_request(
 /// of a list field (RFC 9110, section 5.6.1): at most 1,024 bytes of visible ASCII and spaces.
 /// Returns an empty text if there are none.
 pub fn ignored_members(alloc: Global, kind: OpKind, body: &[u8]) -> Result<String, AllocError> {
-    let mut report = Report::new(alloc);
+    let mut report = Report::of_names(alloc);
     if has_body(kind) {
         if let Some(value) = value_in(alloc, &mut report, body)? {
             check_body(alloc, &mut report, kind, &value)?;

@@ -20,7 +20,13 @@ impl IgnoredMembers {
         }
     }
 
-    /// Appends a name, with `?` for what is not visible ASCII. Leaves out what does not fit.
+    /// Returns true if a further name is left out.
+    pub(crate) fn is_cut(&self) -> bool {
+        self.is_cut
+    }
+
+    /// Appends a name, with `?` for what is neither visible ASCII nor a space. Leaves out this name and
+    /// all further ones if it does not fit.
     pub(crate) fn put(&mut self, name: &str) -> Result<(), AllocError> {
         if self.is_cut || self.list.len() + name.len() > MAX_BYTES {
             self.is_cut = true;
@@ -30,7 +36,8 @@ impl IgnoredMembers {
             self.list.push_str(", ")?;
         }
         for c in name.chars() {
-            self.list.push(if c.is_ascii_graphic() { c } else { '?' })?;
+            let is_shown = c == ' ' || c.is_ascii_graphic();
+            self.list.push(if is_shown { c } else { '?' })?;
         }
         Ok(())
     }

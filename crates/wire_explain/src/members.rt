@@ -83,13 +83,17 @@ pub(crate) fn put_ignored(
     };
     for (name, _) in members {
         let name = name.as_str();
-        if !is_known(name, known) {
-            let remark = remark_on(alloc, name, known)?;
-            let place = match place {
-                Some(object) => object.member(name),
-                None => Place::named(name),
-            };
-            report.ignore(place, remark)?;
+        if is_known(name, known) {
+            continue;
+        }
+        let place = match place {
+            Some(object) => object.member(name),
+            None => Place::named(name),
+        };
+        report.ignore(place)?;
+        // a name is compared with others only for a remark that is written
+        if report.wants_remark() {
+            report.remark(place, remark_on(alloc, name, known)?)?;
         }
     }
     Ok(())

@@ -14,6 +14,8 @@ pub(crate) struct Report {
     pub(crate) problems: Lines,
     pub(crate) remarks: Lines,
     pub(crate) ignored: IgnoredMembers,
+    /// True if there are no remarks on ignored members.
+    pub(crate) only_names: bool,
     pub(crate) alloc: Global,
 }
 
@@ -24,7 +26,16 @@ impl Report {
             problems: Lines::new(alloc),
             remarks: Lines::new(alloc),
             ignored: IgnoredMembers::new(alloc),
+            only_names: false,
             alloc,
+        }
+    }
+
+    /// Creates a report without lines, and without remarks on ignored members.
+    pub(crate) fn of_names(alloc: Global) -> Report {
+        Report {
+            only_names: true,
+            ..Report::new(alloc)
         }
     }
 
@@ -56,11 +67,25 @@ impl Report {
         self.remarks.put(line)
     }
 
-    /// Appends the line of a remark about a member that the service ignores.
-    pub(crate) fn ignore(&mut self, place: Place<'_>, remark: Remark) -> Result<(), AllocError> {
+    /// Appends the name of a member that the service ignores.
+    pub(crate) fn ignore(&mut self, place: Place<'_>) -> Result<(), AllocError> {
+        if self.ignored.is_cut() {
+            return Ok(());
+        }
         let alloc = self.alloc;
         let name = format!(in alloc; "{place}")?;
-        self.ignored.put(name.as_str())?;
-        self.remark(place, remark)
+        self.ignored.put(name.as_str())
+    }
+
+    /// Returns true if a remark on an ignored member is written. Otherwise counts it as left out.
+    pub(crate) fn wants_remark(&mut self) -> bool {
+        if self.only_names {
+            return false;
+        }
+        if self.remarks.is_full() {
+            self.remarks.leave_out();
+            return false;
+        }
+        true
     }
 }
