@@ -13,7 +13,7 @@ import wire
 
 # Seconds that a client may take before its first request, be idle, take for a request, and take nothing of a response;
 # and those that a busy machine adds.
-FIRST, IDLE, SENDING, TAKING, MORE = 10, 60, 30, 30, 6
+FIRST, IDLE, SENDING, TAKING, MORE = 10, 75, 30, 30, 6
 # The seconds after which a request over 64 KiB has a minimum rate, and a rate above it in bytes per second.
 RATED, RATE = 5, 8_192
 # Seconds in which another client gets its response.

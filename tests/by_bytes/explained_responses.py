@@ -108,7 +108,7 @@ def wanted_for(request, lines, error, plain, now):
     found = lines if error else lines[:-1]
     # A put that covers too much has ended, too.
     ends = [f"extents: ended at 2000; now is {now}"] if not error and request[0] == "PUT" else []
-    return refused(rule, found + ends, allowed)
+    return refused(rule, ends + found, allowed)
 
 
 def rows():
@@ -201,11 +201,11 @@ IGNORED = (
     (SUBSCRIPTION, sub(LATER, more=',"notify_for_constraint":true'), "notify_for_constraint"),
     (SETTING, '{"availability":"Down","Old_version":"","uss":null}', "Old_version, uss"),
     (QUERY, '{"area_of_interest":{"cells":["89c3"],"time_strat":5,"altitude_lower ":0},"limit":5}',
-     'area_of_interest."altitude_lower?", area_of_interest.time_strat, limit'),
+     'area_of_interest."altitude_lower ", area_of_interest.time_strat, limit'),
     # Names are printable, on one line, and cannot be taken for a field or for two names.
     (QUERY, area('{"cells":["89c3"]}')[:-1] + members(["a\r\nSet-Cookie: b", "a, b", 'a"b', "é", "a\\", "\u0000", "", "☃", "\u007f"]) + "}",
-     r'"", "\0", "a\r\nSet-Cookie:?b", "a\"b", "a,?b", "a\\", "\u{7f}", "?", "?"'),
-    (QUERY, area('{"cells":["89c3"]}')[:-1] + members(["n" * 64, "n" * 65]) + "}", f"{'n' * 64}, (a?name?of?65?bytes)"),
+     r'"", "\0", "a\r\nSet-Cookie: b", "a\"b", "a, b", "a\\", "\u{7f}", "?", "?"'),
+    (QUERY, area('{"cells":["89c3"]}')[:-1] + members(["n" * 64, "n" * 65]) + "}", f"{'n' * 64}, (a name of 65 bytes)"),
     (QUERY, area('{"cells":["89c3"]}')[:-1] + members(LONG_NAMES) + "}", ", ".join(LONG_NAMES)),
     (QUERY, area('{"cells":["89c3"]}')[:-1] + members(FITTING) + "}", ", ".join(FITTING)),
     (QUERY, area('{"cells":["89c3"]}')[:-1] + members([*FITTING, "z"]) + "}", ", ".join(FITTING) + CUT),

@@ -12,7 +12,7 @@ import time
 import urllib.parse
 from typing import Deque, Dict, Mapping, Optional, Tuple
 
-# The service closes an idle connection after 60 seconds, and the proxies after 50.
+# The service closes an idle connection after 75 seconds, and the proxies after 50.
 MAX_IDLE = 40.0
 MAX_BODY = 64 << 20
 

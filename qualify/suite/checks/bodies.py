@@ -106,7 +106,7 @@ def denials_are_explained(it):
     told = re.fullmatch(rf"extents: ended at {past['time_end']}; now is (\d+)", *explains(ended, "extents"))
     ended.need(told and int(told[1]) >= past["time_end"], "the time of the service")
     found = it.a.query(INTENTS, area=it.dialect.area([site]) | {"time_strat": 1, "altitude low": 0}).must(200)
-    names_ignored(found, 'area_of_interest."altitude?low"', "area_of_interest.time_strat")
+    names_ignored(found, 'area_of_interest."altitude low"', "area_of_interest.time_strat")
     names_ignored(it.a.query(INTENTS, site).must(200))
     put = it.a.put(INTENTS, id_, good | {"priority": 1, "new_subscription": {}}).must(201)
     names_ignored(put, "new_subscription", "priority")
