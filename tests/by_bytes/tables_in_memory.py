@@ -1,14 +1,16 @@
-"""Input and expected output of the program `test_sql_memory` over tables in memory, which no command of dss has.
+"""Input and expected output of the programs `test_sql_memory` and `test_sql_files` over tables in memory, which no
+command of dss has.
 
-They are drawn calls with the plain policy's responses, and searches of cells of all levels. The gate runs the
-program on these files, which tests/draw_tables writes."""
+Those of the first are drawn calls with the plain policy's responses, and searches of cells of all levels. The second
+makes three calls, and prints the bodies of the responses. The gate runs the programs on these files, which
+tests/draw_tables writes."""
 import drawn_calls
 import plain_policy
 import wire
 from drawn_calls import Draw, Drawn
 from program import TOP
 
-FOLDER = TOP / "crates" / "test_sql_memory"
+FOLDER = TOP / "crates"
 SEED, STREAMS = 7, 3
 # Streams of creations that need no key, of two volumes each, and the levels of their cells.
 CREATIONS, LEVELS = 2, range(7, 17)
@@ -51,8 +53,29 @@ def searched(airspace, token):
     return "".join(lines).encode()
 
 
+def three_runs():
+    """Returns the expected output of `test_sql_files`, whose calls are in its `src/story.rt`."""
+    airspace = plain_policy.Airspace(1_000, {"tok": ("uss-a", {wire.STRATEGIC, wire.ARBITRATION})})
+    plan = f"{wire.INTENTS}/00000000-0000-4000-8000-0000000000a1"
+    extent = {
+        "cells": ["89c25904"],
+        "altitude_lower": 0,
+        "altitude_upper": 1_200,
+        "time_start": 900,
+        "time_end": 2_000,
+    }
+    put = {"extents": [extent], "state": "Accepted", "uss_base_url": "https://a.example"}
+    calls = [
+        ("PUT", plan, wire.compact(put).encode()),
+        ("PUT", f"{wire.AVAILABILITY}/uss-a", wire.compact({"availability": "Down"}).encode()),
+        ("GET", plan, b""),
+    ]
+    responses = [airspace.ask(method, target, "Bearer tok", body) for method, target, body in calls]
+    return "".join(f"{it.body}\n" for it in responses).encode()
+
+
 def files():
-    """Returns the files of the crate by their names: tokens, streams, arguments, and the expected output."""
+    """Returns the files of the crates by their names: tokens, streams, arguments, and expected outputs."""
     draw = Draw(SEED)
     airspace = plain_policy.Airspace(drawn_calls.NOW, drawn_calls.ALL_TOKENS)
     drawn = Drawn(draw, airspace)
@@ -69,20 +92,22 @@ def files():
     for token in CELLS:
         words.append(f"cell:{token}")
         printed += searched(airspace, token)
-    return found | {"args": "".join(f"{it}\n" for it in words).encode(), "stdout": printed}
+    found |= {"args": "".join(f"{it}\n" for it in words).encode(), "stdout": printed}
+    found = {f"test_sql_memory/{name}": content for name, content in found.items()}
+    return found | {"test_sql_files/stdout": three_runs()}
 
 
 def as_drawn():
-    """The crate's files are those that this module makes."""
+    """The crates' files are those that this module makes."""
     return [
-        f"crates/test_sql_memory/{name} is not what is drawn: run tests/draw_tables"
+        f"crates/{name} is not what is drawn: run tests/draw_tables"
         for name, content in files().items()
         if not (FOLDER / name).is_file() or (FOLDER / name).read_bytes() != content
     ]
 
 
 def write():
-    """Writes the files of the crate."""
+    """Writes the files of the crates."""
     for name, content in files().items():
         (FOLDER / name).parent.mkdir(parents=True, exist_ok=True)
         (FOLDER / name).write_bytes(content)

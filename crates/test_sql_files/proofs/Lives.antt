@@ -1,17 +1,18 @@
 -- Proofs about runs of a service over files.
-use Rattle.std.specs.Prelude.{◌≡◌, ℕ, List, [], ◌∷◌, Bool, true, false, Option, Some, None, IsSome, cond, refl}
+use Rattle.std.specs.Prelude.{◌≡◌, ℕ, List, [], ◌∷◌, Bool, false, Option, Some, None, IsSome, cond, refl}
 use Rattle.std.proofs.Common.{inl, inr, sym, ap, subst, subst₂, ◌∙◌}
 use Rattle.std.proofs.Math.Logic.{∥∥₁_elim, ∥∥₁_map}
 use Rattle.std.proofs.lemmas.Cmp.{eq_by_cmp_equiv}
 use Rattle.std.specs.FinMap.{get, get-insert, insert}
-use Rattle.std.specs.Ordering.{eq_by_cmp}
 use Rattle.sqlite_disk.specs.declared.Disk as disk
 use Rattle.sqlite_disk.specs.declared.Files.{Files}
 use Rattle.sqlite_store.specs.declared.store.FileStore.{FileStore}
+use Rattle.sqlite_trees.specs.declared.store.Store as stores
 use Rattle.sqlite.specs.Files.{image_of, over_files}
+use Rattle.sqlite.specs.Held.{Held}
 use Rattle.sqlite.specs.Recovery.{Image}
 use Rattle.sqlite.specs.WalReads.{AreClean}
-use Rattle.entity_core.specs.Airspace.{Airspace, Entities, EntityKey, empty_at, key_cmp}
+use Rattle.entity_core.specs.Airspace.{Airspace, Entities, EntityKey, empty_at}
 use Rattle.entity_core.specs.Entity.{kind_of}
 use Rattle.entity_core.specs.declared.entity.Entity.{Entity}
 use Rattle.entity_core.proofs.Keys.{key_total}
@@ -38,7 +39,7 @@ use Rattle.service_recovery.proofs.Lives as lives
 use Rattle.space_sql_schema.specs.declared.format.Format.TheVariants.{Two}
 use Rattle.space_sql.specs.Found.{AreUnmade, FilesSpell, FindsSpelt}
 use Rattle.space_sql.specs.Holding.{SqlSpaceModel, holds_of, is_sound_of, is_whole_of}
-use Rattle.test_sql_files.specs.Runs.{ClosedRun, CrashedRun, HasCreated, LeavesSpace, Life, StartedRun, ThreeRuns, after, run_for}
+use Rattle.test_sql_files.specs.Runs.{ClosedRun, CrashedRun, HasCreated, LeavesConnection, Life, StartedRun, ThreeRuns, after, run_for}
 use Rattle.test_sql_files.specs.declared.runs.Told.{Told}
 
 own_entity : (m : Entities) (k : EntityKey) (e : Entity) → IsSome (get (insert m k e) k)
@@ -66,17 +67,17 @@ has_created salt a call answer h id put is = created_by salt a call.1 (first_bro
 three : (x y z p q r : Reply) → p ≡ x → q ≡ y → r ≡ z → x ∷ y ∷ z ∷ [] ≡ p ∷ q ∷ r ∷ []
 three x y z p q r e f h = λ i. sym e i ∷ sym f i ∷ sym h i ∷ []
 
+-- The run of a service over a space that was opened.
+pub leaves_connection : {S : Type 0} (g : stores.Ghosts S) (before : Image) (salt : List ℕ) (call : TimedCall) (reply : Reply) (opened end : SqlSpaceModel S) (conn : Held S) (old new : Service (SqlSpaceModel S)) → salt_of old ≡ salt → is_shut old ≡ false → space_of old ≡ opened → FindsSpelt before (words_of g) opened
+    → IsReplyTo (words_of g) old new call.0 call.1 reply → end ≡ space_of new → conn ≡ end.conn → LeavesConnection (words_of g) before salt call reply conn
+leaves_connection {S} g before salt call reply opened end conn old new salted goes over finds is same left =
+    let at : FindsSpelt before (words_of g) (space_of old) = subst (λ (k : SqlSpaceModel S). FindsSpelt before (words_of g) k) (sym over) finds in
+    let run : StartedRun (words_of g) before salt call reply = record { old = old; new = new; salted = salted; goes = goes; finds = at; replies = is } in
+    (run, left ∙ ap (λ (k : SqlSpaceModel S). k.conn) same)
+
 module _ {D : Type 0} {g : disk.Ghosts D} where
   abbrev words : spaces.Ghosts (SqlSpaceModel (FileStore D g))
   words = words_of over_files
-
-  -- The run of a service over a space that was opened.
-  pub leaves_space : (before : Image) (salt : List ℕ) (call : TimedCall) (reply : Reply) (opened end : SqlSpaceModel (FileStore D g)) (old new : Service (SqlSpaceModel (FileStore D g))) → salt_of old ≡ salt → is_shut old ≡ false → space_of old ≡ opened → FindsSpelt before words opened
-      → IsReplyTo words old new call.0 call.1 reply → end ≡ space_of new → LeavesSpace words before salt call reply end
-  leaves_space before salt call reply opened end old new salted goes over finds is same =
-      let at : FindsSpelt before words (space_of old) = subst (λ (k : SqlSpaceModel (FileStore D g)). FindsSpelt before words k) (sym over) finds in
-      let run : StartedRun words before salt call reply = record { old = old; new = new; salted = salted; goes = goes; finds = at; replies = is } in
-      (run, same)
 
   -- A run with an answer, over a copy of the salt.
   pub closed_as : (before : Image) (own salt : List ℕ) (call : TimedCall) (reply : Reply) (answer : Answer) (files : Files D) → own ≡ salt → reply ≡ Done answer → ClosedRun words before own call reply files → ClosedRun words before salt call (Done answer) files

@@ -1,5 +1,5 @@
 -- Proofs about files that a crash leaves.
-use Rattle.std.specs.Prelude.{◌≡◌, ◌≤◌, ◌&&◌, Bool, true, false, Option, Some, None, IfSome, IsTrue, refl}
+use Rattle.std.specs.Prelude.{◌≡◌, ◌&&◌, Bool, true, false, IsTrue, refl}
 use Rattle.std.proofs.Common.{inl, inr, arith, subst}
 use Rattle.std.proofs.Math.Logic.{∥∥₁_map}
 use Rattle.sqlite_disk.specs.declared.Disk as disk
@@ -17,11 +17,12 @@ use Rattle.sqlite.specs.Held.{Held}
 use Rattle.sqlite.specs.Recovery.{Image}
 use Rattle.sqlite.specs.State.{Survives}
 use Rattle.entity_core.specs.Airspace.{Airspace}
-use Rattle.space_core.specs.Space.{IsContent}
 use Rattle.space_sql_schema.specs.declared.format.Format.TheVariants.{Two}
 use Rattle.space_sql.specs.Found.{FilesSpell}
 use Rattle.space_sql.specs.Holding.{SqlSpaceModel, holds_of, is_whole_of}
 use Rattle.space_sql.specs.Restart.{FilesLeft, LeavesFiles, LeavesTrees}
+use Rattle.space_sql.proofs.Restarts.{leaves_trees}
+use Rattle.test_sql_files.specs.Files.{GivesUp}
 
 parts : (a b : Bool) → IsTrue (a && b) → IsTrue a × IsTrue b
 parts true b h = (refl, h)
@@ -65,7 +66,7 @@ module _ {D : Type 0} {g : disk.Ghosts D} where
         store_leaves it were_clean image (subst (λ (p : D × D). outcomes g p.0 p.1 image) is (may_log, may_db))
 
   -- What is left of a connection is what was left of it before a call that commits nothing.
-  pub leaves_earlier : (old new : Held (FileStore D g)) (last : FileStore D g) → Survives (file_state old) (file_state new) (λ _. ⊥) → LeavesTrees new last → LeavesTrees old last
+  leaves_earlier : (old new : Held (FileStore D g)) (last : FileStore D g) → Survives (file_state old) (file_state new) (λ _. ⊥) → LeavesTrees new last → LeavesTrees old last
   leaves_earlier old new last went left = record {
     clean = λ clean. omega (arith, went.clean, left.clean clean);
     found = λ clean image may. ∥∥₁_map (left.found clean image may) (λ it. (it.0, earlier clean it.0 it.1, it.2));
@@ -83,7 +84,7 @@ module _ {D : Type 0} {g : disk.Ghosts D} where
         let kept = whole it.0 it.1 in
         (kept.0, (it.0, it.1, kept.1), (it.0, it.2, kept.1)))
 
-    pub alive_leaves : LeavesFiles k last
+    alive_leaves : LeavesFiles k last
     alive_leaves = record {
       sound = λ clean. record { clean = left.clean clean; live = λ works. alive clean };
       trees = left;
@@ -91,7 +92,8 @@ module _ {D : Type 0} {g : disk.Ghosts D} where
       content = λ clean whole a is image may. ∥∥₁_map (found_held clean whole image may) (λ it. subst (λ b. FilesSpell Two image b) (is.only it.0 it.1) it.2);
     }
 
-  pub some_leaves : (k : SqlSpaceModel (FileStore D g)) (conn : Held (FileStore D g)) (r : Option (FileStore D g)) → conn ≡ k.conn → IfSome r (LeavesTrees conn) → IfSome r (λ last. IsClean (store.view last) → IsTrue (file_state conn).is_open) → IfSome r (LeavesFiles k)
-  some_leaves k conn None same left alive = tt
-  some_leaves k conn (Some last) same left alive =
-      alive_leaves k last (subst (λ h. LeavesTrees h last) same left) (subst (λ h. IsClean (store.view last) → IsTrue (file_state h).is_open) same alive)
+  -- What is left of a space whose connection was given up.
+  pub given_up : (k : SqlSpaceModel (FileStore D g)) (conn : Held (FileStore D g)) (last : FileStore D g) → conn ≡ k.conn → GivesUp over_files conn last → LeavesFiles k last
+  given_up k conn last same it =
+      let left = leaves_earlier conn it.now last it.went (leaves_trees it.now last it.numbered it.sound it.quiet) in
+      alive_leaves k last (subst (λ h. LeavesTrees h last) same left) (subst (λ h. IsClean (store.view last) → IsTrue (file_state h).is_open) same it.alive)

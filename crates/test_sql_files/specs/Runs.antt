@@ -1,6 +1,6 @@
 -- Runs of a service over files, each for one call. They meet all premises of the laws of
 -- `service_recovery` about such runs.
-use Rattle.std.specs.Prelude.{◌≡◌, ℕ, List, [], ◌∷◌, Ok, IsSome, false}
+use Rattle.std.specs.Prelude.{◌≡◌, ℕ, List, [], ◌∷◌, IsSome, false}
 use Rattle.std.specs.FinMap.{get}
 use Rattle.sqlite_disk.specs.declared.Disk as disk
 use Rattle.sqlite_disk.specs.declared.Files.{Files}
@@ -8,6 +8,7 @@ use Rattle.sqlite_store.specs.declared.store.FileStore.{FileStore}
 use Rattle.sqlite_store.specs.FileStore as store
 use Rattle.sqlite_trees.specs.View.{IsClean}
 use Rattle.sqlite.specs.Files.{image_of}
+use Rattle.sqlite.specs.Held.{Held}
 use Rattle.sqlite.specs.Recovery.{Image}
 use Rattle.sqlite.specs.WalReads.{AreClean}
 use Rattle.entity_core.specs.Airspace.{Airspace, empty_at}
@@ -22,7 +23,7 @@ use Rattle.service_step.specs.declared.reply.Reply.TheVariants.{Done}
 use Rattle.service_calls.specs.declared.service.Service.{Service}
 use Rattle.service_calls.specs.Held.{is_shut, salt_of, space_of}
 use Rattle.service_calls.specs.Run.{IsReplyTo, TimedCall, replies_of}
-use Rattle.service_recovery.specs.Life.{Lives, Run, StandFor, alone}
+use Rattle.service_recovery.specs.Life.{Lives, Run, alone}
 use Rattle.space_sql_schema.specs.declared.format.Format.TheVariants.{Two}
 use Rattle.space_sql.specs.Found.{AreUnmade, FilesSpell, FindsSpelt}
 use Rattle.space_sql.specs.Holding.{SqlSpaceModel}
@@ -43,34 +44,34 @@ abbrev pub HasCreated : TimedCall → Airspace → Type 0
 HasCreated call a = (id : ℕ) (put : Put) → call.1.op ≡ Create id put
     → IsSome (get a.entities (kind_of put.nature, id))
 
-module _ {D : Type 0} {g : disk.Ghosts D}
-    (space : spaces.Ghosts (SqlSpaceModel (FileStore D g))) where
+module _ {S : Type 0} (space : spaces.Ghosts (SqlSpaceModel S)) where
   -- A service was started over files with this content, and replied to this call.
   pub record StartedRun (before : Image) (salt : List ℕ) (call : TimedCall) (reply : Reply)
       : Type 0 where
-    pub old : Service (SqlSpaceModel (FileStore D g))
-    pub new : Service (SqlSpaceModel (FileStore D g))
+    pub old : Service (SqlSpaceModel S)
+    pub new : Service (SqlSpaceModel S)
     pub salted : salt_of old ≡ salt
     pub goes : is_shut old ≡ false
     pub finds : FindsSpelt before space (space_of old)
     pub replies : IsReplyTo space old new call.0 call.1 reply
 
-  -- This is its space after the call.
-  abbrev pub LeavesSpace : Image → List ℕ → TimedCall → Reply → SqlSpaceModel (FileStore D g)
-      → Type 0
-  LeavesSpace before salt call reply k =
-      (run : StartedRun before salt call reply) × (k ≡ space_of run.new)
+  -- This is the connection of its space after the call.
+  abbrev pub LeavesConnection : Image → List ℕ → TimedCall → Reply → Held S → Type 0
+  LeavesConnection before salt call reply conn =
+      (run : StartedRun before salt call reply) × (conn ≡ (space_of run.new).conn)
 
+module _ {D : Type 0} {g : disk.Ghosts D}
+    (space : spaces.Ghosts (SqlSpaceModel (FileStore D g))) where
   -- Then its space was closed, and these are the files.
   pub record ClosedRun (before : Image) (salt : List ℕ) (call : TimedCall) (reply : Reply)
       (files : Files D) : Type 0 where
-    pub run : StartedRun before salt call reply
+    pub run : StartedRun space before salt call reply
     pub closes : ClosesFiles (space_of run.new) files
 
   -- Or its space was abandoned, and a crash left these files.
   pub record CrashedRun (before : Image) (salt : List ℕ) (call : TimedCall) (reply : Reply)
       (files : Files D) : Type 0 where
-    pub run : StartedRun before salt call reply
+    pub run : StartedRun space before salt call reply
     pub last : FileStore D g
     pub leaves : LeavesFiles (space_of run.new) last
     pub clean : AreClean g files.log files.db → IsClean (store.view last)

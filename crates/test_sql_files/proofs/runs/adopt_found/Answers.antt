@@ -1,7 +1,7 @@
 use Rattle.sqlite.specs.Held.{state}
 use Rattle.space_sql.specs.Laws.{all_kept}
 use Rattle.space_sql.proofs.Founds.{finds}
-use Rattle.test_sql_files.proofs.files.adopt_found.Goals as goal
+use Rattle.test_sql_files.proofs.runs.adopt_found.Goals as goal
 
 pub returns-in-Ok : goal.returns-in-Ok
 returns-in-Ok g c = λ image opened.
