@@ -106,9 +106,10 @@ def wanted_for(request, lines, error, plain, now):
         return plain
     allowed = lines[0].partition("allows only ")[2] if rule == "P2 METHOD" else None
     found = lines if error else lines[:-1]
-    # A put that covers too much has ended, too.
+    # A put that covers too much has ended, too. Both are said before what is ignored.
     ends = [f"extents: ended at 2000; now is {now}"] if not error and request[0] == "PUT" else []
-    return refused(rule, ends + found, allowed)
+    first = 1 if rule == "P6 AREA" else 0
+    return refused(rule, found[:first] + ends + found[first:], allowed)
 
 
 def rows():
