@@ -55,6 +55,16 @@ def ask_once(connect, call):
             return False
 
 
+def of_policy(got):
+    """Returns a response without the explanation that `serve --explain`, as the unit starts it, adds to some denials."""
+    status, body = got
+    if b'"explanation":' not in body:
+        return got
+    value = json.loads(body)
+    value.pop("explanation", None)
+    return status, wire.compact(value).encode()
+
+
 @dataclasses.dataclass
 class Candidate:
     """A possible airspace, and which calls of unknown outcome were made in it."""
@@ -104,7 +114,7 @@ class Client:
             return False
         found = [
             it for it, outcome in zip(self.candidates, outcomes)
-            if (outcome.status, outcome.body.encode()) == got
+            if (outcome.status, outcome.body.encode()) == of_policy(got)
         ]
         if not found and may_be_old and (call[0] not in ("PUT", "DELETE") or got[0] not in (200, 201)):
             self.answers["old"] += 1
