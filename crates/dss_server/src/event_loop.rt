@@ -240,7 +240,7 @@ impl<N: Sockets + Drop, B: MakeBackups + Drop> EventLoop<N, B> {
             (N.history sockets.old) (N.history sockets.new) }
     {
         if let Some(client) = self.clients.connections.get(key) {
-            journal.connection_failed(fault, client.aborted());
+            journal.connection_failed(fault, client.aborted(now));
         }
         self.metrics.fail(failure_of(fault));
         self.clients.abort(sockets, key, now)

@@ -112,12 +112,14 @@ impl<T: ClientSocket> ClientConnection<T> {
         }
     }
 
-    /// Returns its description for the log, as an aborted connection.
-    pub fn aborted(&self) -> AbortedConnection {
+    /// Returns its description for the log, as a connection that is aborted now.
+    pub fn aborted(&self, now: Duration) -> AbortedConnection {
         AbortedConnection {
             client: self.io.client(),
             connection: self.number,
             phase: self.phase,
+            is_reset: self.reset,
+            at: now,
         }
     }
 
