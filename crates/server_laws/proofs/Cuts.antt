@@ -1,0 +1,262 @@
+-- The events form segments of batches.
+use Rattle.std.proofs.Common.{◌≡◌, ℕ, Bool, List, [], ◌∷◌, ◌++◌, ◌-◌, Option, Some, None, refl, sym, ap, subst, ◌∙◌, append_assoc, ◌⊎◌, inl, inr, map, Result}
+use Rattle.std.specs.List.{flat_map}
+use Rattle.std.proofs.lemmas.List.{append-nil, map-append}
+use Rattle.std.proofs.lemmas.List.Concat.{flat_map-append}
+use Rattle.space_core.specs.declared.group_commit.GroupCommit as commits
+use Rattle.space_core.specs.declared.space.Space as spaces
+use Rattle.space_core.specs.declared.space.SpaceFault.{SpaceFault}
+use Rattle.service_calls.specs.declared.service.Service.{Service}
+use Rattle.service_calls.specs.Batches.{Batch, CallRecord, CalledInOrder, IsCommitted, MadeBatches}
+use Rattle.service_calls.specs.Purged.{MadeSegments, PurgesOnce, Segment}
+use Rattle.token_conf.specs.TokenFile.{TokenFile}
+use Rattle.wire_http.specs.declared.explaining.Explaining.{Explaining}
+use Rattle.wire_http.specs.declared.moments.Moments as moments
+use Rattle.wire_http.specs.Wire.{timed}
+use Rattle.server_client.specs.declared.commit_record.CommitRecord.{CommitRecord}
+use Rattle.server_client.specs.ClientEvents.{Calls, ClientEvent, EndsStream, LosesReply, OccurAll, Occurs, ReadsClock, ServedClient, Steps, is_deferred, served_client}
+use Rattle.server_client.specs.CommitRecord.{outcome_of}
+use Rattle.server_watch.specs.Purger.{MayPurge}
+use Rattle.dss_server.specs.ServeEvents.{FollowAll, Follows, Loads, Purges, Runs, ServeEvent, ServeState}
+use Rattle.dss_server.specs.ServiceEvents.{Changes, Commits, Serves}
+use Rattle.server_laws.specs.Cut.{Act, ClientCall, Cut, EndsBatch, EventsFormSegments, FollowWith, HasActs, PurgesBetween, PurgesUpTo, act_of_call, act_of_record, acts_of_batch, acts_of_segment, calls_of_client, uncommitted_after}
+
+-- ---- calls, batches and segments one after the other
+
+module _ {S : Type 0} (g : spaces.Ghosts S) (k : commits.Ghosts S) where
+  called_then : (xs ys : List CallRecord) (old mid new : Service S) → CalledInOrder g k old xs mid → CalledInOrder g k mid ys new → CalledInOrder g k old (xs ++ ys) new
+  called_then [] ys old mid new p q = subst (λ (s : Service S). CalledInOrder g k s ys new) p q
+  called_then (x ∷ xs) ys old mid new p q = (p.0, p.1, p.2, called_then xs ys p.0 mid new p.3 q)
+
+  batches_more : (xs : List Batch) (calls : List CallRecord) (outcome : Result (Unit {0}) SpaceFault) (old mid called new : Service S) → MadeBatches g k old xs mid
+      → CalledInOrder g k mid calls called → IsCommitted g k called new outcome
+      → MadeBatches g k old (xs ++ record { calls = calls; settled = outcome } ∷ []) new
+  batches_more [] calls outcome old mid called new p q c = (called, new, subst (λ (s : Service S). CalledInOrder g k s calls called) p q, c, refl)
+  batches_more (x ∷ xs) calls outcome old mid called new p q c = (p.0, p.1, p.2, p.3, batches_more xs calls outcome p.1 mid called new p.4 q c)
+
+  segments_more : (segments : List Segment) (batches : List Batch) (until : ℕ) (old last mid new : Service S) → MadeSegments g k old segments last → MadeBatches g k last batches mid
+      → PurgesOnce g k until mid new → MadeSegments g k old (segments ++ record { batches = batches; until = until } ∷ []) new
+  segments_more [] batches until old last mid new p made purged = (mid, new, subst (λ (s : Service S). MadeBatches g k s batches mid) p made, purged, refl)
+  segments_more (segment ∷ segments) batches until old last mid new p made purged =
+      (p.0, p.1, p.2, p.3, segments_more segments batches until p.1 last mid new p.4 made purged)
+
+-- ---- the calls of one client
+
+-- The records of calls, which have these acts.
+record Records {S : Type 0} (g : spaces.Ghosts S) (k : commits.Ghosts S) (acts : List Act) (old new : Service S) : Type 0 where
+  pub calls : List CallRecord
+  pub acts_are : acts ≡ map act_of_record calls
+  pub made : CalledInOrder g k old calls new
+
+module _ {S M : Type 0} (g : spaces.Ghosts S) (k : commits.Ghosts S) (m : moments.Ghosts M) (explaining : Explaining) (table : TokenFile) (commit : CommitRecord) (key : ℕ) where
+  records_none : (old new : Service S) → new ≡ old → Records g k [] old new
+  records_none old new same = record { calls = []; acts_are = refl; made = same }
+
+  -- One event.
+  one_recorded : (x : ClientEvent) (old new : ServedClient S M) → Occurs g k m explaining table commit x old new → Records g k (map act_of_call (calls_of_client key x)) old.service new.service
+  one_recorded (Steps step) old new h = records_none old.service new.service (ap (λ v. v.service) h.2)
+  one_recorded (Calls asked reply notes) old new h =
+      let made : CallRecord = record { timed = timed asked; reply = reply; waits = is_deferred k old.service h.1 } in
+      record { calls = made ∷ []; acts_are = refl; made = (h.1, h.3.is_reply, refl, ap (λ v. v.service) h.6) }
+  one_recorded (LosesReply asked reply) old new h =
+      let made : CallRecord = record { timed = timed asked; reply = reply; waits = is_deferred k old.service h.1 } in
+      record { calls = made ∷ []; acts_are = refl; made = (h.1, h.3.is_reply, refl, ap (λ v. v.service) h.5) }
+  one_recorded (EndsStream end) old new h = records_none old.service new.service (ap (λ v. v.service) h.3)
+  one_recorded (ReadsClock (Some moment)) old new h = records_none old.service new.service (ap (λ v. v.service) h.2)
+  one_recorded (ReadsClock None) old new h = records_none old.service new.service (ap (λ v. v.service) h.2)
+
+  -- All of them.
+  recorded : (xs : List ClientEvent) (old new : ServedClient S M) → OccurAll g k m explaining table commit xs old new
+      → Records g k (map act_of_call (flat_map (calls_of_client key) xs)) old.service new.service
+  recorded [] old new h = records_none old.service new.service (ap (λ v. v.service) h)
+  recorded (x ∷ xs) old new h =
+      let p = one_recorded x old h.0 h.1 in
+      let q = recorded xs h.0 new h.2 in
+      record {
+        calls = p.calls ++ q.calls;
+        acts_are = map-append act_of_call (calls_of_client key x) (flat_map (calls_of_client key) xs)
+            ∙ ap (λ v. v ++ map act_of_call (flat_map (calls_of_client key) xs)) p.acts_are ∙ ap (λ v. map act_of_record p.calls ++ v) q.acts_are
+            ∙ sym (map-append act_of_record p.calls q.calls);
+        made = called_then g k p.calls q.calls old.service h.0.service new.service p.made q.made;
+      }
+
+-- ---- cuts that grow
+
+-- A cut, and the calls after its last commit.
+record CutSoFar {S : Type 0} (g : spaces.Ghosts S) (k : commits.Ghosts S) (acts : List Act) (calls : List ClientCall) (old new : Service S) : Type 0 where
+  pub cut : Cut g k acts old new
+  pub calls_are : map act_of_call calls ≡ map act_of_record cut.calls
+
+no_records : (calls : List CallRecord) → [] ≡ map act_of_record calls → calls ≡ []
+no_records [] h = refl
+no_records (x ∷ calls) h = cc
+
+module _ {S : Type 0} (g : spaces.Ghosts S) (k : commits.Ghosts S) where
+  cut_none : (s : Service S) → CutSoFar g k [] [] s s
+  cut_none s = record {
+    cut = record { segments = []; batches = []; calls = []; acts_are = refl; last = s; committed = s; segments_made = refl; made = refl; calls_made = refl };
+    calls_are = refl;
+  }
+
+  cut_called : (acts now : List Act) (calls more : List ClientCall) (old mid new : Service S) → CutSoFar g k acts calls old mid → now ≡ map act_of_call more → Records g k (map act_of_call more) mid new
+      → CutSoFar g k (acts ++ now) (calls ++ more) old new
+  cut_called acts now calls more old mid new p is q =
+      let c = p.cut in
+      let front = flat_map acts_of_segment c.segments in
+      let amid = flat_map acts_of_batch c.batches in
+      record {
+        cut = record {
+          segments = c.segments;
+          batches = c.batches;
+          calls = c.calls ++ q.calls;
+          acts_are = ap (λ v. v ++ now) c.acts_are ∙ append_assoc front (amid ++ map act_of_record c.calls) now ∙ ap (λ v. front ++ v) (append_assoc amid (map act_of_record c.calls) now)
+              ∙ ap (λ v. front ++ (amid ++ (map act_of_record c.calls ++ v))) (is ∙ q.acts_are) ∙ ap (λ v. front ++ (amid ++ v)) (sym (map-append act_of_record c.calls q.calls));
+          last = c.last;
+          committed = c.committed;
+          segments_made = c.segments_made;
+          made = c.made;
+          calls_made = called_then g k c.calls q.calls c.committed mid new c.calls_made q.made;
+        };
+        calls_are = map-append act_of_call calls more ∙ ap (λ v. v ++ map act_of_call more) p.calls_are ∙ ap (λ v. map act_of_record c.calls ++ v) q.acts_are
+            ∙ sym (map-append act_of_record c.calls q.calls);
+      }
+
+  cut_committed : (acts : List Act) (calls : List ClientCall) (outcome : Result (Unit {0}) SpaceFault) (old mid new : Service S) → CutSoFar g k acts calls old mid → IsCommitted g k mid new outcome
+      → CutSoFar g k (acts ++ EndsBatch outcome ∷ []) [] old new
+  cut_committed acts calls outcome old mid new p q =
+      let c = p.cut in
+      let front = flat_map acts_of_segment c.segments in
+      let amid = flat_map acts_of_batch c.batches in
+      let these = map act_of_record c.calls in
+      let batch : Batch = record { calls = c.calls; settled = outcome } in
+      record {
+        cut = record {
+          segments = c.segments;
+          batches = c.batches ++ batch ∷ [];
+          calls = [];
+          acts_are = ap (λ v. v ++ EndsBatch outcome ∷ []) c.acts_are ∙ append_assoc front (amid ++ these) (EndsBatch outcome ∷ []) ∙ ap (λ v. front ++ v) (append_assoc amid these (EndsBatch outcome ∷ []))
+              ∙ ap (λ v. front ++ (amid ++ v)) (sym (append-nil (these ++ EndsBatch outcome ∷ []))) ∙ ap (λ v. front ++ v) (sym (flat_map-append acts_of_batch c.batches (batch ∷ [])))
+              ∙ ap (λ v. front ++ v) (sym (append-nil (flat_map acts_of_batch (c.batches ++ batch ∷ []))));
+          last = c.last;
+          committed = new;
+          segments_made = c.segments_made;
+          made = batches_more g k c.batches c.calls outcome c.last c.committed mid new c.made c.calls_made q;
+          calls_made = refl;
+        };
+        calls_are = refl;
+      }
+
+  cut_purged : (acts : List Act) (calls : List ClientCall) (until : ℕ) (old mid new : Service S) → CutSoFar g k acts calls old mid → calls ≡ [] → PurgesOnce g k until mid new
+      → CutSoFar g k (acts ++ PurgesUpTo until ∷ []) calls old new
+  cut_purged acts calls until old mid new p none q =
+      let c = p.cut in
+      let front = flat_map acts_of_segment c.segments in
+      let amid = flat_map acts_of_batch c.batches in
+      let empty = no_records c.calls (sym (ap (λ v. map act_of_call v) none) ∙ p.calls_are) in
+      let chunk : Segment = record { batches = c.batches; until = until } in
+      let same : mid ≡ c.committed = subst (λ (v : List CallRecord). CalledInOrder g k c.committed v mid) empty c.calls_made in
+      record {
+        cut = record {
+          segments = c.segments ++ chunk ∷ [];
+          batches = [];
+          calls = [];
+          acts_are = ap (λ v. v ++ PurgesUpTo until ∷ []) (c.acts_are ∙ ap (λ v. front ++ (amid ++ map act_of_record v)) empty ∙ ap (λ v. front ++ v) (append-nil amid))
+              ∙ append_assoc front amid (PurgesUpTo until ∷ []) ∙ ap (λ v. front ++ v) (sym (append-nil (amid ++ PurgesUpTo until ∷ [])))
+              ∙ sym (flat_map-append acts_of_segment c.segments (chunk ∷ [])) ∙ sym (append-nil (flat_map acts_of_segment (c.segments ++ chunk ∷ [])));
+          last = new;
+          committed = new;
+          segments_made = segments_more g k c.segments c.batches until old c.last mid new c.segments_made (subst (λ (s : Service S). MadeBatches g k c.last c.batches s) (sym same) c.made) q;
+          made = refl;
+          calls_made = refl;
+        };
+        calls_are = ap (λ v. map act_of_call v) none;
+      }
+
+  cut_same : (acts : List Act) (calls : List ClientCall) (old mid new : Service S) → CutSoFar g k acts calls old mid → new ≡ mid → CutSoFar g k (acts ++ []) calls old new
+  cut_same acts calls old mid new p same =
+      subst (λ (v : List Act). CutSoFar g k v calls old new) (sym (append-nil acts)) (subst (λ (s : Service S). CutSoFar g k acts calls old s) (sym same) p)
+
+-- ---- events
+
+-- What an event adds to a cut.
+record Adds {S M : Type 0} (g : spaces.Ghosts S) (k : commits.Ghosts S) (x : ServeEvent) (acts : List Act) (calls : List ClientCall) (start : Service S) (old new : ServeState S M) : Type 0 where
+  pub now : List Act
+  pub has : HasActs x old new now
+  pub cut : CutSoFar g k (acts ++ now) (uncommitted_after x calls) start new.served.service
+
+between_after : (x : ServeEvent) (calls : List ClientCall) (xs : List ServeEvent) → PurgesBetween calls (x ∷ xs) → PurgesBetween (uncommitted_after x calls) xs
+between_after (Runs event) calls xs h = h
+between_after Purges calls xs h = h.1
+between_after (Loads table) calls xs h = h
+
+module _ {S M : Type 0} (g : spaces.Ghosts S) (k : commits.Ghosts S) (m : moments.Ghosts M) (gives : List ℕ → Type 0) (explaining : Explaining) (first : TokenFile) where
+  purge_adds : (keep : Option ℕ) (acts : List Act) (calls : List ClientCall) (start : Service S) (old new : ServeState S M) (clock : M) → CutSoFar g k acts calls start old.served.service → calls ≡ []
+      → MayPurge g k m keep old.served.service new.served.service old.served.clock clock → Adds g k Purges acts calls start old new
+  purge_adds None acts calls start old new clock p none h =
+      elim h [
+        | inl nothing ↦ record { now = []; has = inl refl; cut = cut_same g k acts calls start old.served.service new.served.service p nothing.0 }
+        | inr chunk ↦ absurd chunk
+      ]
+  purge_adds (Some keep) acts calls start old new clock p none h =
+      elim h [
+        | inl nothing ↦ record { now = []; has = inl refl; cut = cut_same g k acts calls start old.served.service new.served.service p nothing.0 }
+        | inr chunk ↦ record {
+          now = PurgesUpTo (chunk.0 - keep) ∷ [];
+          has = inr (chunk.0 - keep, refl);
+          cut = cut_purged g k acts calls (chunk.0 - keep) start old.served.service new.served.service p none chunk.2;
+        }
+      ]
+
+  event_adds : (keep : Option ℕ) (x : ServeEvent) (acts : List Act) (calls : List ClientCall) (start : Service S) (old new : ServeState S M) (xs : List ServeEvent)
+      → CutSoFar g k acts calls start old.served.service → Follows g k m explaining gives keep first x old new → PurgesBetween calls (x ∷ xs) → Adds g k x acts calls start old new
+  event_adds keep (Runs (Changes change)) acts calls start old new xs p h between = record {
+    now = [];
+    has = refl;
+    cut = cut_same g k acts calls start old.served.service new.served.service p (ap (λ v. v.served.service) h.2 ∙ ap (λ v. v.service) h.1.2);
+  }
+  event_adds keep (Runs (Serves key name events)) acts calls start old new xs p h between =
+      let more = flat_map (calls_of_client key) events in
+      let q = recorded g k m explaining old.table old.served.clients.commit key events (served_client old.served.service old.served.clock h.1.0) h.1.3 h.1.4 in
+      let same : new.served.service ≡ h.1.3.service = ap (λ v. v.served.service) h.2 ∙ ap (λ v. v.service) h.1.5 in
+      record {
+        now = map act_of_call more;
+        has = refl;
+        cut = cut_called g k acts (map act_of_call more) calls more start old.served.service new.served.service p refl
+            (subst (λ (s : Service S). Records g k (map act_of_call more) old.served.service s) (sym same) q);
+      }
+  event_adds keep (Runs Commits) acts calls start old new xs p h between =
+      let same : new.served.service ≡ h.1.0 = ap (λ v. v.served.service) h.2 ∙ ap (λ v. v.service) h.1.4 in
+      let commit : new.served.clients.commit ≡ h.1.1 = ap (λ v. v.served.clients.commit) h.2 ∙ ap (λ v. v.clients.commit) h.1.4 in
+      let committed = subst (λ (s : Service S). IsCommitted g k old.served.service s (outcome_of h.1.1)) (sym same) h.1.2 in
+      record {
+        now = EndsBatch (outcome_of new.served.clients.commit) ∷ [];
+        has = refl;
+        cut = cut_committed g k acts calls (outcome_of new.served.clients.commit) start old.served.service new.served.service p
+            (subst (λ (c : CommitRecord). IsCommitted g k old.served.service new.served.service (outcome_of c)) (sym commit) committed);
+      }
+  event_adds keep Purges acts calls start old new xs p h between =
+      let same : h.0 ≡ new.served.service = sym (ap (λ v. v.served.service) h.3) in
+      purge_adds keep acts calls start old new h.1 p between.0 (subst (λ (s : Service S). MayPurge g k m keep old.served.service s old.served.clock h.1) same h.2)
+  event_adds keep (Loads table) acts calls start old new xs p h between = record {
+    now = [];
+    has = refl;
+    cut = cut_same g k acts calls start old.served.service new.served.service p (ap (λ v. v.served.service) h.1);
+  }
+
+  events_cut : (keep : Option ℕ) (events : List ServeEvent) (done : List Act) (calls : List ClientCall) (start : Service S) (old new : ServeState S M)
+      → CutSoFar g k done calls start old.served.service → FollowAll g k m explaining gives keep first events old new → PurgesBetween calls events
+      → (acts : List Act) × FollowWith g k m explaining gives keep first events acts old new × Cut g k (done ++ acts) start new.served.service
+  events_cut keep [] done calls start old new p h between =
+      ([], (refl, h), (cut_same g k done calls start old.served.service new.served.service p (ap (λ v. v.served.service) h)).cut)
+  events_cut keep (x ∷ xs) done calls start old new p h between =
+      let one = event_adds keep x done calls start old h.0 xs p h.1 between in
+      let rest = events_cut keep xs (done ++ one.now) (uncommitted_after x calls) start h.0 new one.cut h.2 (between_after x calls xs between) in (
+        one.now ++ rest.0,
+        (h.0, one.now, rest.0, refl, h.1, one.has, rest.1),
+        subst (λ (v : List Act). Cut g k v start new.served.service) (append_assoc done one.now rest.0) rest.2,
+      )
+
+module _ {S M : Type 0} (g : spaces.Ghosts S) (k : commits.Ghosts S) (m : moments.Ghosts M) (gives : List ℕ → Type 0) where
+  pub form_segments : EventsFormSegments g k m gives
+  form_segments explaining keep first events old new h between =
+      events_cut g k m gives explaining first keep events [] [] old.served.service old new (cut_none g k old.served.service) h between

@@ -1,0 +1,250 @@
+-- What one client sent and was sent over a sequence of events.
+use Rattle.std.specs.Prelude.{◌≡◌, ◌==◌, ◌+◌, ℕ, Bool, true, false, List, [], ◌∷◌, ◌++◌, length, map, Option, Some, None, Result, Ok, Err, if◌then◌else◌}
+use Rattle.std.specs.List.{AllByRecursion, concat, flat_map}
+use Rattle.space_core.specs.declared.group_commit.GroupCommit as commits
+use Rattle.space_core.specs.declared.space.Space as spaces
+use Rattle.space_core.specs.declared.space.SpaceFault.{SpaceFault}
+use Rattle.service_calls.specs.Service.{reply_of}
+use Rattle.service_step.specs.declared.call_fault.CallFault.TheVariants as halts
+use Rattle.service_step.specs.declared.reply.Reply.{Reply}
+use Rattle.token_conf.specs.TokenFile.{Callers, TokenFile, callers_of}
+use Rattle.wire_http.specs.declared.end.End.{End}
+use Rattle.wire_http.specs.declared.explaining.Explaining.{Explaining}
+use Rattle.wire_http.specs.declared.moments.Moments as moments
+use Rattle.wire_http.specs.Text.{noted_text, end_texts, response_text}
+use Rattle.wire_http.specs.Wire.{RequestCall}
+use Rattle.server_client.specs.CallOrder.{IsInOrder}
+use Rattle.server_client.specs.ClientEvents.{Calls, ClientEvent, EndsStream, LosesReply, ReadsClock, Steps}
+use Rattle.server_client.specs.ClientState.{Aborts, ClientState, ClientStep, Discards, Drops, Receives, ReceivesEnd, Releases, Sends, new_client}
+use Rattle.dss_server.specs.ClientSet.{Accepts, Closes, Refuses, SetChange, TakesSteps}
+use Rattle.dss_server.specs.ServeEvents.{FollowAll, Loads, Purges, Runs, ServeEvent, ServeState}
+use Rattle.dss_server.specs.ServiceEvents.{Changes, Commits, Serves, ServiceEvent}
+use Rattle.server_laws.specs.Cut.{Act, EndsBatch, FollowWith, PurgesUpTo, Replies}
+
+-- ---- the events of one client
+
+abbrev pub events_of_change : (key : ℕ) → SetChange → List ClientEvent
+events_of_change key (Accepts other name) = []
+events_of_change key (Refuses name) = []
+events_of_change key (TakesSteps other name steps) =
+    if key == other then map (λ step. Steps step) steps else []
+events_of_change key (Closes other) = []
+
+abbrev pub events_of_service : (key : ℕ) → ServiceEvent → List ClientEvent
+events_of_service key (Changes change) = events_of_change key change
+events_of_service key (Serves other name events) = if key == other then events else []
+events_of_service key Commits = []
+
+-- The events of the client under a key.
+abbrev pub events_for : (key : ℕ) → ServeEvent → List ClientEvent
+events_for key (Runs event) = events_of_service key event
+events_for key Purges = []
+events_for key (Loads table) = []
+
+-- Returns true if the event closes the client under a key.
+abbrev pub closes : (key : ℕ) → ServeEvent → Bool
+closes key (Runs (Changes (Accepts other name))) = false
+closes key (Runs (Changes (Refuses name))) = false
+closes key (Runs (Changes (TakesSteps other name steps))) = false
+closes key (Runs (Changes (Closes other))) = key == other
+closes key (Runs (Serves other name events)) = false
+closes key (Runs Commits) = false
+closes key Purges = false
+closes key (Loads table) = false
+
+-- ---- bytes and calls
+
+-- The bytes that were sent to the client, and those that were received from it and not discarded.
+abbrev pub sent_by_step : ClientStep → List ℕ
+sent_by_step (Receives bytes) = []
+sent_by_step ReceivesEnd = []
+sent_by_step (Discards bytes) = []
+sent_by_step (Sends bytes) = bytes
+sent_by_step Releases = []
+sent_by_step Drops = []
+sent_by_step Aborts = []
+
+abbrev pub received_by_step : ClientStep → List ℕ
+received_by_step (Receives bytes) = bytes
+received_by_step ReceivesEnd = []
+received_by_step (Discards bytes) = []
+received_by_step (Sends bytes) = []
+received_by_step Releases = []
+received_by_step Drops = []
+received_by_step Aborts = []
+
+abbrev pub sent_by : ClientEvent → List ℕ
+sent_by (Steps step) = sent_by_step step
+sent_by (Calls asked reply notes) = []
+sent_by (LosesReply asked reply) = []
+sent_by (EndsStream end) = []
+sent_by (ReadsClock moment) = []
+
+abbrev pub received_by : ClientEvent → List ℕ
+received_by (Steps step) = received_by_step step
+received_by (Calls asked reply notes) = []
+received_by (LosesReply asked reply) = []
+received_by (EndsStream end) = []
+received_by (ReadsClock moment) = []
+
+abbrev pub sent_to : (key : ℕ) → List ServeEvent → List ℕ
+sent_to key events = flat_map (λ event. flat_map sent_by (events_for key event)) events
+
+abbrev pub received_from : (key : ℕ) → List ServeEvent → List ℕ
+received_from key events = flat_map (λ event. flat_map received_by (events_for key event)) events
+
+-- A call of a client with the callers of the active table, its reply as it was made, the texts in
+-- its response, and the number of commits before it.
+pub record ClientResponse : Type 0 where
+  pub callers : Callers
+  pub asked : RequestCall
+  pub reply : Reply
+  pub notes : List (List ℕ)
+  pub commits : ℕ
+
+abbrev pub responses_by : Callers → (commits : ℕ) → ClientEvent → List ClientResponse
+responses_by callers commits (Steps step) = []
+responses_by callers commits (Calls asked reply notes) = record {
+  callers = callers;
+  asked = asked;
+  reply = reply;
+  notes = notes;
+  commits = commits;
+} ∷ []
+responses_by callers commits (LosesReply asked reply) = []
+responses_by callers commits (EndsStream end) = []
+responses_by callers commits (ReadsClock moment) = []
+
+-- The table and the number of commits after an event.
+abbrev pub table_after : ServeEvent → TokenFile → TokenFile
+table_after (Runs event) table = table
+table_after Purges table = table
+table_after (Loads other) table = other
+
+abbrev pub commits_after : ServeEvent → (commits : ℕ) → ℕ
+commits_after (Runs (Changes change)) commits = commits
+commits_after (Runs (Serves key name events)) commits = commits
+commits_after (Runs Commits) commits = commits + 1
+commits_after Purges commits = commits
+commits_after (Loads table) commits = commits
+
+-- The answered calls of the client, in order. A call whose response is lost is not among them.
+-- `commits` commits came before the events.
+abbrev pub responses_to : (key : ℕ) → TokenFile → (commits : ℕ) → List ServeEvent
+    → List ClientResponse
+responses_to key table commits [] = []
+responses_to key table commits (event ∷ events) =
+    flat_map (responses_by (callers_of table) commits) (events_for key event)
+    ++ responses_to key (table_after event table) (commits_after event commits) events
+
+-- ---- responses
+
+-- The text of the response to the reply as it was made.
+abbrev pub text_of : ClientResponse → List ℕ
+text_of r = noted_text r.notes r.asked.endpoint r.asked.closing r.reply
+
+-- A response that was released: whether it had been deferred, and the outcome of the commit of its
+-- batch, or `Ok` if it had not.
+pub record ReleasedResponse : Type 0 where
+  pub response : ClientResponse
+  pub waited : Bool
+  pub outcome : Result (Unit {0}) SpaceFault
+
+-- The text of a released response. If the commit failed, it is that of the fault.
+abbrev pub released_text : ClientResponse → (waited : Bool) → Result (Unit {0}) SpaceFault → List ℕ
+released_text r true (Ok x) = text_of r
+released_text r true (Err fault) =
+    response_text r.asked.endpoint r.asked.closing (reply_of (halts.Space fault))
+released_text r false outcome = text_of r
+
+abbrev pub text_of_released : ReleasedResponse → List ℕ
+text_of_released released = released_text released.response released.waited released.outcome
+
+-- What became of the last response of a client: it was released, it is deferred, the stream ended
+-- after it, or it was deferred and dropped.
+pub data LastResponse : Type 0 where
+  IsReleased : LastResponse
+  IsDeferred : (response : ClientResponse) → LastResponse
+  HasEnded : (end : End) → LastResponse
+  IsDropped : (response : ClientResponse) → LastResponse
+
+-- The responses that were not released.
+abbrev pub unreleased : LastResponse → List ClientResponse
+unreleased IsReleased = []
+unreleased (IsDeferred response) = response ∷ []
+unreleased (HasEnded end) = []
+unreleased (IsDropped response) = response ∷ []
+
+-- The text after all responses: that of the protocol rule that ended the stream, if one did.
+abbrev pub last_text : LastResponse → List ℕ
+last_text IsReleased = []
+last_text (IsDeferred response) = []
+last_text (HasEnded end) = concat (end_texts end)
+last_text (IsDropped response) = []
+
+-- The text that may not be sent yet.
+abbrev pub deferred_text : LastResponse → List ℕ
+deferred_text IsReleased = []
+deferred_text (IsDeferred response) = text_of response
+deferred_text (HasEnded end) = []
+deferred_text (IsDropped response) = []
+
+-- The outcomes of the commits, in order.
+abbrev pub outcome_by : Act → List (Result (Unit {0}) SpaceFault)
+outcome_by (Replies call reply) = []
+outcome_by (EndsBatch outcome) = outcome ∷ []
+outcome_by (PurgesUpTo until) = []
+
+abbrev pub outcomes_in : List Act → List (Result (Unit {0}) SpaceFault)
+outcomes_in acts = flat_map outcome_by acts
+
+-- Holds if the commit after `n` others had this outcome.
+abbrev pub HasOutcome : List (Result (Unit {0}) SpaceFault) → (n : ℕ)
+    → Result (Unit {0}) SpaceFault → Type 0
+HasOutcome outcomes n outcome = (before : List (Result (Unit {0}) SpaceFault))
+    × (after : List (Result (Unit {0}) SpaceFault))
+    × (outcomes ≡ before ++ outcome ∷ after) × (length before ≡ n)
+
+-- Holds if a response that had been deferred was released after the first commit that followed its
+-- call, and with the outcome of that commit.
+abbrev pub IsToldBy : List (Result (Unit {0}) SpaceFault) → ClientResponse → (waited : Bool)
+    → Result (Unit {0}) SpaceFault → Type 0
+IsToldBy outcomes response true outcome = HasOutcome outcomes response.commits outcome
+IsToldBy outcomes response false outcome = Unit {0}
+
+abbrev pub IsTold : List (Result (Unit {0}) SpaceFault) → ReleasedResponse → Type 0
+IsTold outcomes released =
+    IsToldBy outcomes released.response released.waited released.outcome
+
+-- ---- the law
+
+-- What is known of a client in a state, after events with these acts since it was accepted.
+pub record ServedFor (key name : ℕ) (table : TokenFile) (events : List ServeEvent) (acts : List Act)
+    (l : ClientState) : Type 0 where
+  pub name_is : l.name ≡ name
+  pub released : List ReleasedResponse
+  pub last : LastResponse
+  -- Its responses are those to its calls, in order, each once. All but the last were released.
+  pub responses : responses_to key table 0 events
+      ≡ map (λ each. each.response) released ++ unreleased last
+  -- No response that had been deferred was released before its commit.
+  pub told : AllByRecursion (IsTold (outcomes_in acts)) released
+  -- The sent bytes, and those that may be sent, are the released responses, in order.
+  pub sent : sent_to key events ++ l.ready ≡ flat_map text_of_released released ++ last_text last
+  pub unsent : l.output ≡ l.ready ++ deferred_text last
+  -- Its calls are those of the first requests in its bytes, in order.
+  pub in_order : IsInOrder (received_from key events)
+      (map (λ each. (each.callers, each.asked)) (responses_to key table 0 events)) l
+
+-- States what each client was sent, from the state in which it was accepted, as long as it is not
+-- closed.
+module _ {S M : Type 0} (g : spaces.Ghosts S) (k : commits.Ghosts S) (m : moments.Ghosts M)
+    (gives : List ℕ → Type 0) where
+  abbrev pub EachClientIsServed : Type 0
+  EachClientIsServed = (explaining : Explaining) (keep : Option ℕ) (first : TokenFile)
+      (events : List ServeEvent) (acts : List Act) (old new : ServeState S M) (key name : ℕ)
+      → FollowWith g k m explaining gives keep first events acts old new
+      → old.served.clients.states key ≡ Some (new_client name)
+      → AllByRecursion (λ event. closes key event ≡ false) events
+      → (l : ClientState) × (new.served.clients.states key ≡ Some l)
+      × ServedFor key name old.table events acts l
