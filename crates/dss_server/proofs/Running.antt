@@ -1,5 +1,5 @@
 -- How the events of the service and of `serve` follow one another.
-use Rattle.std.proofs.Common.{◌≡◌, ℕ, List, [], ◌∷◌, ◌++◌, Option, Some, None, refl, sym, ap, subst, ◌∙◌, ◌⊎◌, inl, inr, map, Result}
+use Rattle.std.proofs.Common.{◌≡◌, ℕ, List, [], ◌∷◌, ◌++◌, Option, Some, None, refl, sym, ap, subst, ◌∙◌, ◌⊎◌, inl, inr, map, Bool, false, Result}
 use Rattle.std.specs.Prelude.{unwrap_or}
 use Rattle.std.specs.declared.time.Duration.{Duration}
 use Rattle.std.specs.List.{flat_map}
@@ -28,8 +28,8 @@ use Rattle.server_watch.specs.TokenWatch.{LooksOnce}
 use Rattle.server_watch.specs.declared.token_watch.TokenSource as sources
 use Rattle.server_watch.specs.declared.token_watch.TokenWatch.{TokenWatch}
 use Rattle.dss_server.specs.ClientSet.{ChangesBy, Clients, SetChange, SetChanges, clients_with, history_of_change, no_clients}
-use Rattle.dss_server.specs.ServeEvents.{FollowAll, Follows, Looks, Purges, Runs, ServeEvent, ServeRuns, ServeState, ServesEachClient, WatchedTable, history_of_serve, serve_state, watched}
-use Rattle.dss_server.specs.ServiceEvents.{Changes, Commits, CommitsBatch, HappenAll, Happens, MayCommitBatch, ServedClients, Serves, ServiceEvent, ServiceRuns, history_of_service, served_clients}
+use Rattle.dss_server.specs.ServeEvents.{FollowAll, Follows, Looks, Purges, PurgesBetween, Runs, ServeEvent, ServeRuns, ServeState, ServesEachClient, WatchedTable, history_of_serve, is_called_since, serve_state, watched}
+use Rattle.dss_server.specs.ServiceEvents.{Changes, Commits, CommitsBatch, HappenAll, Happens, MayCommitBatch, ServedClients, Serves, ServiceBatches, ServiceEvent, ServiceRuns, history_of_service, is_called_after, is_called_in, served_clients}
 use Rattle.dss_server.proofs.Clients.{changes_none, changes_then, client_there, clients_put}
 
 -- The changes as events of the service.
@@ -115,6 +115,29 @@ module _ {S M : Type 0} (g : spaces.Ghosts S) (k : commits.Ghosts S) (m : moment
       (runs_then (served_clients service clock mid) (served_clients service' clock after) (served_clients service' clock new) between between now committed
       (runs_changes service' clock after new between now q.changes))
 
+  changes_call_nothing : (xs : List SetChange) (called : Bool) → is_called_in (map_changes xs) called ≡ called
+  changes_call_nothing [] called = refl
+  changes_call_nothing (x ∷ xs) called = changes_call_nothing xs called
+
+  called_then : (xs ys : List ServiceEvent) (called : Bool) → is_called_in (xs ++ ys) called ≡ is_called_in ys (is_called_in xs called)
+  called_then [] ys called = refl
+  called_then (x ∷ xs) ys called = called_then xs ys (is_called_after x called)
+
+  -- Batches: changes without a call, and events up to a commit.
+  pub batches_changes : (service : Service S) (clock : M) (old new : Clients) (past now : Option (List HistoryEvent)) → SetChanges old new past now
+      → ServiceBatches g k m explaining table (served_clients service clock old) (served_clients service clock new) past now
+  unfolding runs_changes
+  batches_changes service clock old new past now h = record { runs = runs_changes service clock old new past now h; committed = changes_call_nothing h.changes false }
+
+  pub batches_committed : (old : ServedClients S M) (service service' : Service S) (clock : M) (mid new : Clients) (past between now : Option (List HistoryEvent))
+      → RunsTo old (served_clients service clock mid) past between → CommitsBatch g k service service' mid new between now
+      → ServiceBatches g k m explaining table old (served_clients service' clock new) past now
+  unfolding runs_batch runs_then runs_once runs_changes
+  batches_committed old service service' clock mid new past between now p q = record {
+    runs = runs_batch old service service' clock mid new past between now p q;
+    committed = called_then p.events (Commits ∷ map_changes q.changes.changes) false ∙ changes_call_nothing q.changes.changes false;
+  }
+
   pub runs_may_commit : (old : ServedClients S M) (service service' : Service S) (clock : M) (mid new : Clients) (past between now : Option (List HistoryEvent))
       → RunsTo old (served_clients service clock mid) past between → MayCommitBatch g k service service' mid new between now → RunsTo old (served_clients service' clock new) past now
   runs_may_commit old service service' clock mid new past between now p q =
@@ -161,6 +184,37 @@ runs_recorded : (xs : List ServiceEvent) → flat_map history_of_serve (map_runs
 runs_recorded [] = refl
 runs_recorded (x ∷ xs) = ap (λ v. history_of_service x ++ v) (runs_recorded xs)
 
+runs_called : (xs : List ServiceEvent) (called : Bool) → is_called_since (map_runs xs) called ≡ is_called_in xs called
+runs_called [] called = refl
+runs_called (x ∷ xs) called = runs_called xs (is_called_after x called)
+
+runs_between : (xs : List ServiceEvent) (called : Bool) → PurgesBetween (map_runs xs) called
+runs_between [] called = tt
+runs_between (x ∷ xs) called = runs_between xs (is_called_after x called)
+
+since_called : (xs ys : List ServeEvent) (called : Bool) → is_called_since (xs ++ ys) called ≡ is_called_since ys (is_called_since xs called)
+since_called [] ys called = refl
+since_called (Runs x ∷ xs) ys called = since_called xs ys (is_called_after x called)
+since_called (Purges ∷ xs) ys called = since_called xs ys called
+since_called (Looks now taken ∷ xs) ys called = since_called xs ys called
+
+since_between : (xs ys : List ServeEvent) (called : Bool) → PurgesBetween xs called → PurgesBetween ys (is_called_since xs called) → PurgesBetween (xs ++ ys) called
+since_between [] ys called p q = q
+since_between (Runs x ∷ xs) ys called p q = since_between xs ys (is_called_after x called) p q
+since_between (Purges ∷ xs) ys called p q = (p.0, since_between xs ys called p.1 q)
+since_between (Looks now taken ∷ xs) ys called p q = since_between xs ys called p q
+
+-- Holds if purges come between batches, and each batch has ended.
+pub record InBatches (events : List ServeEvent) : Type 0 where
+  pub purges : PurgesBetween events false
+  pub committed : is_called_since events false ≡ false
+
+batches_then : (xs ys : List ServeEvent) → InBatches xs → InBatches ys → InBatches (xs ++ ys)
+batches_then xs ys p q = record {
+  purges = since_between xs ys false p.purges (subst (λ (b : Bool). PurgesBetween ys b) (sym p.committed) q.purges);
+  committed = since_called xs ys false ∙ ap (λ (b : Bool). is_called_since ys b) p.committed ∙ q.committed;
+}
+
 module _ {S M T : Type 0} (g : spaces.Ghosts S) (k : commits.Ghosts S) (m : moments.Ghosts M) (explaining : Explaining) (t : sources.Ghosts T) (keep : Option ℕ) (first : TokenFile) (start : TokenWatch T) where
   -- A run of `serve` in this context.
   abbrev GoesTo : ServeState S M T → ServeState S M T → (past now : Option (List HistoryEvent)) → Type 0
@@ -190,17 +244,19 @@ module _ {S M T : Type 0} (g : spaces.Ghosts S) (k : commits.Ghosts S) (m : mome
   -- What was served since the start: the service, its clock, its clients and the active table.
   pub record ServesSince (old : Service S) (clock : M) (new : Service S) (clock' : M) (clients : Clients) (active : WatchedTable T) (past now : Option (List HistoryEvent)) : Type 0 where
     pub runs : GoesTo (serve_state (served_clients old clock no_clients) (watched first start)) (serve_state (served_clients new clock' clients) active) past now
+    pub batches : InBatches runs.events
 
   pub since_none : (service : Service S) (clock : M) (clients : Clients) (past now : Option (List HistoryEvent)) → clients ≡ no_clients → now ≡ past
       → ServesSince service clock service clock clients (watched first start) past now
   since_none service clock clients past now none same = record {
     runs = record { events = []; follow = ap (λ v. serve_state (served_clients service clock v) (watched first start)) none; history = extends_same past now same };
+    batches = record { purges = tt; committed = refl };
   }
 
   pub since_serves : (old new : Service S) (clock clock' : M) (clients : Clients) (active : WatchedTable T) (past now : Option (List HistoryEvent))
       → ServesSince old clock new clock' clients active past now → ServesEachClient g k m explaining t keep first start old new clock clock' past now
   since_serves old new clock clock' clients active past now p =
-      record { end = serve_state (served_clients new clock' clients) active; runs = p.runs; service_is = refl; clock_is = refl }
+      record { end = serve_state (served_clients new clock' clients) active; runs = p.runs; purges = p.batches.purges; committed = p.batches.committed; service_is = refl; clock_is = refl }
 
   -- Nothing was served.
   pub serves_still : (service : Service S) (clock : M) (past : Option (List HistoryEvent)) → ServesEachClient g k m explaining t keep first start service service clock clock past past
@@ -213,17 +269,20 @@ module _ {S M T : Type 0} (g : spaces.Ghosts S) (k : commits.Ghosts S) (m : mome
 
   -- Events of the service under the active table.
   since_runs : (old mid new : Service S) (clock between clock' : M) (c0 c1 : Clients) (active : WatchedTable T) (past h0 h1 : Option (List HistoryEvent))
-      → ServesSince old clock mid between c0 active past h0 → ServiceRuns g k m explaining active.table (served_clients mid between c0) (served_clients new clock' c1) h0 h1
+      → ServesSince old clock mid between c0 active past h0 → ServiceBatches g k m explaining active.table (served_clients mid between c0) (served_clients new clock' c1) h0 h1
       → ServesSince old clock new clock' c1 active past h1
+  unfolding serve_then
   since_runs old mid new clock between clock' c0 c1 active past h0 h1 p q =
       let at = serve_state (served_clients mid between c0) active in
       let end = serve_state (served_clients new clock' c1) active in
       record {
         runs = serve_then (serve_state (served_clients old clock no_clients) (watched first start)) at end past h0 h1 p.runs (record {
-          events = map_runs q.events;
-          follow = runs_follow q.events active (served_clients mid between c0) (served_clients new clock' c1) q.happen;
-          history = subst (λ (v : List HistoryEvent). Extends h0 h1 v) (sym (runs_recorded q.events)) q.history;
+          events = map_runs q.runs.events;
+          follow = runs_follow q.runs.events active (served_clients mid between c0) (served_clients new clock' c1) q.runs.happen;
+          history = subst (λ (v : List HistoryEvent). Extends h0 h1 v) (sym (runs_recorded q.runs.events)) q.runs.history;
         });
+        batches = batches_then p.runs.events (map_runs q.runs.events) p.batches
+            (record { purges = runs_between q.runs.events false; committed = runs_called q.runs.events false ∙ q.committed });
       }
 
   newest : (newer taken : Option TokenFile) (served : ServedClients S M) (watch : TokenWatch T)
@@ -234,6 +293,7 @@ module _ {S M T : Type 0} (g : spaces.Ghosts S) (k : commits.Ghosts S) (m : mome
   since_looks : (old new : Service S) (clock clock' : M) (clients : Clients) (newer taken : Option TokenFile) (time : Duration) (w0 w1 : TokenWatch T) (past now : Option (List HistoryEvent))
       → ServesSince old clock new clock' clients (watched (unwrap_or newer first) w0) past now → LooksOnce t first time w0 w1 taken
       → ServesSince old clock new clock' clients (watched (unwrap_or (option_or taken newer) first) w1) past now
+  unfolding serve_then serve_once
   since_looks old new clock clock' clients newer taken time w0 w1 past now p looks =
       let served = served_clients new clock' clients in
       let at = serve_state served (watched (unwrap_or newer first) w0) in
@@ -241,23 +301,26 @@ module _ {S M T : Type 0} (g : spaces.Ghosts S) (k : commits.Ghosts S) (m : mome
       record {
         runs = serve_then (serve_state (served_clients old clock no_clients) (watched first start)) at end past now now p.runs
             (serve_once (Looks time taken) at end now now (w1, looks, newest newer taken served w1) (extends_none now));
+        batches = batches_then p.runs.events (Looks time taken ∷ []) p.batches (record { purges = tt; committed = refl });
       }
 
   since_purges : (old mid new : Service S) (clock between clock' : M) (clients : Clients) (active : WatchedTable T) (past now : Option (List HistoryEvent))
       → ServesSince old clock mid between clients active past now → MayPurge g k m keep mid new between clock' → ServesSince old clock new clock' clients active past now
+  unfolding serve_then serve_once
   since_purges old mid new clock between clock' clients active past now p purged =
       let at = serve_state (served_clients mid between clients) active in
       let end = serve_state (served_clients new clock' clients) active in
       record {
         runs = serve_then (serve_state (served_clients old clock no_clients) (watched first start)) at end past now now p.runs
             (serve_once Purges at end now now (new, clock', purged, refl) (extends_none now));
+        batches = batches_then p.runs.events (Purges ∷ []) p.batches (record { purges = (refl, tt); committed = refl });
       }
 
   -- The clients change, and the service stays.
   since_changes : (old new : Service S) (clock clock' : M) (c0 c1 : Clients) (active : WatchedTable T) (past h0 h1 : Option (List HistoryEvent)) → ServesSince old clock new clock' c0 active past h0
       → SetChanges c0 c1 h0 h1 → ServesSince old clock new clock' c1 active past h1
   since_changes old new clock clock' c0 c1 active past h0 h1 p q =
-      since_runs old new new clock clock' clock' c0 c1 active past h0 h1 p (runs_changes g k m explaining active.table new clock' c0 c1 h0 h1 q)
+      since_runs old new new clock clock' clock' c0 c1 active past h0 h1 p (batches_changes g k m explaining active.table new clock' c0 c1 h0 h1 q)
 
   -- The clients stay.
   pub since_same : (old new : Service S) (clock clock' : M) (c0 c1 : Clients) (active : WatchedTable T) (past h0 h1 : Option (List HistoryEvent)) → ServesSince old clock new clock' c0 active past h0
@@ -275,11 +338,11 @@ module _ {S M T : Type 0} (g : spaces.Ghosts S) (k : commits.Ghosts S) (m : mome
   -- A look at the token file, and the batches under the active table.
   pub since_answers : (old s0 s1 : Service S) (clock m0 m1 : M) (c0 c1 c2 : Clients) (newer taken newer' : Option TokenFile) (used : TokenFile) (time : Duration) (w0 w1 : TokenWatch T) (past h0 h1 : Option (List HistoryEvent))
       → ServesSince old clock s0 m0 c0 (watched (unwrap_or newer first) w0) past h0 → LooksOnce t first time w0 w1 taken → newer' ≡ option_or taken newer → used ≡ unwrap_or newer' first → c1 ≡ c0
-      → ServiceRuns g k m explaining used (served_clients s0 m0 c1) (served_clients s1 m1 c2) h0 h1 → ServesSince old clock s1 m1 c2 (watched (unwrap_or newer' first) w1) past h1
+      → ServiceBatches g k m explaining used (served_clients s0 m0 c1) (served_clients s1 m1 c2) h0 h1 → ServesSince old clock s1 m1 c2 (watched (unwrap_or newer' first) w1) past h1
   since_answers old s0 s1 clock m0 m1 c0 c1 c2 newer taken newer' used time w0 w1 past h0 h1 p looks is_newer is_used same q =
       let looked = subst (λ (n : Option TokenFile). ServesSince old clock s0 m0 c0 (watched (unwrap_or n first) w1) past h0) (sym is_newer) (since_looks old s0 clock m0 c0 newer taken time w0 w1 past h0 p looks) in
       let shown = since_same old s0 clock m0 c0 c1 (watched (unwrap_or newer' first) w1) past h0 h0 looked same refl in
-      let runs = subst (λ (t : TokenFile). ServiceRuns g k m explaining t (served_clients s0 m0 c1) (served_clients s1 m1 c2) h0 h1) is_used q in
+      let runs = subst (λ (t : TokenFile). ServiceBatches g k m explaining t (served_clients s0 m0 c1) (served_clients s1 m1 c2) h0 h1) is_used q in
       since_runs old s0 s1 clock m0 m1 c1 c2 (watched (unwrap_or newer' first) w1) past h0 h1 shown runs
 
   -- The rest of an iteration: a purge, late clients, and the admin port.

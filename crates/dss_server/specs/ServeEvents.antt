@@ -1,5 +1,5 @@
 -- What `serve` does for all clients, from the sockets to the service and back.
-use Rattle.std.specs.Prelude.{◌≡◌, ℕ, List, [], ◌∷◌, Option, unwrap_or}
+use Rattle.std.specs.Prelude.{◌≡◌, ℕ, Bool, false, List, [], ◌∷◌, Option, unwrap_or}
 use Rattle.std.specs.declared.time.Duration.{Duration}
 use Rattle.std.specs.List.{flat_map}
 use Rattle.service_calls.specs.declared.service.Service.{Service}
@@ -14,7 +14,7 @@ use Rattle.server_watch.specs.TokenWatch.{LooksOnce}
 use Rattle.server_watch.specs.declared.token_watch.TokenSource as sources
 use Rattle.server_watch.specs.declared.token_watch.TokenWatch.{TokenWatch}
 use Rattle.dss_server.specs.ClientSet.{no_clients}
-use Rattle.dss_server.specs.ServiceEvents.{Happens, ServedClients, ServiceEvent, history_of_service, served_clients}
+use Rattle.dss_server.specs.ServiceEvents.{Happens, ServedClients, ServiceEvent, history_of_service, is_called_after, served_clients}
 
 -- An event of `serve`: an event of the service under the active token table, a step of the schedule
 -- of purges, or a look at the token file at a time of the monotonic clock, with the table to load.
@@ -28,6 +28,21 @@ abbrev pub history_of_serve : ServeEvent → List HistoryEvent
 history_of_serve (Runs event) = history_of_service event
 history_of_serve Purges = []
 history_of_serve (Looks now taken) = []
+
+-- Returns true if a call was made and no commit came after it. `called` says so before the events.
+abbrev pub is_called_since : List ServeEvent → (called : Bool) → Bool
+is_called_since [] called = called
+is_called_since (Runs event ∷ events) called = is_called_since events (is_called_after event called)
+is_called_since (Purges ∷ events) called = is_called_since events called
+is_called_since (Looks now taken ∷ events) called = is_called_since events called
+
+-- Holds if each step of the schedule of purges comes between two batches: a commit came after each
+-- call before it.
+abbrev pub PurgesBetween : List ServeEvent → (called : Bool) → Type 0
+PurgesBetween [] called = Unit {0}
+PurgesBetween (Runs event ∷ events) called = PurgesBetween events (is_called_after event called)
+PurgesBetween (Purges ∷ events) called = (called ≡ false) × PurgesBetween events called
+PurgesBetween (Looks now taken ∷ events) called = PurgesBetween events called
 
 -- The active token table, and the watch on the token file.
 pub record WatchedTable (T : Type 0) : Type 0 where
@@ -76,11 +91,14 @@ module _ {S M T : Type 0} (g : spaces.Ghosts S) (k : commits.Ghosts S) (m : mome
 
   -- States that one sequence of events leads from the service, the clock and the watch on the token
   -- file at the start, without clients and without a commit, to the service and the clock at the end,
-  -- and that the history of the sockets records exactly these events.
+  -- and that the history of the sockets records exactly these events. A commit came after each call,
+  -- and purges come between two batches.
   pub record ServesEachClient (watch : TokenWatch T) (old new : Service S) (clock clock' : M)
       (past now : Option (List HistoryEvent)) : Type 0 where
     pub end : ServeState S M T
     pub runs : ServeRuns (serve_state (served_clients old clock no_clients) (watched first watch))
         end past now
+    pub purges : PurgesBetween runs.events false
+    pub committed : is_called_since runs.events false ≡ false
     pub service_is : end.served.service ≡ new
     pub clock_is : end.served.clock ≡ clock'

@@ -1,5 +1,5 @@
 -- What the service does for all clients while one token table is active.
-use Rattle.std.specs.Prelude.{◌≡◌, ◌⊎◌, ℕ, List, [], ◌∷◌, Option, Some}
+use Rattle.std.specs.Prelude.{◌≡◌, ◌⊎◌, ◌||◌, ℕ, Bool, true, false, List, [], ◌∷◌, Option, Some}
 use Rattle.std.specs.List.{flat_map}
 use Rattle.service_calls.specs.declared.service.Service.{Service}
 use Rattle.service_calls.specs.Batches.{IsCommitted}
@@ -11,7 +11,7 @@ use Rattle.wire_http.specs.declared.moments.Moments as moments
 use Rattle.wire_http.specs.Count.{one_more}
 use Rattle.server_base.specs.History.{Extends, HistoryEvent}
 use Rattle.server_client.specs.declared.commit_record.CommitRecord.{CommitRecord}
-use Rattle.server_client.specs.ClientEvents.{ClientEvent, OccurAll, ServedClient, history_of_event, served_client}
+use Rattle.server_client.specs.ClientEvents.{Calls, ClientEvent, EndsStream, LosesReply, OccurAll, ReadsClock, ServedClient, Steps, history_of_event, served_client}
 use Rattle.server_client.specs.ClientState.{ClientState}
 use Rattle.server_client.specs.CommitRecord.{number_of, outcome_of}
 use Rattle.dss_server.specs.ClientSet.{ChangesTo, Clients, SetChange, SetChanges, history_of_change, with_state}
@@ -21,6 +21,26 @@ pub data ServiceEvent : Type 0 where
   Changes : (change : SetChange) → ServiceEvent
   Serves : (key name : ℕ) → (events : List ClientEvent) → ServiceEvent
   Commits : ServiceEvent
+
+-- Returns true if some event is a call.
+abbrev pub has_call : List ClientEvent → Bool
+has_call [] = false
+has_call (Steps step ∷ events) = has_call events
+has_call (Calls asked reply notes ∷ events) = true
+has_call (LosesReply asked reply ∷ events) = true
+has_call (EndsStream end ∷ events) = has_call events
+has_call (ReadsClock moment ∷ events) = has_call events
+
+-- Returns true if a call was made and no commit came after it. `called` says so before the event.
+abbrev pub is_called_after : ServiceEvent → (called : Bool) → Bool
+is_called_after (Changes change) called = called
+is_called_after (Serves key name events) called = called || has_call events
+is_called_after Commits called = false
+
+-- The same after events.
+abbrev pub is_called_in : List ServiceEvent → (called : Bool) → Bool
+is_called_in [] called = called
+is_called_in (event ∷ events) called = is_called_in events (is_called_after event called)
 
 -- What the history records of an event.
 abbrev pub history_of_service : ServiceEvent → List HistoryEvent
@@ -69,6 +89,13 @@ module _ {S M : Type 0} (g : spaces.Ghosts S) (k : commits.Ghosts S) (m : moment
     pub events : List ServiceEvent
     pub happen : HappenAll events old new
     pub history : Extends past now (flat_map history_of_service events)
+
+  -- Holds if some events lead from one state to the other, as above, and a commit came after each
+  -- call.
+  pub record ServiceBatches (old new : ServedClients S M) (past now : Option (List HistoryEvent))
+      : Type 0 where
+    pub runs : ServiceRuns old new past now
+    pub committed : is_called_in runs.events false ≡ false
 
 module _ {S : Type 0} (g : spaces.Ghosts S) (k : commits.Ghosts S) where
   -- Holds if the service committed a batch, and the clients changed after that. Their steps depend on

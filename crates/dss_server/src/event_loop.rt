@@ -6,8 +6,8 @@ ghost use Rattle.server_watch.specs.Purger.{MayPurge};
 ghost use Rattle.dss_server.specs.ClientSet.{AddsIf, ChangesClients, ChangesUnseen, KeepsClients};
 ghost use Rattle.dss_server.specs.ClientSet.{LimitsBelow, clients_of, no_clients};
 ghost use Rattle.dss_server.specs.Serve.{ServesBy, ServesSoFar};
-ghost use Rattle.dss_server.specs.ServiceEvents.{CommitsBatch, MayCommitBatch, ServiceRuns};
-ghost use Rattle.dss_server.specs.ServiceEvents.{served_clients};
+ghost use Rattle.dss_server.specs.ServiceEvents.{CommitsBatch, MayCommitBatch, ServiceBatches};
+ghost use Rattle.dss_server.specs.ServiceEvents.{ServiceRuns, served_clients};
 
 use crate::acceptance::Acceptance;
 use crate::client_set::ClientSet;
@@ -583,7 +583,7 @@ impl<N: Sockets + Drop, B: MakeBackups + Drop> EventLoop<N, B> {
         ensures serves { ServesBy S.Space S.GroupCommit.own M.Moments
             (callers_of context.entry.tokens.now)
             service.old service.new moments.old moments.new }
-        ensures runs { ServiceRuns S.Space S.GroupCommit.own M.Moments
+        ensures runs { ServiceBatches S.Space S.GroupCommit.own M.Moments
             context.entry.explaining context.entry.tokens.now
             (served_clients service.old moments.old (clients_of N.Client.name self.old.clients))
             (served_clients service.new moments.new (clients_of N.Client.name self.new.clients))

@@ -1,5 +1,5 @@
 -- The events form segments of batches.
-use Rattle.std.proofs.Common.{◌≡◌, ℕ, Bool, List, [], ◌∷◌, ◌++◌, ◌-◌, Option, Some, None, refl, sym, ap, subst, ◌∙◌, append_assoc, ◌⊎◌, inl, inr, map, Result}
+use Rattle.std.proofs.Common.{◌≡◌, ◌||◌, ℕ, Bool, true, false, List, [], ◌∷◌, ◌++◌, ◌-◌, Option, Some, None, refl, sym, ap, subst, ◌∙◌, append_assoc, ◌⊎◌, inl, inr, map, Result}
 use Rattle.std.specs.List.{flat_map}
 use Rattle.std.proofs.lemmas.List.{append-nil, map-append}
 use Rattle.std.proofs.lemmas.List.Concat.{flat_map-append}
@@ -17,9 +17,10 @@ use Rattle.server_client.specs.declared.commit_record.CommitRecord.{CommitRecord
 use Rattle.server_client.specs.ClientEvents.{Calls, ClientEvent, EndsStream, LosesReply, OccurAll, Occurs, ReadsClock, ServedClient, Steps, is_deferred, served_client}
 use Rattle.server_client.specs.CommitRecord.{outcome_of}
 use Rattle.server_watch.specs.Purger.{MayPurge}
-use Rattle.dss_server.specs.ServeEvents.{FollowAll, Follows, Loads, Purges, Runs, ServeEvent, ServeState}
-use Rattle.dss_server.specs.ServiceEvents.{Changes, Commits, Serves}
-use Rattle.server_laws.specs.Cut.{Act, ClientCall, Cut, EndsBatch, EventsFormSegments, FollowWith, HasActs, PurgesBetween, PurgesUpTo, act_of_call, act_of_record, acts_of_batch, acts_of_segment, calls_of_client, uncommitted_after}
+use Rattle.server_watch.specs.declared.token_watch.TokenSource as sources
+use Rattle.dss_server.specs.ServeEvents.{FollowAll, Follows, Looks, Purges, PurgesBetween, Runs, ServeEvent, ServeState, is_called_since}
+use Rattle.dss_server.specs.ServiceEvents.{Changes, Commits, Serves, has_call, is_called_after}
+use Rattle.server_laws.specs.Cut.{Act, ClientCall, Cut, EndsBatch, EventsFormSegments, FollowWith, HasActs, PurgesUpTo, act_of_call, act_of_record, acts_of_batch, acts_of_segment, calls_of_client}
 
 -- ---- calls, batches and segments one after the other
 
@@ -82,25 +83,38 @@ module _ {S M : Type 0} (g : spaces.Ghosts S) (k : commits.Ghosts S) (m : moment
 
 -- ---- cuts that grow
 
--- A cut, and the calls after its last commit.
-record CutSoFar {S : Type 0} (g : spaces.Ghosts S) (k : commits.Ghosts S) (acts : List Act) (calls : List ClientCall) (old new : Service S) : Type 0 where
+-- A cut, and whether a call was made after its last commit.
+record CutSoFar {S : Type 0} (g : spaces.Ghosts S) (k : commits.Ghosts S) (acts : List Act) (called : Bool) (old new : Service S) : Type 0 where
   pub cut : Cut g k acts old new
-  pub calls_are : map act_of_call calls ≡ map act_of_record cut.calls
+  pub committed : called ≡ false → cut.calls ≡ []
+
+-- Without a call there is no record of one.
+not_called : (key : ℕ) (events : List ClientEvent) → has_call events ≡ false → flat_map (calls_of_client key) events ≡ []
+not_called key [] h = refl
+not_called key (Steps step ∷ events) h = not_called key events h
+not_called key (Calls asked reply notes ∷ events) h = absurd cc
+not_called key (LosesReply asked reply ∷ events) h = absurd cc
+not_called key (EndsStream end ∷ events) h = not_called key events h
+not_called key (ReadsClock moment ∷ events) h = not_called key events h
 
 no_records : (calls : List CallRecord) → [] ≡ map act_of_record calls → calls ≡ []
 no_records [] h = refl
 no_records (x ∷ calls) h = cc
 
+neither : (a b : Bool) → (a || b) ≡ false → (a ≡ false) × (b ≡ false)
+neither true b h = absurd cc
+neither false b h = (refl, h)
+
 module _ {S : Type 0} (g : spaces.Ghosts S) (k : commits.Ghosts S) where
-  cut_none : (s : Service S) → CutSoFar g k [] [] s s
+  cut_none : (s : Service S) → CutSoFar g k [] false s s
   cut_none s = record {
     cut = record { segments = []; batches = []; calls = []; acts_are = refl; last = s; committed = s; segments_made = refl; made = refl; calls_made = refl };
-    calls_are = refl;
+    committed = λ h. refl;
   }
 
-  cut_called : (acts now : List Act) (calls more : List ClientCall) (old mid new : Service S) → CutSoFar g k acts calls old mid → now ≡ map act_of_call more → Records g k (map act_of_call more) mid new
-      → CutSoFar g k (acts ++ now) (calls ++ more) old new
-  cut_called acts now calls more old mid new p is q =
+  cut_called : (acts now : List Act) (called calls : Bool) (more : List ClientCall) (old mid new : Service S) → CutSoFar g k acts called old mid → now ≡ map act_of_call more
+      → Records g k (map act_of_call more) mid new → (calls ≡ false → more ≡ []) → CutSoFar g k (acts ++ now) (called || calls) old new
+  cut_called acts now called calls more old mid new p is q none =
       let c = p.cut in
       let front = flat_map acts_of_segment c.segments in
       let amid = flat_map acts_of_batch c.batches in
@@ -117,13 +131,15 @@ module _ {S : Type 0} (g : spaces.Ghosts S) (k : commits.Ghosts S) where
           made = c.made;
           calls_made = called_then g k c.calls q.calls c.committed mid new c.calls_made q.made;
         };
-        calls_are = map-append act_of_call calls more ∙ ap (λ v. v ++ map act_of_call more) p.calls_are ∙ ap (λ v. map act_of_record c.calls ++ v) q.acts_are
-            ∙ sym (map-append act_of_record c.calls q.calls);
+        committed = λ h.
+            let both = neither called calls h in
+            let empty = no_records q.calls (sym (ap (λ v. map act_of_call v) (none both.1)) ∙ q.acts_are) in
+            ap (λ v. v ++ q.calls) (p.committed both.0) ∙ empty;
       }
 
-  cut_committed : (acts : List Act) (calls : List ClientCall) (outcome : Result (Unit {0}) SpaceFault) (old mid new : Service S) → CutSoFar g k acts calls old mid → IsCommitted g k mid new outcome
-      → CutSoFar g k (acts ++ EndsBatch outcome ∷ []) [] old new
-  cut_committed acts calls outcome old mid new p q =
+  cut_committed : (acts : List Act) (called : Bool) (outcome : Result (Unit {0}) SpaceFault) (old mid new : Service S) → CutSoFar g k acts called old mid → IsCommitted g k mid new outcome
+      → CutSoFar g k (acts ++ EndsBatch outcome ∷ []) false old new
+  cut_committed acts called outcome old mid new p q =
       let c = p.cut in
       let front = flat_map acts_of_segment c.segments in
       let amid = flat_map acts_of_batch c.batches in
@@ -143,16 +159,16 @@ module _ {S : Type 0} (g : spaces.Ghosts S) (k : commits.Ghosts S) where
           made = batches_more g k c.batches c.calls outcome c.last c.committed mid new c.made c.calls_made q;
           calls_made = refl;
         };
-        calls_are = refl;
+        committed = λ h. refl;
       }
 
-  cut_purged : (acts : List Act) (calls : List ClientCall) (until : ℕ) (old mid new : Service S) → CutSoFar g k acts calls old mid → calls ≡ [] → PurgesOnce g k until mid new
-      → CutSoFar g k (acts ++ PurgesUpTo until ∷ []) calls old new
-  cut_purged acts calls until old mid new p none q =
+  cut_purged : (acts : List Act) (called : Bool) (until : ℕ) (old mid new : Service S) → CutSoFar g k acts called old mid → called ≡ false → PurgesOnce g k until mid new
+      → CutSoFar g k (acts ++ PurgesUpTo until ∷ []) called old new
+  cut_purged acts called until old mid new p none q =
       let c = p.cut in
       let front = flat_map acts_of_segment c.segments in
       let amid = flat_map acts_of_batch c.batches in
-      let empty = no_records c.calls (sym (ap (λ v. map act_of_call v) none) ∙ p.calls_are) in
+      let empty = p.committed none in
       let chunk : Segment = record { batches = c.batches; until = until } in
       let same : mid ≡ c.committed = subst (λ (v : List CallRecord). CalledInOrder g k c.committed v mid) empty c.calls_made in
       record {
@@ -169,37 +185,47 @@ module _ {S : Type 0} (g : spaces.Ghosts S) (k : commits.Ghosts S) where
           made = refl;
           calls_made = refl;
         };
-        calls_are = ap (λ v. map act_of_call v) none;
+        committed = λ h. refl;
       }
 
-  cut_same : (acts : List Act) (calls : List ClientCall) (old mid new : Service S) → CutSoFar g k acts calls old mid → new ≡ mid → CutSoFar g k (acts ++ []) calls old new
-  cut_same acts calls old mid new p same =
-      subst (λ (v : List Act). CutSoFar g k v calls old new) (sym (append-nil acts)) (subst (λ (s : Service S). CutSoFar g k acts calls old s) (sym same) p)
+  cut_same : (acts : List Act) (called : Bool) (old mid new : Service S) → CutSoFar g k acts called old mid → new ≡ mid → CutSoFar g k (acts ++ []) called old new
+  cut_same acts called old mid new p same =
+      subst (λ (v : List Act). CutSoFar g k v called old new) (sym (append-nil acts)) (subst (λ (s : Service S). CutSoFar g k acts called old s) (sym same) p)
 
 -- ---- events
 
+abbrev called_after : ServeEvent → Bool → Bool
+called_after (Runs event) called = is_called_after event called
+called_after Purges called = called
+called_after (Looks now taken) called = called
+
 -- What an event adds to a cut.
-record Adds {S M : Type 0} (g : spaces.Ghosts S) (k : commits.Ghosts S) (x : ServeEvent) (acts : List Act) (calls : List ClientCall) (start : Service S) (old new : ServeState S M) : Type 0 where
+record Adds {S M T : Type 0} (g : spaces.Ghosts S) (k : commits.Ghosts S) (x : ServeEvent) (acts : List Act) (called : Bool) (start : Service S) (old new : ServeState S M T) : Type 0 where
   pub now : List Act
   pub has : HasActs x old new now
-  pub cut : CutSoFar g k (acts ++ now) (uncommitted_after x calls) start new.served.service
+  pub cut : CutSoFar g k (acts ++ now) (called_after x called) start new.served.service
 
-between_after : (x : ServeEvent) (calls : List ClientCall) (xs : List ServeEvent) → PurgesBetween calls (x ∷ xs) → PurgesBetween (uncommitted_after x calls) xs
-between_after (Runs event) calls xs h = h
-between_after Purges calls xs h = h.1
-between_after (Loads table) calls xs h = h
+between_after : (x : ServeEvent) (called : Bool) (xs : List ServeEvent) → PurgesBetween (x ∷ xs) called → PurgesBetween xs (called_after x called)
+between_after (Runs event) called xs h = h
+between_after Purges called xs h = h.1
+between_after (Looks now taken) called xs h = h
 
-module _ {S M : Type 0} (g : spaces.Ghosts S) (k : commits.Ghosts S) (m : moments.Ghosts M) (gives : List ℕ → Type 0) (explaining : Explaining) (first : TokenFile) where
-  purge_adds : (keep : Option ℕ) (acts : List Act) (calls : List ClientCall) (start : Service S) (old new : ServeState S M) (clock : M) → CutSoFar g k acts calls start old.served.service → calls ≡ []
-      → MayPurge g k m keep old.served.service new.served.service old.served.clock clock → Adds g k Purges acts calls start old new
-  purge_adds None acts calls start old new clock p none h =
+called_more : (x : ServeEvent) (xs : List ServeEvent) (called : Bool) → is_called_since (x ∷ xs) called ≡ is_called_since xs (called_after x called)
+called_more (Runs event) xs called = refl
+called_more Purges xs called = refl
+called_more (Looks now taken) xs called = refl
+
+module _ {S M T : Type 0} (g : spaces.Ghosts S) (k : commits.Ghosts S) (m : moments.Ghosts M) (t : sources.Ghosts T) (explaining : Explaining) (first : TokenFile) where
+  purge_adds : (keep : Option ℕ) (acts : List Act) (called : Bool) (start : Service S) (old new : ServeState S M T) (clock : M) → CutSoFar g k acts called start old.served.service → called ≡ false
+      → MayPurge g k m keep old.served.service new.served.service old.served.clock clock → Adds g k Purges acts called start old new
+  purge_adds None acts called start old new clock p none h =
       elim h [
-        | inl nothing ↦ record { now = []; has = inl refl; cut = cut_same g k acts calls start old.served.service new.served.service p nothing.0 }
+        | inl nothing ↦ record { now = []; has = inl refl; cut = cut_same g k acts called start old.served.service new.served.service p nothing.0 }
         | inr chunk ↦ absurd chunk
       ]
-  purge_adds (Some keep) acts calls start old new clock p none h =
+  purge_adds (Some keep) acts called start old new clock p none h =
       elim h [
-        | inl nothing ↦ record { now = []; has = inl refl; cut = cut_same g k acts calls start old.served.service new.served.service p nothing.0 }
+        | inl nothing ↦ record { now = []; has = inl refl; cut = cut_same g k acts called start old.served.service new.served.service p nothing.0 }
         | inr chunk ↦ record {
           now = PurgesUpTo (chunk.0 - keep) ∷ [];
           has = inr (chunk.0 - keep, refl);
@@ -207,24 +233,24 @@ module _ {S M : Type 0} (g : spaces.Ghosts S) (k : commits.Ghosts S) (m : moment
         }
       ]
 
-  event_adds : (keep : Option ℕ) (x : ServeEvent) (acts : List Act) (calls : List ClientCall) (start : Service S) (old new : ServeState S M) (xs : List ServeEvent)
-      → CutSoFar g k acts calls start old.served.service → Follows g k m explaining gives keep first x old new → PurgesBetween calls (x ∷ xs) → Adds g k x acts calls start old new
-  event_adds keep (Runs (Changes change)) acts calls start old new xs p h between = record {
+  event_adds : (keep : Option ℕ) (x : ServeEvent) (acts : List Act) (called : Bool) (start : Service S) (old new : ServeState S M T) (xs : List ServeEvent)
+      → CutSoFar g k acts called start old.served.service → Follows g k m explaining t keep first x old new → PurgesBetween (x ∷ xs) called → Adds g k x acts called start old new
+  event_adds keep (Runs (Changes change)) acts called start old new xs p h between = record {
     now = [];
     has = refl;
-    cut = cut_same g k acts calls start old.served.service new.served.service p (ap (λ v. v.served.service) h.2 ∙ ap (λ v. v.service) h.1.2);
+    cut = cut_same g k acts called start old.served.service new.served.service p (ap (λ v. v.served.service) h.2 ∙ ap (λ v. v.service) h.1.2);
   }
-  event_adds keep (Runs (Serves key name events)) acts calls start old new xs p h between =
+  event_adds keep (Runs (Serves key name events)) acts called start old new xs p h between =
       let more = flat_map (calls_of_client key) events in
-      let q = recorded g k m explaining old.table old.served.clients.commit key events (served_client old.served.service old.served.clock h.1.0) h.1.3 h.1.4 in
+      let q = recorded g k m explaining old.active.table old.served.clients.commit key events (served_client old.served.service old.served.clock h.1.0) h.1.3 h.1.4 in
       let same : new.served.service ≡ h.1.3.service = ap (λ v. v.served.service) h.2 ∙ ap (λ v. v.service) h.1.5 in
       record {
         now = map act_of_call more;
         has = refl;
-        cut = cut_called g k acts (map act_of_call more) calls more start old.served.service new.served.service p refl
-            (subst (λ (s : Service S). Records g k (map act_of_call more) old.served.service s) (sym same) q);
+        cut = cut_called g k acts (map act_of_call more) called (has_call events) more start old.served.service new.served.service p refl
+            (subst (λ (s : Service S). Records g k (map act_of_call more) old.served.service s) (sym same) q) (not_called key events);
       }
-  event_adds keep (Runs Commits) acts calls start old new xs p h between =
+  event_adds keep (Runs Commits) acts called start old new xs p h between =
       let same : new.served.service ≡ h.1.0 = ap (λ v. v.served.service) h.2 ∙ ap (λ v. v.service) h.1.4 in
       let commit : new.served.clients.commit ≡ h.1.1 = ap (λ v. v.served.clients.commit) h.2 ∙ ap (λ v. v.clients.commit) h.1.4 in
       let committed = subst (λ (s : Service S). IsCommitted g k old.served.service s (outcome_of h.1.1)) (sym same) h.1.2 in
@@ -234,29 +260,31 @@ module _ {S M : Type 0} (g : spaces.Ghosts S) (k : commits.Ghosts S) (m : moment
         cut = cut_committed g k acts calls (outcome_of new.served.clients.commit) start old.served.service new.served.service p
             (subst (λ (c : CommitRecord). IsCommitted g k old.served.service new.served.service (outcome_of c)) (sym commit) committed);
       }
-  event_adds keep Purges acts calls start old new xs p h between =
+  event_adds keep Purges acts called start old new xs p h between =
       let same : h.0 ≡ new.served.service = sym (ap (λ v. v.served.service) h.3) in
-      purge_adds keep acts calls start old new h.1 p between.0 (subst (λ (s : Service S). MayPurge g k m keep old.served.service s old.served.clock h.1) same h.2)
-  event_adds keep (Loads table) acts calls start old new xs p h between = record {
+      purge_adds keep acts called start old new h.1 p between.0 (subst (λ (s : Service S). MayPurge g k m keep old.served.service s old.served.clock h.1) same h.2)
+  event_adds keep (Looks now taken) acts called start old new xs p h between = record {
     now = [];
     has = refl;
-    cut = cut_same g k acts calls start old.served.service new.served.service p (ap (λ v. v.served.service) h.1);
+    cut = cut_same g k acts called start old.served.service new.served.service p (ap (λ v. v.served.service) h.2);
   }
 
-  events_cut : (keep : Option ℕ) (events : List ServeEvent) (done : List Act) (calls : List ClientCall) (start : Service S) (old new : ServeState S M)
-      → CutSoFar g k done calls start old.served.service → FollowAll g k m explaining gives keep first events old new → PurgesBetween calls events
-      → (acts : List Act) × FollowWith g k m explaining gives keep first events acts old new × Cut g k (done ++ acts) start new.served.service
-  events_cut keep [] done calls start old new p h between =
-      ([], (refl, h), (cut_same g k done calls start old.served.service new.served.service p (ap (λ v. v.served.service) h)).cut)
-  events_cut keep (x ∷ xs) done calls start old new p h between =
-      let one = event_adds keep x done calls start old h.0 xs p h.1 between in
-      let rest = events_cut keep xs (done ++ one.now) (uncommitted_after x calls) start h.0 new one.cut h.2 (between_after x calls xs between) in (
+  events_cut : (keep : Option ℕ) (events : List ServeEvent) (done : List Act) (called : Bool) (start : Service S) (old new : ServeState S M T)
+      → CutSoFar g k done called start old.served.service → FollowAll g k m explaining t keep first events old new → PurgesBetween events called
+      → (acts : List Act) × FollowWith g k m explaining t keep first events acts old new × CutSoFar g k (done ++ acts) (is_called_since events called) start new.served.service
+  events_cut keep [] done called start old new p h between =
+      ([], (refl, h), cut_same g k done called start old.served.service new.served.service p (ap (λ v. v.served.service) h))
+  events_cut keep (x ∷ xs) done called start old new p h between =
+      let one = event_adds keep x done called start old h.0 xs p h.1 between in
+      let rest = events_cut keep xs (done ++ one.now) (called_after x called) start h.0 new one.cut h.2 (between_after x called xs between) in
+      let since = subst (λ (b : Bool). CutSoFar g k ((done ++ one.now) ++ rest.0) b start new.served.service) (sym (called_more x xs called)) rest.2 in (
         one.now ++ rest.0,
         (h.0, one.now, rest.0, refl, h.1, one.has, rest.1),
-        subst (λ (v : List Act). Cut g k v start new.served.service) (append_assoc done one.now rest.0) rest.2,
+        subst (λ (v : List Act). CutSoFar g k v (is_called_since (x ∷ xs) called) start new.served.service) (append_assoc done one.now rest.0) since,
       )
 
-module _ {S M : Type 0} (g : spaces.Ghosts S) (k : commits.Ghosts S) (m : moments.Ghosts M) (gives : List ℕ → Type 0) where
-  pub form_segments : EventsFormSegments g k m gives
+module _ {S M T : Type 0} (g : spaces.Ghosts S) (k : commits.Ghosts S) (m : moments.Ghosts M) (t : sources.Ghosts T) where
+  pub form_segments : EventsFormSegments g k m t
   form_segments explaining keep first events old new h between =
-      events_cut g k m gives explaining first keep events [] [] old.served.service old new (cut_none g k old.served.service) h between
+      let p = events_cut g k m t explaining first keep events [] false old.served.service old new (cut_none g k old.served.service) h between in
+      record { acts = p.0; follow = p.1; cut = p.2.cut; committed = p.2.committed }

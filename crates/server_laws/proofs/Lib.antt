@@ -1,3 +1,4 @@
 pub mod Cuts
+pub mod Policies
 pub mod Logs
 pub mod Served

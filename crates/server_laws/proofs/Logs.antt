@@ -22,13 +22,13 @@ use Rattle.wire_http.specs.Text.{end_texts}
 use Rattle.wire_http.specs.Wire.{AsksCall, RequestCall, left_after}
 use Rattle.server_client.specs.declared.commit_record.CommitRecord.{CommitRecord}
 use Rattle.server_client.specs.Account.{Account, IsAccountOf, after_outcome}
-use Rattle.server_client.specs.CallOrder.{IsInOrder}
+use Rattle.server_client.specs.CallOrder.{Asks, IsInOrder, LetsOneCome, OrderedEvent}
 use Rattle.server_client.specs.ClientEvents.{Calls, ClientEvent, EndsStream, IsCallFor, LosesReply, OccurAll, Occurs, ReadsClock, ServedClient, Steps, is_deferred, served_client}
-use Rattle.server_client.specs.ClientState.{Aborts, ClientState, ClientStep, Discards, Drops, Receives, ReceivesEnd, Releases, Sends, StepsBy, StepsTo, after_commit, finished, new_client, with_response}
+use Rattle.server_client.specs.ClientState.{Aborts, ClientState, ClientStep, Discards, Drops, Limits, Receives, ReceivesEnd, Releases, Sends, StepsBy, StepsTo, after_commit, finished, new_client, with_response}
 use Rattle.server_client.specs.CommitRecord.{number_of, outcome_of}
 use Rattle.server_client.proofs.Accounts as accounts
 use Rattle.server_client.proofs.CallOrders as orders
-use Rattle.server_laws.specs.Clients.{ClientResponse, HasEnded, HasOutcome, IsDeferred, IsDropped, IsReleased, IsTold, LastResponse, ReleasedResponse, deferred_text, last_text, received_by, received_by_step, responses_by, sent_by, sent_by_step, text_of, text_of_released, unreleased}
+use Rattle.server_laws.specs.Clients.{ClientResponse, HasEnded, HasOutcome, IsDeferred, IsDropped, IsReleased, IsTold, LastResponse, ReleasedResponse, deferred_text, last_text, ordered_by, ordered_by_step, received_by, received_by_step, responses_by, sent_by, sent_by_step, text_of, text_of_released, unreleased}
 
 abbrev pub Outcome : Type 0
 Outcome = Result (Unit {0}) SpaceFault
@@ -39,12 +39,13 @@ Outcome = Result (Unit {0}) SpaceFault
 pub record Log : Type 0 where
   pub sent : List ℕ
   pub received : List ℕ
+  pub ordered : List OrderedEvent
   pub responses : List ClientResponse
   pub released : List ReleasedResponse
   pub last : LastResponse
 
 abbrev pub no_log : Log
-no_log = record { sent = []; received = []; responses = []; released = []; last = IsReleased }
+no_log = record { sent = []; received = []; ordered = []; responses = []; released = []; last = IsReleased }
 
 abbrev account_of : Log → Account
 account_of log = record {
@@ -52,9 +53,6 @@ account_of log = record {
   released = flat_map text_of_released log.released ++ last_text log.last;
   deferred = deferred_text log.last;
 }
-
-abbrev pub asked_by : ClientResponse → Callers × RequestCall
-asked_by each = (each.callers, each.asked)
 
 abbrev pub response_of : ReleasedResponse → ClientResponse
 response_of each = each.response
@@ -71,7 +69,7 @@ IsLastOf base outcomes (IsDropped r) l = (l.slot ≡ None) × (l.done ≡ true)
 pub record HasLog (name base : ℕ) (outcomes : List Outcome) (log : Log) (l : ClientState) : Type 0 where
   pub name_is : l.name ≡ name
   pub account : IsAccountOf (account_of log) l
-  pub order : IsInOrder log.received (map asked_by log.responses) l
+  pub order : IsInOrder log.received log.ordered l
   pub last_is : IsLastOf base outcomes log.last l
   pub responses_are : log.responses ≡ map response_of log.released ++ unreleased log.last
   pub told : AllByRecursion (IsTold outcomes) log.released
@@ -82,20 +80,22 @@ pub record IsRecordOf (base : ℕ) (outcomes : List Outcome) (commit : CommitRec
   pub outcome : (outcomes ≡ []) ⊎ ((before : List Outcome) × (outcomes ≡ before ++ outcome_of commit ∷ []))
 
 -- A log that grew by these bytes and responses.
-pub record Grows (name base : ℕ) (outcomes : List Outcome) (log : Log) (sent received : List ℕ) (responses : List ClientResponse) (l : ClientState) : Type 0 where
+pub record Grows (name base : ℕ) (outcomes : List Outcome) (log : Log) (sent received : List ℕ) (ordered : List OrderedEvent) (responses : List ClientResponse) (l : ClientState) : Type 0 where
   pub log' : Log
   pub has : HasLog name base outcomes log' l
   pub sent_is : log'.sent ≡ log.sent ++ sent
   pub received_is : log'.received ≡ log.received ++ received
+  pub ordered_is : log'.ordered ≡ log.ordered ++ ordered
   pub responses_is : log'.responses ≡ log.responses ++ responses
 
-pub grows_then : (name base : ℕ) (outcomes outcomes' : List Outcome) (log : Log) (s s' r r' : List ℕ) (q q' : List ClientResponse) (l l' : ClientState) (p : Grows name base outcomes log s r q l)
-    → Grows name base outcomes' p.log' s' r' q' l' → Grows name base outcomes' log (s ++ s') (r ++ r') (q ++ q') l'
-grows_then name base outcomes outcomes' log s s' r r' q q' l l' p h = record {
+pub grows_then : (name base : ℕ) (outcomes outcomes' : List Outcome) (log : Log) (s s' r r' : List ℕ) (o o' : List OrderedEvent) (q q' : List ClientResponse) (l l' : ClientState) (p : Grows name base outcomes log s r o q l)
+    → Grows name base outcomes' p.log' s' r' o' q' l' → Grows name base outcomes' log (s ++ s') (r ++ r') (o ++ o') (q ++ q') l'
+grows_then name base outcomes outcomes' log s s' r r' o o' q q' l l' p h = record {
   log' = h.log';
   has = h.has;
   sent_is = h.sent_is ∙ ap (λ v. v ++ s') p.sent_is ∙ append_assoc log.sent s s';
   received_is = h.received_is ∙ ap (λ v. v ++ r') p.received_is ∙ append_assoc log.received r r';
+  ordered_is = h.ordered_is ∙ ap (λ v. v ++ o') p.ordered_is ∙ append_assoc log.ordered o o';
   responses_is = h.responses_is ∙ ap (λ v. v ++ q') p.responses_is ∙ append_assoc log.responses q q';
 }
 
@@ -186,116 +186,119 @@ name_after (Err fault) l = refl
 
 module _ (name base : ℕ) (outcomes : List Outcome) (commit : CommitRecord) (is : IsRecordOf base outcomes commit) where
   -- The same log, for a step that neither sends nor receives.
-  pub grows_still : (log : Log) (l : ClientState) → HasLog name base outcomes log l → Grows name base outcomes log [] [] [] l
-  grows_still log l p = record { log' = log; has = p; sent_is = sym (append-nil log.sent); received_is = sym (append-nil log.received); responses_is = sym (append-nil log.responses) }
+  pub grows_still : (log : Log) (l : ClientState) → HasLog name base outcomes log l → Grows name base outcomes log [] [] [] [] l
+  grows_still log l p = record { log' = log; has = p; sent_is = sym (append-nil log.sent); received_is = sym (append-nil log.received); ordered_is = sym (append-nil log.ordered); responses_is = sym (append-nil log.responses) }
 
-  releases : (last : LastResponse) (sent received : List ℕ) (responses : List ClientResponse) (released : List ReleasedResponse) (l l' : ClientState)
-      → HasLog name base outcomes (record { sent = sent; received = received; responses = responses; released = released; last = last }) l → StepsTo commit Releases l l'
-      → Grows name base outcomes (record { sent = sent; received = received; responses = responses; released = released; last = last }) [] [] [] l'
-  releases IsReleased sent received responses released l l' p h = grows_still (record { sent = sent; received = received; responses = responses; released = released; last = IsReleased }) l' (record {
+  releases : (last : LastResponse) (sent received : List ℕ) (ordered : List OrderedEvent) (responses : List ClientResponse) (released : List ReleasedResponse) (l l' : ClientState)
+      → HasLog name base outcomes (record { sent = sent; received = received; ordered = ordered; responses = responses; released = released; last = last }) l → StepsTo commit Releases l l'
+      → Grows name base outcomes (record { sent = sent; received = received; ordered = ordered; responses = responses; released = released; last = last }) [] [] [] [] l'
+  releases IsReleased sent received ordered responses released l l' p h = grows_still (record { sent = sent; received = received; ordered = ordered; responses = responses; released = released; last = IsReleased }) l' (record {
     name_is = ap (λ v. v.name) h.2 ∙ name_after (outcome_of commit) l ∙ p.name_is;
     account = subst (λ (a : Account). IsAccountOf a l') (nothing_told (outcome_of commit) l _ p.last_is refl) (accounts.step commit Releases l l' _ p.account h);
-    order = orders.step commit Releases l l' received (map asked_by responses) p.order h;
+    order = orders.step commit Releases l l' received ordered p.order h;
     last_is = ap (λ v. v.slot) h.2 ∙ slot_after (outcome_of commit) l;
     responses_are = p.responses_are;
     told = p.told;
   })
-  releases (IsDeferred r) sent received responses released l l' p h =
+  releases (IsDeferred r) sent received ordered responses released l l' p h =
       let outcome = outcome_of commit in
       let now : ReleasedResponse = record { response = r; waited = true; outcome = outcome } in
       record {
-        log' = record { sent = sent; received = received; responses = responses; released = released ++ now ∷ []; last = IsReleased };
+        log' = record { sent = sent; received = received; ordered = ordered; responses = responses; released = released ++ now ∷ []; last = IsReleased };
         has = record {
           name_is = ap (λ v. v.name) h.2 ∙ name_after outcome l ∙ p.name_is;
           account = subst (λ (a : Account). IsAccountOf a l') (response_told outcome l sent released r p.last_is.0) (accounts.step commit Releases l l' _ p.account h);
-          order = orders.step commit Releases l l' received (map asked_by responses) p.order h;
+          order = orders.step commit Releases l l' received ordered p.order h;
           last_is = ap (λ v. v.slot) h.2 ∙ slot_after outcome l;
           responses_are = responses_then responses released now r p.responses_are refl;
           told = all_then (IsTold outcomes) released now p.told (outcome_is base outcomes commit l.batch r.commits is h.1 p.last_is.1 h.0);
         };
         sent_is = sym (append-nil sent);
         received_is = sym (append-nil received);
+        ordered_is = sym (append-nil ordered);
         responses_is = sym (append-nil responses);
       }
-  releases (HasEnded end) sent received responses released l l' p h = grows_still (record { sent = sent; received = received; responses = responses; released = released; last = HasEnded end }) l' (record {
+  releases (HasEnded end) sent received ordered responses released l l' p h = grows_still (record { sent = sent; received = received; ordered = ordered; responses = responses; released = released; last = HasEnded end }) l' (record {
     name_is = ap (λ v. v.name) h.2 ∙ name_after (outcome_of commit) l ∙ p.name_is;
     account = subst (λ (a : Account). IsAccountOf a l') (nothing_told (outcome_of commit) l _ p.last_is.0 refl) (accounts.step commit Releases l l' _ p.account h);
-    order = orders.step commit Releases l l' received (map asked_by responses) p.order h;
+    order = orders.step commit Releases l l' received ordered p.order h;
     last_is = (ap (λ v. v.slot) h.2 ∙ slot_after (outcome_of commit) l, ap (λ v. v.done) h.2 ∙ done_after (outcome_of commit) l ∙ p.last_is.1);
     responses_are = p.responses_are;
     told = p.told;
   })
-  releases (IsDropped r) sent received responses released l l' p h = grows_still (record { sent = sent; received = received; responses = responses; released = released; last = IsDropped r }) l' (record {
+  releases (IsDropped r) sent received ordered responses released l l' p h = grows_still (record { sent = sent; received = received; ordered = ordered; responses = responses; released = released; last = IsDropped r }) l' (record {
     name_is = ap (λ v. v.name) h.2 ∙ name_after (outcome_of commit) l ∙ p.name_is;
     account = subst (λ (a : Account). IsAccountOf a l') (nothing_told (outcome_of commit) l _ p.last_is.0 refl) (accounts.step commit Releases l l' _ p.account h);
-    order = orders.step commit Releases l l' received (map asked_by responses) p.order h;
+    order = orders.step commit Releases l l' received ordered p.order h;
     last_is = (ap (λ v. v.slot) h.2 ∙ slot_after (outcome_of commit) l, ap (λ v. v.done) h.2 ∙ done_after (outcome_of commit) l ∙ p.last_is.1);
     responses_are = p.responses_are;
     told = p.told;
   })
 
-  drops : (last : LastResponse) (sent received : List ℕ) (responses : List ClientResponse) (released : List ReleasedResponse) (l l' : ClientState)
-      → HasLog name base outcomes (record { sent = sent; received = received; responses = responses; released = released; last = last }) l → StepsTo commit Drops l l'
-      → Grows name base outcomes (record { sent = sent; received = received; responses = responses; released = released; last = last }) [] [] [] l'
-  drops IsReleased sent received responses released l l' p h = grows_still (record { sent = sent; received = received; responses = responses; released = released; last = IsReleased }) l' (record {
+  drops : (last : LastResponse) (sent received : List ℕ) (ordered : List OrderedEvent) (responses : List ClientResponse) (released : List ReleasedResponse) (l l' : ClientState)
+      → HasLog name base outcomes (record { sent = sent; received = received; ordered = ordered; responses = responses; released = released; last = last }) l → StepsTo commit Drops l l'
+      → Grows name base outcomes (record { sent = sent; received = received; ordered = ordered; responses = responses; released = released; last = last }) [] [] [] [] l'
+  drops IsReleased sent received ordered responses released l l' p h = grows_still (record { sent = sent; received = received; ordered = ordered; responses = responses; released = released; last = IsReleased }) l' (record {
     name_is = ap (λ v. v.name) h ∙ p.name_is;
     account = accounts.step commit Drops l l' _ p.account h;
-    order = orders.step commit Drops l l' received (map asked_by responses) p.order h;
+    order = orders.step commit Drops l l' received ordered p.order h;
     last_is = ap (λ v. v.slot) h;
     responses_are = p.responses_are;
     told = p.told;
   })
-  drops (IsDeferred r) sent received responses released l l' p h = record {
-    log' = record { sent = sent; received = received; responses = responses; released = released; last = IsDropped r };
+  drops (IsDeferred r) sent received ordered responses released l l' p h = record {
+    log' = record { sent = sent; received = received; ordered = ordered; responses = responses; released = released; last = IsDropped r };
     has = record {
       name_is = ap (λ v. v.name) h ∙ p.name_is;
       account = accounts.step commit Drops l l' _ p.account h;
-      order = orders.step commit Drops l l' received (map asked_by responses) p.order h;
+      order = orders.step commit Drops l l' received ordered p.order h;
       last_is = (ap (λ v. v.slot) h, ap (λ v. v.done) h);
       responses_are = p.responses_are;
       told = p.told;
     };
     sent_is = sym (append-nil sent);
     received_is = sym (append-nil received);
+        ordered_is = sym (append-nil ordered);
     responses_is = sym (append-nil responses);
   }
-  drops (HasEnded end) sent received responses released l l' p h = grows_still (record { sent = sent; received = received; responses = responses; released = released; last = HasEnded end }) l' (record {
+  drops (HasEnded end) sent received ordered responses released l l' p h = grows_still (record { sent = sent; received = received; ordered = ordered; responses = responses; released = released; last = HasEnded end }) l' (record {
     name_is = ap (λ v. v.name) h ∙ p.name_is;
     account = accounts.step commit Drops l l' _ p.account h;
-    order = orders.step commit Drops l l' received (map asked_by responses) p.order h;
+    order = orders.step commit Drops l l' received ordered p.order h;
     last_is = (ap (λ v. v.slot) h, ap (λ v. v.done) h);
     responses_are = p.responses_are;
     told = p.told;
   })
-  drops (IsDropped r) sent received responses released l l' p h = grows_still (record { sent = sent; received = received; responses = responses; released = released; last = IsDropped r }) l' (record {
+  drops (IsDropped r) sent received ordered responses released l l' p h = grows_still (record { sent = sent; received = received; ordered = ordered; responses = responses; released = released; last = IsDropped r }) l' (record {
     name_is = ap (λ v. v.name) h ∙ p.name_is;
     account = accounts.step commit Drops l l' _ p.account h;
-    order = orders.step commit Drops l l' received (map asked_by responses) p.order h;
+    order = orders.step commit Drops l l' received ordered p.order h;
     last_is = (ap (λ v. v.slot) h, ap (λ v. v.done) h);
     responses_are = p.responses_are;
     told = p.told;
   })
 
   step_grows : (step : ClientStep) (log : Log) (l l' : ClientState) → HasLog name base outcomes log l → StepsTo commit step l l'
-      → Grows name base outcomes log (sent_by_step step) (received_by_step step) [] l'
+      → Grows name base outcomes log (sent_by_step step) (received_by_step step) (ordered_by_step step) [] l'
   step_grows (Receives bytes) log l l' p h = record {
     log' = record log { received = log.received ++ bytes };
     has = record {
       name_is = ap (λ v. v.name) h ∙ p.name_is;
       account = accounts.step commit (Receives bytes) l l' (account_of log) p.account h;
-      order = orders.step commit (Receives bytes) l l' log.received (map asked_by log.responses) p.order h;
+      order = orders.step commit (Receives bytes) l l' log.received log.ordered p.order h;
       last_is = last_alike base outcomes log.last l l' (ap (λ v. v.slot) h) (ap (λ v. v.batch) h) (λ d. ap (λ v. v.done) h ∙ d) p.last_is;
       responses_are = p.responses_are;
       told = p.told;
     };
     sent_is = sym (append-nil log.sent);
     received_is = refl;
+    ordered_is = sym (append-nil log.ordered);
     responses_is = sym (append-nil log.responses);
   }
   step_grows ReceivesEnd log l l' p h = grows_still log l' (record {
     name_is = ap (λ v. v.name) h ∙ p.name_is;
     account = accounts.step commit ReceivesEnd l l' (account_of log) p.account h;
-    order = orders.step commit ReceivesEnd l l' log.received (map asked_by log.responses) p.order h;
+    order = orders.step commit ReceivesEnd l l' log.received log.ordered p.order h;
     last_is = last_alike base outcomes log.last l l' (ap (λ v. v.slot) h) (ap (λ v. v.batch) h) (λ d. ap (λ v. v.done) h ∙ d) p.last_is;
     responses_are = p.responses_are;
     told = p.told;
@@ -306,21 +309,36 @@ module _ (name base : ℕ) (outcomes : List Outcome) (commit : CommitRecord) (is
     has = record {
       name_is = ap (λ v. v.name) h.3 ∙ p.name_is;
       account = accounts.step commit (Sends bytes) l l' (account_of log) p.account h;
-      order = orders.step commit (Sends bytes) l l' log.received (map asked_by log.responses) p.order h;
+      order = orders.step commit (Sends bytes) l l' log.received log.ordered p.order h;
       last_is = last_alike base outcomes log.last l l' (ap (λ v. v.slot) h.3) (ap (λ v. v.batch) h.3) (λ d. ap (λ v. v.done) h.3 ∙ d) p.last_is;
       responses_are = p.responses_are;
       told = p.told;
     };
     sent_is = refl;
-    received_is = sym (append-nil log.received);
+    received_is = sym (append-nil log.received); ordered_is = sym (append-nil log.ordered);
     responses_is = sym (append-nil log.responses);
   }
-  step_grows Releases log l l' p h = releases log.last log.sent log.received log.responses log.released l l' p h
-  step_grows Drops log l l' p h = drops log.last log.sent log.received log.responses log.released l l' p h
+  step_grows Releases log l l' p h = releases log.last log.sent log.received log.ordered log.responses log.released l l' p h
+  step_grows Drops log l l' p h = drops log.last log.sent log.received log.ordered log.responses log.released l l' p h
+  step_grows Limits log l l' p h = record {
+    log' = record log { ordered = log.ordered ++ LetsOneCome ∷ [] };
+    has = record {
+      name_is = ap (λ v. v.name) h ∙ p.name_is;
+      account = accounts.step commit Limits l l' (account_of log) p.account h;
+      order = orders.step commit Limits l l' log.received log.ordered p.order h;
+      last_is = last_alike base outcomes log.last l l' (ap (λ v. v.slot) h) (ap (λ v. v.batch) h) (λ d. ap (λ v. v.done) h ∙ d) p.last_is;
+      responses_are = p.responses_are;
+      told = p.told;
+    };
+    sent_is = sym (append-nil log.sent);
+    received_is = sym (append-nil log.received);
+    ordered_is = refl;
+    responses_is = sym (append-nil log.responses);
+  }
   step_grows Aborts log l l' p h = grows_still log l' (record {
     name_is = ap (λ v. v.name) h ∙ p.name_is;
     account = accounts.step commit Aborts l l' (account_of log) p.account h;
-    order = orders.step commit Aborts l l' log.received (map asked_by log.responses) p.order h;
+    order = orders.step commit Aborts l l' log.received log.ordered p.order h;
     last_is = last_alike base outcomes log.last l l' (ap (λ v. v.slot) h) (ap (λ v. v.batch) h) (λ d. ap (λ v. v.done) h) p.last_is;
     responses_are = p.responses_are;
     told = p.told;
@@ -340,59 +358,59 @@ not_done true p q = absurd (cc)
 not_done false p q = absurd (cc)
 
 module _ (name base : ℕ) (outcomes : List Outcome) (commit : CommitRecord) (is : IsRecordOf base outcomes commit) where
-  call_grows : (deferred : Bool) (last : LastResponse) (sent received : List ℕ) (responses : List ClientResponse) (released : List ReleasedResponse) (l : ClientState)
+  call_grows : (deferred : Bool) (last : LastResponse) (sent received : List ℕ) (ordered : List OrderedEvent) (responses : List ClientResponse) (released : List ReleasedResponse) (l : ClientState)
       (callers : Callers) (asked : RequestCall) (reply : Reply) (notes : List (List ℕ)) (rest : List ℕ)
-      → HasLog name base outcomes (record { sent = sent; received = received; responses = responses; released = released; last = last }) l
+      → HasLog name base outcomes (record { sent = sent; received = received; ordered = ordered; responses = responses; released = released; last = last }) l
       → l.done ≡ false → 0 < l.left → l.slot ≡ None → asked.closing ≡ (left_after (l.left - 1) asked.head == 0)
       → ((later : List ℕ) → AsksCall AnyMoment callers (l.held ++ later) tt asked (rest ++ later) tt)
-      → Grows name base outcomes (record { sent = sent; received = received; responses = responses; released = released; last = last }) [] []
-      (record { callers = callers; asked = asked; reply = reply; notes = notes; commits = length outcomes } ∷ [])
+      → Grows name base outcomes (record { sent = sent; received = received; ordered = ordered; responses = responses; released = released; last = last }) [] [] (Asks callers asked ∷ [])
+      (record { asked = asked; reply = reply; notes = notes; commits = length outcomes } ∷ [])
       (with_response l asked reply notes rest deferred (number_of commit))
-  call_grows true IsReleased sent received responses released l callers asked reply notes rest p running some none closing asks =
-      let r : ClientResponse = record { callers = callers; asked = asked; reply = reply; notes = notes; commits = length outcomes } in
+  call_grows true IsReleased sent received ordered responses released l callers asked reply notes rest p running some none closing asks =
+      let r : ClientResponse = record { asked = asked; reply = reply; notes = notes; commits = length outcomes } in
       record {
-        log' = record { sent = sent; received = received; responses = responses ++ r ∷ []; released = released; last = IsDeferred r };
+        log' = record { sent = sent; received = received; ordered = ordered ++ Asks callers asked ∷ []; responses = responses ++ r ∷ []; released = released; last = IsDeferred r };
         has = record {
           name_is = p.name_is;
           account = accounts.call asked reply notes rest true (number_of commit) l _ p.account none;
-          order = subst (λ v. IsInOrder received v (with_response l asked reply notes rest true (number_of commit))) (sym (map-append asked_by responses (r ∷ [])))
-              (orders.call callers asked reply notes rest true (number_of commit) l received (map asked_by responses) p.order some closing asks);
+          order = orders.call callers asked reply notes rest true (number_of commit) l received ordered p.order some closing asks;
           last_is = (refl, is.number, omega arith);
           responses_are = ap (λ v. v ++ r ∷ []) (p.responses_are ∙ append-nil (map response_of released));
           told = p.told;
         };
         sent_is = sym (append-nil sent);
         received_is = sym (append-nil received);
+        ordered_is = refl;
         responses_is = refl;
       }
-  call_grows false IsReleased sent received responses released l callers asked reply notes rest p running some none closing asks =
-      let r : ClientResponse = record { callers = callers; asked = asked; reply = reply; notes = notes; commits = length outcomes } in
+  call_grows false IsReleased sent received ordered responses released l callers asked reply notes rest p running some none closing asks =
+      let r : ClientResponse = record { asked = asked; reply = reply; notes = notes; commits = length outcomes } in
       let now : ReleasedResponse = record { response = r; waited = false; outcome = Ok tt } in
       record {
-        log' = record { sent = sent; received = received; responses = responses ++ r ∷ []; released = released ++ now ∷ []; last = IsReleased };
+        log' = record { sent = sent; received = received; ordered = ordered ++ Asks callers asked ∷ []; responses = responses ++ r ∷ []; released = released ++ now ∷ []; last = IsReleased };
         has = record {
           name_is = p.name_is;
           account = subst (λ v. IsAccountOf (record { sent = sent; released = v; deferred = [] }) (with_response l asked reply notes rest false (number_of commit))) (texts_then released now)
               (accounts.call asked reply notes rest false (number_of commit) l _ p.account none);
-          order = subst (λ v. IsInOrder received v (with_response l asked reply notes rest false (number_of commit))) (sym (map-append asked_by responses (r ∷ [])))
-              (orders.call callers asked reply notes rest false (number_of commit) l received (map asked_by responses) p.order some closing asks);
+          order = orders.call callers asked reply notes rest false (number_of commit) l received ordered p.order some closing asks;
           last_is = refl;
           responses_are = responses_then (responses ++ r ∷ []) released now r (ap (λ v. v ++ r ∷ []) (p.responses_are ∙ append-nil (map response_of released))) refl;
           told = all_then (IsTold outcomes) released now p.told tt;
         };
         sent_is = sym (append-nil sent);
         received_is = sym (append-nil received);
+        ordered_is = refl;
         responses_is = refl;
       }
-  call_grows deferred (IsDeferred r) sent received responses released l callers asked reply notes rest p running some none closing asks = no_slot l.slot (slot_for r.asked) p.last_is.0 none
-  call_grows deferred (HasEnded end) sent received responses released l callers asked reply notes rest p running some none closing asks = not_done l.done p.last_is.1 running
-  call_grows deferred (IsDropped r) sent received responses released l callers asked reply notes rest p running some none closing asks = not_done l.done p.last_is.1 running
+  call_grows deferred (IsDeferred r) sent received ordered responses released l callers asked reply notes rest p running some none closing asks = no_slot l.slot (slot_for r.asked) p.last_is.0 none
+  call_grows deferred (HasEnded end) sent received ordered responses released l callers asked reply notes rest p running some none closing asks = not_done l.done p.last_is.1 running
+  call_grows deferred (IsDropped r) sent received ordered responses released l callers asked reply notes rest p running some none closing asks = not_done l.done p.last_is.1 running
 
-  end_grows : (last : LastResponse) (sent received : List ℕ) (responses : List ClientResponse) (released : List ReleasedResponse) (l : ClientState) (end : End)
-      → HasLog name base outcomes (record { sent = sent; received = received; responses = responses; released = released; last = last }) l → l.done ≡ false → l.slot ≡ None
-      → Grows name base outcomes (record { sent = sent; received = received; responses = responses; released = released; last = last }) [] [] [] (finished l end)
-  end_grows IsReleased sent received responses released l end p running none = record {
-    log' = record { sent = sent; received = received; responses = responses; released = released; last = HasEnded end };
+  end_grows : (last : LastResponse) (sent received : List ℕ) (ordered : List OrderedEvent) (responses : List ClientResponse) (released : List ReleasedResponse) (l : ClientState) (end : End)
+      → HasLog name base outcomes (record { sent = sent; received = received; ordered = ordered; responses = responses; released = released; last = last }) l → l.done ≡ false → l.slot ≡ None
+      → Grows name base outcomes (record { sent = sent; received = received; ordered = ordered; responses = responses; released = released; last = last }) [] [] [] [] (finished l end)
+  end_grows IsReleased sent received ordered responses released l end p running none = record {
+    log' = record { sent = sent; received = received; ordered = ordered; responses = responses; released = released; last = HasEnded end };
     has = record {
       name_is = p.name_is;
       account = subst (λ v. IsAccountOf (record { sent = sent; released = v; deferred = [] }) (finished l end)) (texts_last released (concat (end_texts end))) (accounts.end end l _ p.account none);
@@ -403,43 +421,44 @@ module _ (name base : ℕ) (outcomes : List Outcome) (commit : CommitRecord) (is
     };
     sent_is = sym (append-nil sent);
     received_is = sym (append-nil received);
+        ordered_is = sym (append-nil ordered);
     responses_is = sym (append-nil responses);
   }
-  end_grows (IsDeferred r) sent received responses released l end p running none = no_slot l.slot (slot_for r.asked) p.last_is.0 none
-  end_grows (HasEnded earlier) sent received responses released l end p running none = not_done l.done p.last_is.1 running
-  end_grows (IsDropped r) sent received responses released l end p running none = not_done l.done p.last_is.1 running
+  end_grows (IsDeferred r) sent received ordered responses released l end p running none = no_slot l.slot (slot_for r.asked) p.last_is.0 none
+  end_grows (HasEnded earlier) sent received ordered responses released l end p running none = not_done l.done p.last_is.1 running
+  end_grows (IsDropped r) sent received ordered responses released l end p running none = not_done l.done p.last_is.1 running
 
   module _ {S M : Type 0} (g : spaces.Ghosts S) (k : commits.Ghosts S) (m : moments.Ghosts M) (explaining : Explaining) (table : TokenFile) where
     event_grows : (x : ClientEvent) (log : Log) (old new : ServedClient S M) → HasLog name base outcomes log old.client → Occurs g k m explaining table commit x old new
-        → Grows name base outcomes log (sent_by x) (received_by x) (responses_by (callers_of table) (length outcomes) x) new.client
+        → Grows name base outcomes log (sent_by x) (received_by x) (ordered_by (callers_of table) x) (responses_by (length outcomes) x) new.client
     event_grows (Steps step) log old new p h =
-        subst (λ (l : ClientState). Grows name base outcomes log (sent_by_step step) (received_by_step step) [] l) (sym (ap (λ v. v.client) h.2))
+        subst (λ (l : ClientState). Grows name base outcomes log (sent_by_step step) (received_by_step step) (ordered_by_step step) [] l) (sym (ap (λ v. v.client) h.2))
         (step_grows name base outcomes commit is step log old.client h.0 p h.1)
     event_grows (Calls asked reply notes) log old new p h =
-        subst (λ (l : ClientState). Grows name base outcomes log [] [] (responses_by (callers_of table) (length outcomes) (Calls asked reply notes)) l) (sym (ap (λ v. v.client) h.6))
-        (call_grows (is_deferred k old.service h.1) log.last log.sent log.received log.responses log.released old.client (callers_of table) asked reply notes h.0 p
+        subst (λ (l : ClientState). Grows name base outcomes log [] [] (Asks (callers_of table) asked ∷ []) (responses_by (length outcomes) (Calls asked reply notes)) l) (sym (ap (λ v. v.client) h.6))
+        (call_grows (is_deferred k old.service h.1) log.last log.sent log.received log.ordered log.responses log.released old.client (callers_of table) asked reply notes h.0 p
         h.3.is_running h.3.some h.3.none_deferred h.3.closing
         (λ later. record { body = (h.5 later).body; request = (h.5 later).request; call = (h.5 later).call; moment = tt; next_is = (h.5 later).next_is }))
     event_grows (LosesReply asked reply) log old new p h =
-        subst (λ (l : ClientState). Grows name base outcomes log [] [] [] l) (sym (ap (λ v. v.client) h.5))
+        subst (λ (l : ClientState). Grows name base outcomes log [] [] [] [] l) (sym (ap (λ v. v.client) h.5))
         (step_grows name base outcomes commit is Aborts log old.client (record old.client { done = true }) p refl)
     event_grows (EndsStream end) log old new p h =
-        subst (λ (l : ClientState). Grows name base outcomes log [] [] [] l) (sym (ap (λ v. v.client) h.3))
-        (end_grows log.last log.sent log.received log.responses log.released old.client end p h.0 h.1)
+        subst (λ (l : ClientState). Grows name base outcomes log [] [] [] [] l) (sym (ap (λ v. v.client) h.3))
+        (end_grows log.last log.sent log.received log.ordered log.responses log.released old.client end p h.0 h.1)
     event_grows (ReadsClock (Some moment)) log old new p h =
-        subst (λ (l : ClientState). Grows name base outcomes log [] [] [] l) (sym (ap (λ v. v.client) h.2)) (grows_still name base outcomes commit is log old.client p)
+        subst (λ (l : ClientState). Grows name base outcomes log [] [] [] [] l) (sym (ap (λ v. v.client) h.2)) (grows_still name base outcomes commit is log old.client p)
     event_grows (ReadsClock None) log old new p h =
-        subst (λ (l : ClientState). Grows name base outcomes log [] [] [] l) (sym (ap (λ v. v.client) h.2)) (grows_still name base outcomes commit is log old.client p)
+        subst (λ (l : ClientState). Grows name base outcomes log [] [] [] [] l) (sym (ap (λ v. v.client) h.2)) (grows_still name base outcomes commit is log old.client p)
 
     -- All events of the client between two commits.
     pub events_grow : (xs : List ClientEvent) (log : Log) (old new : ServedClient S M) → HasLog name base outcomes log old.client → OccurAll g k m explaining table commit xs old new
-        → Grows name base outcomes log (flat_map sent_by xs) (flat_map received_by xs) (flat_map (responses_by (callers_of table) (length outcomes)) xs) new.client
+        → Grows name base outcomes log (flat_map sent_by xs) (flat_map received_by xs) (flat_map (ordered_by (callers_of table)) xs) (flat_map (responses_by (length outcomes)) xs) new.client
     events_grow [] log old new p h =
-        subst (λ (l : ClientState). Grows name base outcomes log [] [] [] l) (sym (ap (λ v. v.client) h)) (grows_still name base outcomes commit is log old.client p)
+        subst (λ (l : ClientState). Grows name base outcomes log [] [] [] [] l) (sym (ap (λ v. v.client) h)) (grows_still name base outcomes commit is log old.client p)
     events_grow (x ∷ xs) log old new p h =
         let one = event_grows x log old h.0 p h.1 in
-        grows_then name base outcomes outcomes log (sent_by x) (flat_map sent_by xs) (received_by x) (flat_map received_by xs) (responses_by (callers_of table) (length outcomes) x)
-        (flat_map (responses_by (callers_of table) (length outcomes)) xs) h.0.client new.client one (events_grow xs one.log' h.0 new one.has h.2)
+        grows_then name base outcomes outcomes log (sent_by x) (flat_map sent_by xs) (received_by x) (flat_map received_by xs) (ordered_by (callers_of table) x) (flat_map (ordered_by (callers_of table)) xs) (responses_by (length outcomes) x)
+        (flat_map (responses_by (length outcomes)) xs) h.0.client new.client one (events_grow xs one.log' h.0 new one.has h.2)
 
     pub steps_occur : (xs : List ClientStep) (s : Service S) (c : M) (l l' : ClientState) → StepsBy commit xs l l'
         → OccurAll g k m explaining table commit (map (λ x. Steps x) xs) (served_client s c l) (served_client s c l')

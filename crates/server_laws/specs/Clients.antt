@@ -1,5 +1,5 @@
 -- What one client sent and was sent over a sequence of events.
-use Rattle.std.specs.Prelude.{◌≡◌, ◌==◌, ◌+◌, ℕ, Bool, true, false, List, [], ◌∷◌, ◌++◌, length, map, Option, Some, None, Result, Ok, Err, if◌then◌else◌}
+use Rattle.std.specs.Prelude.{◌≡◌, ◌==◌, ◌+◌, ℕ, Bool, true, false, List, [], ◌∷◌, ◌++◌, length, map, Option, Some, None, Result, Ok, Err, if◌then◌else◌, unwrap_or}
 use Rattle.std.specs.List.{AllByRecursion, concat, flat_map}
 use Rattle.space_core.specs.declared.group_commit.GroupCommit as commits
 use Rattle.space_core.specs.declared.space.Space as spaces
@@ -13,11 +13,12 @@ use Rattle.wire_http.specs.declared.explaining.Explaining.{Explaining}
 use Rattle.wire_http.specs.declared.moments.Moments as moments
 use Rattle.wire_http.specs.Text.{noted_text, end_texts, response_text}
 use Rattle.wire_http.specs.Wire.{RequestCall}
-use Rattle.server_client.specs.CallOrder.{IsInOrder}
+use Rattle.server_client.specs.CallOrder.{Asks, IsInOrder, LetsOneCome, OrderedEvent}
 use Rattle.server_client.specs.ClientEvents.{Calls, ClientEvent, EndsStream, LosesReply, ReadsClock, Steps}
-use Rattle.server_client.specs.ClientState.{Aborts, ClientState, ClientStep, Discards, Drops, Receives, ReceivesEnd, Releases, Sends, new_client}
+use Rattle.server_client.specs.ClientState.{Aborts, ClientState, ClientStep, Discards, Drops, Limits, Receives, ReceivesEnd, Releases, Sends, new_client}
+use Rattle.server_watch.specs.declared.token_watch.TokenSource as sources
 use Rattle.dss_server.specs.ClientSet.{Accepts, Closes, Refuses, SetChange, TakesSteps}
-use Rattle.dss_server.specs.ServeEvents.{FollowAll, Loads, Purges, Runs, ServeEvent, ServeState}
+use Rattle.dss_server.specs.ServeEvents.{FollowAll, Looks, Purges, Runs, ServeEvent, ServeState}
 use Rattle.dss_server.specs.ServiceEvents.{Changes, Commits, Serves, ServiceEvent}
 use Rattle.server_laws.specs.Cut.{Act, EndsBatch, FollowWith, PurgesUpTo, Replies}
 
@@ -39,7 +40,7 @@ events_of_service key Commits = []
 abbrev pub events_for : (key : ℕ) → ServeEvent → List ClientEvent
 events_for key (Runs event) = events_of_service key event
 events_for key Purges = []
-events_for key (Loads table) = []
+events_for key (Looks now taken) = []
 
 -- Returns true if the event closes the client under a key.
 abbrev pub closes : (key : ℕ) → ServeEvent → Bool
@@ -50,7 +51,7 @@ closes key (Runs (Changes (Closes other))) = key == other
 closes key (Runs (Serves other name events)) = false
 closes key (Runs Commits) = false
 closes key Purges = false
-closes key (Loads table) = false
+closes key (Looks now taken) = false
 
 -- ---- bytes and calls
 
@@ -63,6 +64,7 @@ sent_by_step (Sends bytes) = bytes
 sent_by_step Releases = []
 sent_by_step Drops = []
 sent_by_step Aborts = []
+sent_by_step Limits = []
 
 abbrev pub received_by_step : ClientStep → List ℕ
 received_by_step (Receives bytes) = bytes
@@ -72,6 +74,7 @@ received_by_step (Sends bytes) = []
 received_by_step Releases = []
 received_by_step Drops = []
 received_by_step Aborts = []
+received_by_step Limits = []
 
 abbrev pub sent_by : ClientEvent → List ℕ
 sent_by (Steps step) = sent_by_step step
@@ -93,49 +96,70 @@ sent_to key events = flat_map (λ event. flat_map sent_by (events_for key event)
 abbrev pub received_from : (key : ℕ) → List ServeEvent → List ℕ
 received_from key events = flat_map (λ event. flat_map received_by (events_for key event)) events
 
--- A call of a client with the callers of the active table, its reply as it was made, the texts in
--- its response, and the number of commits before it.
+-- A call of a client with its reply as it was made, the texts in its response, and the number of
+-- commits before it.
 pub record ClientResponse : Type 0 where
-  pub callers : Callers
   pub asked : RequestCall
   pub reply : Reply
   pub notes : List (List ℕ)
   pub commits : ℕ
 
-abbrev pub responses_by : Callers → (commits : ℕ) → ClientEvent → List ClientResponse
-responses_by callers commits (Steps step) = []
-responses_by callers commits (Calls asked reply notes) = record {
-  callers = callers;
+abbrev pub responses_by : (commits : ℕ) → ClientEvent → List ClientResponse
+responses_by commits (Steps step) = []
+responses_by commits (Calls asked reply notes) = record {
   asked = asked;
   reply = reply;
   notes = notes;
   commits = commits;
 } ∷ []
-responses_by callers commits (LosesReply asked reply) = []
-responses_by callers commits (EndsStream end) = []
-responses_by callers commits (ReadsClock moment) = []
+responses_by commits (LosesReply asked reply) = []
+responses_by commits (EndsStream end) = []
+responses_by commits (ReadsClock moment) = []
 
 -- The table and the number of commits after an event.
 abbrev pub table_after : ServeEvent → TokenFile → TokenFile
 table_after (Runs event) table = table
 table_after Purges table = table
-table_after (Loads other) table = other
+table_after (Looks now taken) table = unwrap_or taken table
 
 abbrev pub commits_after : ServeEvent → (commits : ℕ) → ℕ
 commits_after (Runs (Changes change)) commits = commits
 commits_after (Runs (Serves key name events)) commits = commits
 commits_after (Runs Commits) commits = commits + 1
 commits_after Purges commits = commits
-commits_after (Loads table) commits = commits
+commits_after (Looks now taken) commits = commits
 
 -- The answered calls of the client, in order. A call whose response is lost is not among them.
 -- `commits` commits came before the events.
-abbrev pub responses_to : (key : ℕ) → TokenFile → (commits : ℕ) → List ServeEvent
-    → List ClientResponse
-responses_to key table commits [] = []
-responses_to key table commits (event ∷ events) =
-    flat_map (responses_by (callers_of table) commits) (events_for key event)
-    ++ responses_to key (table_after event table) (commits_after event commits) events
+abbrev pub responses_to : (key : ℕ) → (commits : ℕ) → List ServeEvent → List ClientResponse
+responses_to key commits [] = []
+responses_to key commits (event ∷ events) = flat_map (responses_by commits) (events_for key event)
+    ++ responses_to key (commits_after event commits) events
+
+-- The calls of the client, but for one whose response is lost, and the limits to one more request, in
+-- order.
+abbrev pub ordered_by_step : ClientStep → List OrderedEvent
+ordered_by_step (Receives bytes) = []
+ordered_by_step ReceivesEnd = []
+ordered_by_step (Discards bytes) = []
+ordered_by_step (Sends bytes) = []
+ordered_by_step Releases = []
+ordered_by_step Drops = []
+ordered_by_step Aborts = []
+ordered_by_step Limits = LetsOneCome ∷ []
+
+abbrev pub ordered_by : Callers → ClientEvent → List OrderedEvent
+ordered_by callers (Steps step) = ordered_by_step step
+ordered_by callers (Calls asked reply notes) = Asks callers asked ∷ []
+ordered_by callers (LosesReply asked reply) = []
+ordered_by callers (EndsStream end) = []
+ordered_by callers (ReadsClock moment) = []
+
+abbrev pub ordered_of : (key : ℕ) → TokenFile → List ServeEvent → List OrderedEvent
+ordered_of key table [] = []
+ordered_of key table (event ∷ events) =
+    flat_map (ordered_by (callers_of table)) (events_for key event)
+    ++ ordered_of key (table_after event table) events
 
 -- ---- responses
 
@@ -225,7 +249,7 @@ pub record ServedFor (key name : ℕ) (table : TokenFile) (events : List ServeEv
   pub released : List ReleasedResponse
   pub last : LastResponse
   -- Its responses are those to its calls, in order, each once. All but the last were released.
-  pub responses : responses_to key table 0 events
+  pub responses : responses_to key 0 events
       ≡ map (λ each. each.response) released ++ unreleased last
   -- No response that had been deferred was released before its commit.
   pub told : AllByRecursion (IsTold (outcomes_in acts)) released
@@ -233,18 +257,17 @@ pub record ServedFor (key name : ℕ) (table : TokenFile) (events : List ServeEv
   pub sent : sent_to key events ++ l.ready ≡ flat_map text_of_released released ++ last_text last
   pub unsent : l.output ≡ l.ready ++ deferred_text last
   -- Its calls are those of the first requests in its bytes, in order.
-  pub in_order : IsInOrder (received_from key events)
-      (map (λ each. (each.callers, each.asked)) (responses_to key table 0 events)) l
+  pub in_order : IsInOrder (received_from key events) (ordered_of key table events) l
 
 -- States what each client was sent, from the state in which it was accepted, as long as it is not
 -- closed.
-module _ {S M : Type 0} (g : spaces.Ghosts S) (k : commits.Ghosts S) (m : moments.Ghosts M)
-    (gives : List ℕ → Type 0) where
+module _ {S M T : Type 0} (g : spaces.Ghosts S) (k : commits.Ghosts S) (m : moments.Ghosts M)
+    (t : sources.Ghosts T) where
   abbrev pub EachClientIsServed : Type 0
   EachClientIsServed = (explaining : Explaining) (keep : Option ℕ) (first : TokenFile)
-      (events : List ServeEvent) (acts : List Act) (old new : ServeState S M) (key name : ℕ)
-      → FollowWith g k m explaining gives keep first events acts old new
+      (events : List ServeEvent) (acts : List Act) (old new : ServeState S M T) (key name : ℕ)
+      → FollowWith g k m explaining t keep first events acts old new
       → old.served.clients.states key ≡ Some (new_client name)
       → AllByRecursion (λ event. closes key event ≡ false) events
       → (l : ClientState) × (new.served.clients.states key ≡ Some l)
-      × ServedFor key name old.table events acts l
+      × ServedFor key name old.active.table events acts l

@@ -15,7 +15,8 @@ use Rattle.wire_http.specs.declared.moments.Moments as moments
 use Rattle.wire_http.specs.Wire.{RequestCall, timed}
 use Rattle.server_client.specs.ClientEvents.{Calls, ClientEvent, EndsStream, LosesReply, ReadsClock, Steps}
 use Rattle.server_client.specs.CommitRecord.{outcome_of}
-use Rattle.dss_server.specs.ServeEvents.{FollowAll, Follows, Loads, Purges, Runs, ServeEvent, ServeState}
+use Rattle.server_watch.specs.declared.token_watch.TokenSource as sources
+use Rattle.dss_server.specs.ServeEvents.{FollowAll, Follows, Looks, Purges, PurgesBetween, Runs, ServeEvent, ServeState, is_called_since}
 use Rattle.dss_server.specs.ServiceEvents.{Changes, Commits, Serves, ServiceEvent}
 
 -- ---- calls
@@ -54,26 +55,26 @@ pub data Act : Type 0 where
 abbrev pub act_of_call : ClientCall → Act
 act_of_call call = Replies (timed call.asked) call.reply
 
-module _ {S M : Type 0} where
+module _ {S M T : Type 0} where
   -- Holds if these are the acts of an event between two states. A commit has the outcome of the next
   -- record. A step of the schedule of purges purges one chunk, or nothing.
-  abbrev pub HasActs : ServeEvent → (old new : ServeState S M) → List Act → Type 0
+  abbrev pub HasActs : ServeEvent → (old new : ServeState S M T) → List Act → Type 0
   HasActs (Runs (Changes change)) old new acts = acts ≡ []
   HasActs (Runs (Serves key name events)) old new acts =
       acts ≡ map act_of_call (flat_map (calls_of_client key) events)
   HasActs (Runs Commits) old new acts =
       acts ≡ EndsBatch (outcome_of new.served.clients.commit) ∷ []
   HasActs Purges old new acts = (acts ≡ []) ⊎ ((until : ℕ) × (acts ≡ PurgesUpTo until ∷ []))
-  HasActs (Loads table) old new acts = acts ≡ []
+  HasActs (Looks now taken) old new acts = acts ≡ []
 
-module _ {S M : Type 0} (g : spaces.Ghosts S) (k : commits.Ghosts S) (m : moments.Ghosts M)
-    (explaining : Explaining) (gives : List ℕ → Type 0) (keep : Option ℕ) (first : TokenFile) where
+module _ {S M T : Type 0} (g : spaces.Ghosts S) (k : commits.Ghosts S) (m : moments.Ghosts M)
+    (explaining : Explaining) (t : sources.Ghosts T) (keep : Option ℕ) (first : TokenFile) where
   -- Holds if the events lead from one state to the other, and these are their acts, in order.
-  abbrev pub FollowWith : List ServeEvent → List Act → (old new : ServeState S M) → Type 0
+  abbrev pub FollowWith : List ServeEvent → List Act → (old new : ServeState S M T) → Type 0
   FollowWith [] acts old new = (acts ≡ []) × (new ≡ old)
-  FollowWith (event ∷ events) acts old new = (mid : ServeState S M) × (now : List Act)
+  FollowWith (event ∷ events) acts old new = (mid : ServeState S M T) × (now : List Act)
       × (later : List Act) × (acts ≡ now ++ later)
-      × Follows g k m explaining gives keep first event old mid × HasActs event old mid now
+      × Follows g k m explaining t keep first event old mid × HasActs event old mid now
       × FollowWith events later mid new
 
 -- The acts of calls, of batches, and of segments.
@@ -87,24 +88,6 @@ abbrev pub acts_of_segment : Segment → List Act
 acts_of_segment segment = flat_map acts_of_batch segment.batches ++ PurgesUpTo segment.until ∷ []
 
 -- ---- cuts
-
--- The calls after the last commit, after an event. `calls` are those before it.
-abbrev pub uncommitted_after : ServeEvent → (calls : List ClientCall) → List ClientCall
-uncommitted_after (Runs (Changes change)) calls = calls
-uncommitted_after (Runs (Serves key name events)) calls =
-    calls ++ flat_map (calls_of_client key) events
-uncommitted_after (Runs Commits) calls = []
-uncommitted_after Purges calls = calls
-uncommitted_after (Loads table) calls = calls
-
--- Holds if each step of the schedule of purges comes between two batches. `calls` are those before
--- the events, after the last commit.
-abbrev pub PurgesBetween : (calls : List ClientCall) → List ServeEvent → Type 0
-PurgesBetween calls [] = Unit {0}
-PurgesBetween calls (Runs event ∷ events) =
-    PurgesBetween (uncommitted_after (Runs event) calls) events
-PurgesBetween calls (Purges ∷ events) = (calls ≡ []) × PurgesBetween calls events
-PurgesBetween calls (Loads table ∷ events) = PurgesBetween calls events
 
 -- The segments, the batches after them, and the calls after the last commit. These are the acts, cut
 -- at commits and purges, and lead from one service to the other.
@@ -121,13 +104,20 @@ pub record Cut {S : Type 0} (g : spaces.Ghosts S) (k : commits.Ghosts S) (acts :
   pub made : MadeBatches g k last batches committed
   pub calls_made : CalledInOrder g k committed calls new
 
--- States that events in which purges come between batches form segments. The calls are those of the
--- clients, each at its place.
-module _ {S M : Type 0} (g : spaces.Ghosts S) (k : commits.Ghosts S) (m : moments.Ghosts M)
-    (gives : List ℕ → Type 0) where
+module _ {S M T : Type 0} (g : spaces.Ghosts S) (k : commits.Ghosts S) (m : moments.Ghosts M)
+    (t : sources.Ghosts T) where
+  -- Holds if the events form segments and batches. The calls are those of the clients, each at its
+  -- place. If a commit came after each of them, all are in batches.
+  pub record FormSegments (explaining : Explaining) (keep : Option ℕ) (first : TokenFile)
+      (events : List ServeEvent) (old new : ServeState S M T) : Type 0 where
+    pub acts : List Act
+    pub follow : FollowWith g k m explaining t keep first events acts old new
+    pub cut : Cut g k acts old.served.service new.served.service
+    pub committed : is_called_since events false ≡ false → cut.calls ≡ []
+
+  -- States that events form segments if purges come between batches.
   abbrev pub EventsFormSegments : Type 0
   EventsFormSegments = (explaining : Explaining) (keep : Option ℕ) (first : TokenFile)
-      (events : List ServeEvent) (old new : ServeState S M)
-      → FollowAll g k m explaining gives keep first events old new → PurgesBetween [] events
-      → (acts : List Act) × FollowWith g k m explaining gives keep first events acts old new
-      × Cut g k acts old.served.service new.served.service
+      (events : List ServeEvent) (old new : ServeState S M T)
+      → FollowAll g k m explaining t keep first events old new → PurgesBetween events false
+      → FormSegments explaining keep first events old new

@@ -14,8 +14,9 @@ use Rattle.service_purge.specs.Segments.{AreUnseen, KnownOver, LookAheadOncePurg
 use Rattle.token_conf.specs.TokenFile.{TokenFile}
 use Rattle.wire_http.specs.declared.explaining.Explaining.{Explaining}
 use Rattle.wire_http.specs.declared.moments.Moments as moments
-use Rattle.dss_server.specs.ServeEvents.{FollowAll, ServeEvent, ServeState}
-use Rattle.server_laws.specs.Cut.{Act, Cut, FollowWith, PurgesBetween}
+use Rattle.server_watch.specs.declared.token_watch.TokenSource as sources
+use Rattle.dss_server.specs.ServeEvents.{FollowAll, PurgesBetween, ServeEvent, ServeState}
+use Rattle.server_laws.specs.Cut.{Act, Cut, FormSegments}
 
 module _ {S : Type 0} (g : spaces.Ghosts S) (k : commits.Ghosts S) where
   -- Holds if a service that was not shut ran. Its space had a single airspace and nothing pending
@@ -56,29 +57,21 @@ module _ {S : Type 0} (g : spaces.Ghosts S) (k : commits.Ghosts S) where
 
 -- ---- laws
 
-module _ {S M : Type 0} (g : spaces.Ghosts S) (k : commits.Ghosts S) (m : moments.Ghosts M)
-    (gives : List ℕ → Type 0) where
-  -- Holds if these are acts of the events, and the cut of the acts has a property.
-  abbrev pub CutsWith : Explaining → (keep : Option ℕ) → (first : TokenFile) → List ServeEvent
-      → (old new : ServeState S M)
-      → ({acts : List Act} → Cut g k acts old.served.service new.served.service → Type 0) → Type 0
-  CutsWith explaining keep first events old new P = (acts : List Act)
-      × FollowWith g k m explaining gives keep first events acts old new
-      × (cut : Cut g k acts old.served.service new.served.service) × P cut
-
+module _ {S M T : Type 0} (g : spaces.Ghosts S) (k : commits.Ghosts S) (m : moments.Ghosts M)
+    (t : sources.Ghosts T) where
   -- States that the replies to the calls of all clients, and the durable airspace, are those of the
   -- policy.
   abbrev pub EventsAreThePolicy : Type 0
   EventsAreThePolicy = (explaining : Explaining) (keep : Option ℕ) (first : TokenFile)
-      (events : List ServeEvent) (old new : ServeState S M) (a : Airspace)
-      → FollowAll g k m explaining gives keep first events old new → PurgesBetween [] events
+      (events : List ServeEvent) (old new : ServeState S M T) (a : Airspace)
+      → FollowAll g k m explaining t keep first events old new → PurgesBetween events false
       → RunsFrom g k a old.served.service new.served.service
-      → CutsWith explaining keep first events old new (λ cut. RunsAsPolicy g k a cut)
+      → (p : FormSegments g k m t explaining keep first events old new) × RunsAsPolicy g k a p.cut
 
   -- States what is known of the durable airspace after events from the empty airspace.
   abbrev pub EventsAreKnown : Type 0
   EventsAreKnown = (explaining : Explaining) (keep : Option ℕ) (first : TokenFile)
-      (events : List ServeEvent) (old new : ServeState S M) (n : ℕ)
-      → FollowAll g k m explaining gives keep first events old new → PurgesBetween [] events
+      (events : List ServeEvent) (old new : ServeState S M T) (n : ℕ)
+      → FollowAll g k m explaining t keep first events old new → PurgesBetween events false
       → RunsFrom g k (empty_at n) old.served.service new.served.service
-      → CutsWith explaining keep first events old new (λ cut. IsKnownFrom g k n cut)
+      → (p : FormSegments g k m t explaining keep first events old new) × IsKnownFrom g k n p.cut
