@@ -35,7 +35,7 @@ loop-preserved g c = (
       (watched (unwrap_or c.or-newer.result c.args.tokens.now) c.look.new.self) (g.N.Sockets.history c.args.sockets.now) (g.N.Sockets.history c.run_once.new.sockets) (g.N.Sockets.history c.end_all_late.new.sockets)
       (since_answers g.S.Space g.S.GroupCommit g.M.Moments c.args.explaining g.T.TokenSource c.args.keep c.args.tokens.now c.args.watch c.args.service.now c.loop.service c.run_once.new.service c.args.moments.now c.loop.moments c.run_once.new.moments
       (clients_of g.N.Client.ClientSocket.name c.accept.new.self.clients) (clients_of g.N.Client.ClientSocket.name c.show_tokens.new.self.clients) (clients_of g.N.Client.ClientSocket.name c.run_once.new.self.clients)
-      c.loop.newer c.look.result c.or-newer.result c.in_force.result.now c.in_ok-now-2.result c.loop.watch c.look.new.self (g.N.Sockets.history c.args.sockets.now) (g.N.Sockets.history c.accept.new.sockets) (g.N.Sockets.history c.run_once.new.sockets)
+      c.loop.newer c.look.result c.or-newer.result c.in_force.result.now c.in_ok-now-2.now c.loop.watch c.look.new.self (g.N.Sockets.history c.args.sockets.now) (g.N.Sockets.history c.accept.new.sockets) (g.N.Sockets.history c.run_once.new.sockets)
       (since_accepts g.S.Space g.S.GroupCommit g.M.Moments c.args.explaining g.T.TokenSource c.args.keep c.args.tokens.now c.args.watch c.args.service.now c.loop.service c.args.moments.now c.loop.moments
       (clients_of g.N.Client.ClientSocket.name c.loop.event_loop.clients) (clients_of g.N.Client.ClientSocket.name c.wait.new.self.clients) (clients_of g.N.Client.ClientSocket.name c.accept.new.self.clients) (watched (unwrap_or c.loop.newer c.args.tokens.now) c.loop.watch)
       (g.N.Sockets.history c.args.sockets.now) (g.N.Sockets.history c.loop.sockets) (g.N.Sockets.history c.wait.new.sockets) (g.N.Sockets.history c.accept.new.sockets) c.loop.invariant.1
@@ -60,7 +60,7 @@ returns-then-serve_operators-clause-clients g c =
     (watched (unwrap_or c.or-newer.result c.args.tokens.now) c.look.new.self) (g.N.Sockets.history c.args.sockets.now) (g.N.Sockets.history c.run_once.new.sockets) (g.N.Sockets.history c.end_all_late.new.sockets)
     (since_answers g.S.Space g.S.GroupCommit g.M.Moments c.args.explaining g.T.TokenSource c.args.keep c.args.tokens.now c.args.watch c.args.service.now c.loop.service c.run_once.new.service c.args.moments.now c.loop.moments c.run_once.new.moments
     (clients_of g.N.Client.ClientSocket.name c.accept.new.self.clients) (clients_of g.N.Client.ClientSocket.name c.show_tokens.new.self.clients) (clients_of g.N.Client.ClientSocket.name c.run_once.new.self.clients)
-    c.loop.newer c.look.result c.or-newer.result c.in_force.result.now c.in_ok-now-2.result c.loop.watch c.look.new.self (g.N.Sockets.history c.args.sockets.now) (g.N.Sockets.history c.accept.new.sockets) (g.N.Sockets.history c.run_once.new.sockets)
+    c.loop.newer c.look.result c.or-newer.result c.in_force.result.now c.in_ok-now-2.now c.loop.watch c.look.new.self (g.N.Sockets.history c.args.sockets.now) (g.N.Sockets.history c.accept.new.sockets) (g.N.Sockets.history c.run_once.new.sockets)
     (since_accepts g.S.Space g.S.GroupCommit g.M.Moments c.args.explaining g.T.TokenSource c.args.keep c.args.tokens.now c.args.watch c.args.service.now c.loop.service c.args.moments.now c.loop.moments
     (clients_of g.N.Client.ClientSocket.name c.loop.event_loop.clients) (clients_of g.N.Client.ClientSocket.name c.wait.new.self.clients) (clients_of g.N.Client.ClientSocket.name c.accept.new.self.clients) (watched (unwrap_or c.loop.newer c.args.tokens.now) c.loop.watch)
     (g.N.Sockets.history c.args.sockets.now) (g.N.Sockets.history c.loop.sockets) (g.N.Sockets.history c.wait.new.sockets) (g.N.Sockets.history c.accept.new.sockets) c.loop.invariant.1
