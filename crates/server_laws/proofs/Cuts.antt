@@ -229,7 +229,7 @@ module _ {S M T : Type 0} (g : spaces.Ghosts S) (k : commits.Ghosts S) (m : mome
         | inr chunk ↦ record {
           now = PurgesUpTo (chunk.0 - keep) ∷ [];
           has = inr (chunk.0 - keep, refl);
-          cut = cut_purged g k acts calls (chunk.0 - keep) start old.served.service new.served.service p none chunk.2;
+          cut = cut_purged g k acts called (chunk.0 - keep) start old.served.service new.served.service p none chunk.2;
         }
       ]
 
@@ -257,7 +257,7 @@ module _ {S M T : Type 0} (g : spaces.Ghosts S) (k : commits.Ghosts S) (m : mome
       record {
         now = EndsBatch (outcome_of new.served.clients.commit) ∷ [];
         has = refl;
-        cut = cut_committed g k acts calls (outcome_of new.served.clients.commit) start old.served.service new.served.service p
+        cut = cut_committed g k acts called (outcome_of new.served.clients.commit) start old.served.service new.served.service p
             (subst (λ (c : CommitRecord). IsCommitted g k old.served.service new.served.service (outcome_of c)) (sym commit) committed);
       }
   event_adds keep Purges acts called start old new xs p h between =

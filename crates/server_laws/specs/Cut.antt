@@ -1,5 +1,5 @@
 -- The calls, commits and purges of a sequence of events, and the segments of batches that they form.
-use Rattle.std.specs.Prelude.{◌≡◌, ◌⊎◌, ℕ, List, [], ◌∷◌, ◌++◌, map, Option, Result}
+use Rattle.std.specs.Prelude.{◌≡◌, ◌⊎◌, ℕ, false, List, [], ◌∷◌, ◌++◌, map, Option, Result}
 use Rattle.std.specs.List.{flat_map}
 use Rattle.space_core.specs.declared.group_commit.GroupCommit as commits
 use Rattle.space_core.specs.declared.space.Space as spaces
