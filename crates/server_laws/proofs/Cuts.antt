@@ -20,7 +20,8 @@ use Rattle.server_watch.specs.Purger.{MayPurge}
 use Rattle.server_watch.specs.declared.token_watch.TokenSource as sources
 use Rattle.dss_server.specs.ServeEvents.{FollowAll, Follows, Looks, Purges, PurgesBetween, Runs, ServeEvent, ServeState, is_called_since}
 use Rattle.dss_server.specs.ServiceEvents.{Changes, Commits, Serves, has_call, is_called_after}
-use Rattle.server_laws.specs.Cut.{Act, ClientCall, Cut, EndsBatch, EventsFormSegments, FollowWith, HasActs, PurgesUpTo, act_of_call, act_of_record, acts_of_batch, acts_of_segment, calls_of_client}
+use Rattle.server_laws.specs.Acts.{Act, Answers, EndsBatch, LoggedCall, PurgesUpTo, acts_of, acts_of_client, acts_of_clients, acts_of_event, acts_of_purge}
+use Rattle.server_laws.specs.Cut.{Cut, EventsFormSegments, Makes, Settles, Sweeps, acts_of_batch, acts_of_calls, acts_of_segment, batch_act}
 
 -- ---- calls, batches and segments one after the other
 
@@ -46,7 +47,7 @@ module _ {S : Type 0} (g : spaces.Ghosts S) (k : commits.Ghosts S) where
 -- The records of calls, which have these acts.
 record Records {S : Type 0} (g : spaces.Ghosts S) (k : commits.Ghosts S) (acts : List Act) (old new : Service S) : Type 0 where
   pub calls : List CallRecord
-  pub acts_are : acts ≡ map act_of_record calls
+  pub acts_are : map batch_act acts ≡ acts_of_calls calls
   pub made : CalledInOrder g k old calls new
 
 module _ {S M : Type 0} (g : spaces.Ghosts S) (k : commits.Ghosts S) (m : moments.Ghosts M) (explaining : Explaining) (table : TokenFile) (commit : CommitRecord) (key : ℕ) where
@@ -54,7 +55,7 @@ module _ {S M : Type 0} (g : spaces.Ghosts S) (k : commits.Ghosts S) (m : moment
   records_none old new same = record { calls = []; acts_are = refl; made = same }
 
   -- One event.
-  one_recorded : (x : ClientEvent) (old new : ServedClient S M) → Occurs g k m explaining table commit x old new → Records g k (map act_of_call (calls_of_client key x)) old.service new.service
+  one_recorded : (x : ClientEvent) (old new : ServedClient S M) (h : Occurs g k m explaining table commit x old new) → Records g k (acts_of_client g k m explaining table commit key x old new h) old.service new.service
   one_recorded (Steps step) old new h = records_none old.service new.service (ap (λ v. v.service) h.2)
   one_recorded (Calls asked reply notes) old new h =
       let made : CallRecord = record { timed = timed asked; reply = reply; waits = is_deferred k old.service h.1 } in
@@ -67,19 +68,29 @@ module _ {S M : Type 0} (g : spaces.Ghosts S) (k : commits.Ghosts S) (m : moment
   one_recorded (ReadsClock None) old new h = records_none old.service new.service (ap (λ v. v.service) h.2)
 
   -- All of them.
-  recorded : (xs : List ClientEvent) (old new : ServedClient S M) → OccurAll g k m explaining table commit xs old new
-      → Records g k (map act_of_call (flat_map (calls_of_client key) xs)) old.service new.service
+  recorded : (xs : List ClientEvent) (old new : ServedClient S M) (h : OccurAll g k m explaining table commit xs old new)
+      → Records g k (acts_of_clients g k m explaining table commit key xs old new h) old.service new.service
   recorded [] old new h = records_none old.service new.service (ap (λ v. v.service) h)
   recorded (x ∷ xs) old new h =
       let p = one_recorded x old h.0 h.1 in
       let q = recorded xs h.0 new h.2 in
       record {
         calls = p.calls ++ q.calls;
-        acts_are = map-append act_of_call (calls_of_client key x) (flat_map (calls_of_client key) xs)
-            ∙ ap (λ v. v ++ map act_of_call (flat_map (calls_of_client key) xs)) p.acts_are ∙ ap (λ v. map act_of_record p.calls ++ v) q.acts_are
-            ∙ sym (map-append act_of_record p.calls q.calls);
+        acts_are = map-append batch_act (acts_of_client g k m explaining table commit key x old h.0 h.1) (acts_of_clients g k m explaining table commit key xs h.0 new h.2)
+            ∙ ap (λ v. v ++ map batch_act (acts_of_clients g k m explaining table commit key xs h.0 new h.2)) p.acts_are ∙ ap (λ v. acts_of_calls p.calls ++ v) q.acts_are
+            ∙ sym (map-append (λ (made : CallRecord). Makes made) p.calls q.calls);
         made = called_then g k p.calls q.calls old.service h.0.service new.service p.made q.made;
       }
+
+  -- Without a call there is no act.
+  not_called : (xs : List ClientEvent) (old new : ServedClient S M) (h : OccurAll g k m explaining table commit xs old new) → has_call xs ≡ false
+      → acts_of_clients g k m explaining table commit key xs old new h ≡ []
+  not_called [] old new h none = refl
+  not_called (Steps step ∷ xs) old new h none = not_called xs h.0 new h.2 none
+  not_called (Calls asked reply notes ∷ xs) old new h none = absurd cc
+  not_called (LosesReply asked reply ∷ xs) old new h none = absurd cc
+  not_called (EndsStream end ∷ xs) old new h none = not_called xs h.0 new h.2 none
+  not_called (ReadsClock moment ∷ xs) old new h none = not_called xs h.0 new h.2 none
 
 -- ---- cuts that grow
 
@@ -88,16 +99,7 @@ record CutSoFar {S : Type 0} (g : spaces.Ghosts S) (k : commits.Ghosts S) (acts 
   pub cut : Cut g k acts old new
   pub committed : called ≡ false → cut.calls ≡ []
 
--- Without a call there is no record of one.
-not_called : (key : ℕ) (events : List ClientEvent) → has_call events ≡ false → flat_map (calls_of_client key) events ≡ []
-not_called key [] h = refl
-not_called key (Steps step ∷ events) h = not_called key events h
-not_called key (Calls asked reply notes ∷ events) h = absurd cc
-not_called key (LosesReply asked reply ∷ events) h = absurd cc
-not_called key (EndsStream end ∷ events) h = not_called key events h
-not_called key (ReadsClock moment ∷ events) h = not_called key events h
-
-no_records : (calls : List CallRecord) → [] ≡ map act_of_record calls → calls ≡ []
+no_records : (calls : List CallRecord) → [] ≡ acts_of_calls calls → calls ≡ []
 no_records [] h = refl
 no_records (x ∷ calls) h = cc
 
@@ -112,9 +114,9 @@ module _ {S : Type 0} (g : spaces.Ghosts S) (k : commits.Ghosts S) where
     committed = λ h. refl;
   }
 
-  cut_called : (acts now : List Act) (called calls : Bool) (more : List ClientCall) (old mid new : Service S) → CutSoFar g k acts called old mid → now ≡ map act_of_call more
-      → Records g k (map act_of_call more) mid new → (calls ≡ false → more ≡ []) → CutSoFar g k (acts ++ now) (called || calls) old new
-  cut_called acts now called calls more old mid new p is q none =
+  cut_called : (acts now : List Act) (called calls : Bool) (old mid new : Service S) → CutSoFar g k acts called old mid → Records g k now mid new → (calls ≡ false → now ≡ [])
+      → CutSoFar g k (acts ++ now) (called || calls) old new
+  cut_called acts now called calls old mid new p q none =
       let c = p.cut in
       let front = flat_map acts_of_segment c.segments in
       let amid = flat_map acts_of_batch c.batches in
@@ -123,8 +125,9 @@ module _ {S : Type 0} (g : spaces.Ghosts S) (k : commits.Ghosts S) where
           segments = c.segments;
           batches = c.batches;
           calls = c.calls ++ q.calls;
-          acts_are = ap (λ v. v ++ now) c.acts_are ∙ append_assoc front (amid ++ map act_of_record c.calls) now ∙ ap (λ v. front ++ v) (append_assoc amid (map act_of_record c.calls) now)
-              ∙ ap (λ v. front ++ (amid ++ (map act_of_record c.calls ++ v))) (is ∙ q.acts_are) ∙ ap (λ v. front ++ (amid ++ v)) (sym (map-append act_of_record c.calls q.calls));
+          acts_are = map-append batch_act acts now ∙ ap (λ v. v ++ map batch_act now) c.acts_are ∙ append_assoc front (amid ++ acts_of_calls c.calls) (map batch_act now)
+              ∙ ap (λ v. front ++ v) (append_assoc amid (acts_of_calls c.calls) (map batch_act now))
+              ∙ ap (λ v. front ++ (amid ++ (acts_of_calls c.calls ++ v))) q.acts_are ∙ ap (λ v. front ++ (amid ++ v)) (sym (map-append (λ (made : CallRecord). Makes made) c.calls q.calls));
           last = c.last;
           committed = c.committed;
           segments_made = c.segments_made;
@@ -133,7 +136,7 @@ module _ {S : Type 0} (g : spaces.Ghosts S) (k : commits.Ghosts S) where
         };
         committed = λ h.
             let both = neither called calls h in
-            let empty = no_records q.calls (sym (ap (λ v. map act_of_call v) (none both.1)) ∙ q.acts_are) in
+            let empty = no_records q.calls (sym (ap (λ v. map batch_act v) (none both.1)) ∙ q.acts_are) in
             ap (λ v. v ++ q.calls) (p.committed both.0) ∙ empty;
       }
 
@@ -143,15 +146,15 @@ module _ {S : Type 0} (g : spaces.Ghosts S) (k : commits.Ghosts S) where
       let c = p.cut in
       let front = flat_map acts_of_segment c.segments in
       let amid = flat_map acts_of_batch c.batches in
-      let these = map act_of_record c.calls in
+      let these = acts_of_calls c.calls in
       let batch : Batch = record { calls = c.calls; settled = outcome } in
       record {
         cut = record {
           segments = c.segments;
           batches = c.batches ++ batch ∷ [];
           calls = [];
-          acts_are = ap (λ v. v ++ EndsBatch outcome ∷ []) c.acts_are ∙ append_assoc front (amid ++ these) (EndsBatch outcome ∷ []) ∙ ap (λ v. front ++ v) (append_assoc amid these (EndsBatch outcome ∷ []))
-              ∙ ap (λ v. front ++ (amid ++ v)) (sym (append-nil (these ++ EndsBatch outcome ∷ []))) ∙ ap (λ v. front ++ v) (sym (flat_map-append acts_of_batch c.batches (batch ∷ [])))
+          acts_are = map-append batch_act acts (EndsBatch outcome ∷ []) ∙ ap (λ v. v ++ Settles outcome ∷ []) c.acts_are ∙ append_assoc front (amid ++ these) (Settles outcome ∷ [])
+              ∙ ap (λ v. front ++ v) (append_assoc amid these (Settles outcome ∷ [])) ∙ ap (λ v. front ++ (amid ++ v)) (sym (append-nil (these ++ Settles outcome ∷ []))) ∙ ap (λ v. front ++ v) (sym (flat_map-append acts_of_batch c.batches (batch ∷ [])))
               ∙ ap (λ v. front ++ v) (sym (append-nil (flat_map acts_of_batch (c.batches ++ batch ∷ []))));
           last = c.last;
           committed = new;
@@ -176,8 +179,8 @@ module _ {S : Type 0} (g : spaces.Ghosts S) (k : commits.Ghosts S) where
           segments = c.segments ++ chunk ∷ [];
           batches = [];
           calls = [];
-          acts_are = ap (λ v. v ++ PurgesUpTo until ∷ []) (c.acts_are ∙ ap (λ v. front ++ (amid ++ map act_of_record v)) empty ∙ ap (λ v. front ++ v) (append-nil amid))
-              ∙ append_assoc front amid (PurgesUpTo until ∷ []) ∙ ap (λ v. front ++ v) (sym (append-nil (amid ++ PurgesUpTo until ∷ [])))
+          acts_are = map-append batch_act acts (PurgesUpTo until ∷ []) ∙ ap (λ v. v ++ Sweeps until ∷ []) (c.acts_are ∙ ap (λ v. front ++ (amid ++ acts_of_calls v)) empty ∙ ap (λ v. front ++ v) (append-nil amid))
+              ∙ append_assoc front amid (Sweeps until ∷ []) ∙ ap (λ v. front ++ v) (sym (append-nil (amid ++ Sweeps until ∷ [])))
               ∙ sym (flat_map-append acts_of_segment c.segments (chunk ∷ [])) ∙ sym (append-nil (flat_map acts_of_segment (c.segments ++ chunk ∷ [])));
           last = new;
           committed = new;
@@ -199,12 +202,6 @@ called_after (Runs event) called = is_called_after event called
 called_after Purges called = called
 called_after (Looks now taken) called = called
 
--- What an event adds to a cut.
-record Adds {S M T : Type 0} (g : spaces.Ghosts S) (k : commits.Ghosts S) (x : ServeEvent) (acts : List Act) (called : Bool) (start : Service S) (old new : ServeState S M T) : Type 0 where
-  pub now : List Act
-  pub has : HasActs x old new now
-  pub cut : CutSoFar g k (acts ++ now) (called_after x called) start new.served.service
-
 between_after : (x : ServeEvent) (called : Bool) (xs : List ServeEvent) → PurgesBetween (x ∷ xs) called → PurgesBetween xs (called_after x called)
 between_after (Runs event) called xs h = h
 between_after Purges called xs h = h.1
@@ -216,75 +213,56 @@ called_more Purges xs called = refl
 called_more (Looks now taken) xs called = refl
 
 module _ {S M T : Type 0} (g : spaces.Ghosts S) (k : commits.Ghosts S) (m : moments.Ghosts M) (t : sources.Ghosts T) (explaining : Explaining) (first : TokenFile) where
-  purge_adds : (keep : Option ℕ) (acts : List Act) (called : Bool) (start : Service S) (old new : ServeState S M T) (clock : M) → CutSoFar g k acts called start old.served.service → called ≡ false
-      → MayPurge g k m keep old.served.service new.served.service old.served.clock clock → Adds g k Purges acts called start old new
-  purge_adds None acts called start old new clock p none h =
+  purge_adds : (keep : Option ℕ) (acts : List Act) (called : Bool) (start old new : Service S) (clock clock' : M) → CutSoFar g k acts called start old → called ≡ false
+      → (h : MayPurge g k m keep old new clock clock') → CutSoFar g k (acts ++ acts_of_purge g k m keep old new clock clock' h) called start new
+  purge_adds None acts called start old new clock clock' p none h =
       elim h [
-        | inl nothing ↦ record { now = []; has = inl refl; cut = cut_same g k acts called start old.served.service new.served.service p nothing.0 }
+        | inl nothing ↦ cut_same g k acts called start old new p nothing.0
         | inr chunk ↦ absurd chunk
       ]
-  purge_adds (Some keep) acts called start old new clock p none h =
-      elim h [
-        | inl nothing ↦ record { now = []; has = inl refl; cut = cut_same g k acts called start old.served.service new.served.service p nothing.0 }
-        | inr chunk ↦ record {
-          now = PurgesUpTo (chunk.0 - keep) ∷ [];
-          has = inr (chunk.0 - keep, refl);
-          cut = cut_purged g k acts called (chunk.0 - keep) start old.served.service new.served.service p none chunk.2;
-        }
+  purge_adds (Some keep) acts called start old new clock clock' p none h =
+      elim h as (λ v. CutSoFar g k (acts ++ acts_of_purge g k m (Some keep) old new clock clock' v) called start new) [
+        | inl nothing ↦ cut_same g k acts called start old new p nothing.0
+        | inr chunk ↦ cut_purged g k acts called (chunk.0 - keep) start old new p none chunk.2
       ]
 
   event_adds : (keep : Option ℕ) (x : ServeEvent) (acts : List Act) (called : Bool) (start : Service S) (old new : ServeState S M T) (xs : List ServeEvent)
-      → CutSoFar g k acts called start old.served.service → Follows g k m explaining t keep first x old new → PurgesBetween (x ∷ xs) called → Adds g k x acts called start old new
-  event_adds keep (Runs (Changes change)) acts called start old new xs p h between = record {
-    now = [];
-    has = refl;
-    cut = cut_same g k acts called start old.served.service new.served.service p (ap (λ v. v.served.service) h.2 ∙ ap (λ v. v.service) h.1.2);
-  }
+      → CutSoFar g k acts called start old.served.service → (h : Follows g k m explaining t keep first x old new) → PurgesBetween (x ∷ xs) called
+      → CutSoFar g k (acts ++ acts_of_event g k m explaining t keep first x old new h) (called_after x called) start new.served.service
+  event_adds keep (Runs (Changes change)) acts called start old new xs p h between =
+      cut_same g k acts called start old.served.service new.served.service p (ap (λ v. v.served.service) h.2 ∙ ap (λ v. v.service) h.1.2)
   event_adds keep (Runs (Serves key name events)) acts called start old new xs p h between =
-      let more = flat_map (calls_of_client key) events in
-      let q = recorded g k m explaining old.active.table old.served.clients.commit key events (served_client old.served.service old.served.clock h.1.0) h.1.3 h.1.4 in
+      let from = served_client old.served.service old.served.clock h.1.0 in
+      let now = acts_of_clients g k m explaining old.active.table old.served.clients.commit key events from h.1.3 h.1.4 in
+      let q = recorded g k m explaining old.active.table old.served.clients.commit key events from h.1.3 h.1.4 in
       let same : new.served.service ≡ h.1.3.service = ap (λ v. v.served.service) h.2 ∙ ap (λ v. v.service) h.1.5 in
-      record {
-        now = map act_of_call more;
-        has = refl;
-        cut = cut_called g k acts (map act_of_call more) called (has_call events) more start old.served.service new.served.service p refl
-            (subst (λ (s : Service S). Records g k (map act_of_call more) old.served.service s) (sym same) q) (not_called key events);
-      }
+      cut_called g k acts now called (has_call events) start old.served.service new.served.service p
+      (subst (λ (s : Service S). Records g k now old.served.service s) (sym same) q)
+      (not_called g k m explaining old.active.table old.served.clients.commit key events from h.1.3 h.1.4)
   event_adds keep (Runs Commits) acts called start old new xs p h between =
       let same : new.served.service ≡ h.1.0 = ap (λ v. v.served.service) h.2 ∙ ap (λ v. v.service) h.1.4 in
-      let commit : new.served.clients.commit ≡ h.1.1 = ap (λ v. v.served.clients.commit) h.2 ∙ ap (λ v. v.clients.commit) h.1.4 in
-      let committed = subst (λ (s : Service S). IsCommitted g k old.served.service s (outcome_of h.1.1)) (sym same) h.1.2 in
-      record {
-        now = EndsBatch (outcome_of new.served.clients.commit) ∷ [];
-        has = refl;
-        cut = cut_committed g k acts called (outcome_of new.served.clients.commit) start old.served.service new.served.service p
-            (subst (λ (c : CommitRecord). IsCommitted g k old.served.service new.served.service (outcome_of c)) (sym commit) committed);
-      }
+      cut_committed g k acts called (outcome_of h.1.1) start old.served.service new.served.service p
+      (subst (λ (s : Service S). IsCommitted g k old.served.service s (outcome_of h.1.1)) (sym same) h.1.2)
   event_adds keep Purges acts called start old new xs p h between =
-      let same : h.0 ≡ new.served.service = sym (ap (λ v. v.served.service) h.3) in
-      purge_adds keep acts called start old new h.1 p between.0 (subst (λ (s : Service S). MayPurge g k m keep old.served.service s old.served.clock h.1) same h.2)
-  event_adds keep (Looks now taken) acts called start old new xs p h between = record {
-    now = [];
-    has = refl;
-    cut = cut_same g k acts called start old.served.service new.served.service p (ap (λ v. v.served.service) h.2);
-  }
+      subst (λ (s : Service S). CutSoFar g k (acts ++ acts_of_purge g k m keep old.served.service h.0 old.served.clock h.1 h.2) called start s) (sym (ap (λ v. v.served.service) h.3))
+      (purge_adds keep acts called start old.served.service h.0 old.served.clock h.1 p between.0 h.2)
+  event_adds keep (Looks now taken) acts called start old new xs p h between =
+      cut_same g k acts called start old.served.service new.served.service p (ap (λ v. v.served.service) h.2)
 
   events_cut : (keep : Option ℕ) (events : List ServeEvent) (done : List Act) (called : Bool) (start : Service S) (old new : ServeState S M T)
-      → CutSoFar g k done called start old.served.service → FollowAll g k m explaining t keep first events old new → PurgesBetween events called
-      → (acts : List Act) × FollowWith g k m explaining t keep first events acts old new × CutSoFar g k (done ++ acts) (is_called_since events called) start new.served.service
-  events_cut keep [] done called start old new p h between =
-      ([], (refl, h), cut_same g k done called start old.served.service new.served.service p (ap (λ v. v.served.service) h))
+      → CutSoFar g k done called start old.served.service → (h : FollowAll g k m explaining t keep first events old new) → PurgesBetween events called
+      → CutSoFar g k (done ++ acts_of g k m explaining t keep first events old new h) (is_called_since events called) start new.served.service
+  events_cut keep [] done called start old new p h between = cut_same g k done called start old.served.service new.served.service p (ap (λ v. v.served.service) h)
   events_cut keep (x ∷ xs) done called start old new p h between =
+      let now = acts_of_event g k m explaining t keep first x old h.0 h.1 in
+      let later = acts_of g k m explaining t keep first xs h.0 new h.2 in
       let one = event_adds keep x done called start old h.0 xs p h.1 between in
-      let rest = events_cut keep xs (done ++ one.now) (called_after x called) start h.0 new one.cut h.2 (between_after x called xs between) in
-      let since = subst (λ (b : Bool). CutSoFar g k ((done ++ one.now) ++ rest.0) b start new.served.service) (sym (called_more x xs called)) rest.2 in (
-        one.now ++ rest.0,
-        (h.0, one.now, rest.0, refl, h.1, one.has, rest.1),
-        subst (λ (v : List Act). CutSoFar g k v (is_called_since (x ∷ xs) called) start new.served.service) (append_assoc done one.now rest.0) since,
-      )
+      let rest = events_cut keep xs (done ++ now) (called_after x called) start h.0 new one h.2 (between_after x called xs between) in
+      let since = subst (λ (b : Bool). CutSoFar g k ((done ++ now) ++ later) b start new.served.service) (sym (called_more x xs called)) rest in
+      subst (λ (v : List Act). CutSoFar g k v (is_called_since (x ∷ xs) called) start new.served.service) (append_assoc done now later) since
 
 module _ {S M T : Type 0} (g : spaces.Ghosts S) (k : commits.Ghosts S) (m : moments.Ghosts M) (t : sources.Ghosts T) where
   pub form_segments : EventsFormSegments g k m t
   form_segments explaining keep first events old new h between =
       let p = events_cut g k m t explaining first keep events [] false old.served.service old new (cut_none g k old.served.service) h between in
-      record { acts = p.0; follow = p.1; cut = p.2.cut; committed = p.2.committed }
+      (p.cut, p.committed)

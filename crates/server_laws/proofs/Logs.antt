@@ -1,5 +1,6 @@
 -- What one client sent and was sent, event by event.
-use Rattle.std.proofs.Common.{◌≡◌, ◌<◌, ◌≤◌, ◌+◌, ◌-◌, ◌==◌, ℕ, zero, suc, Bool, true, false, List, [], ◌∷◌, ◌++◌, Option, Some, None, Result, Ok, Err, refl, sym, ap, subst, ◌∙◌, append_assoc, ◌⊎◌, inl, inr, map, length, length-append, arith}
+use Rattle.std.proofs.Common.{◌≡◌, ◌<◌, ◌≤◌, ◌+◌, ◌-◌, ◌==◌, ℕ, zero, suc, Bool, true, false, List, [], ◌∷◌, ◌++◌, Option, Some, None, Result, Ok, Err, refl, sym, ap, subst, ◌∙◌, append_assoc, ◌⊎◌, inl, inr, map, cond, if◌then◌else◌, length, length-append, arith}
+use Rattle.std.proofs.lemmas.Bool.{eq-eqb}
 use Rattle.std.specs.List.{AllByRecursion, concat, flat_map}
 use Rattle.std.proofs.lemmas.List.{append-nil, map-append}
 use Rattle.std.proofs.lemmas.List.Concat.{flat_map-append}
@@ -28,7 +29,8 @@ use Rattle.server_client.specs.ClientState.{Aborts, ClientState, ClientStep, Dis
 use Rattle.server_client.specs.CommitRecord.{number_of, outcome_of}
 use Rattle.server_client.proofs.Accounts as accounts
 use Rattle.server_client.proofs.CallOrders as orders
-use Rattle.server_laws.specs.Clients.{ClientResponse, HasEnded, HasOutcome, IsDeferred, IsDropped, IsReleased, IsTold, LastResponse, ReleasedResponse, deferred_text, last_text, ordered_by, ordered_by_step, received_by, received_by_step, responses_by, sent_by, sent_by_step, text_of, text_of_released, unreleased}
+use Rattle.server_laws.specs.Clients.{ClientResponse, HasEnded, HasOutcome, IsDeferred, IsDropped, IsReleased, IsTold, IsToldBy, LastResponse, ReleasedResponse, deferred_text, is_to, last_text, ordered_by, ordered_by_step, outcome_by, outcomes_in, received_by, received_by_step, released_text, responses_to, sent_by, sent_by_step, text_of, text_of_released, unreleased}
+use Rattle.server_laws.specs.Acts.{Act, Answers, EndsBatch, PurgesUpTo, acts_of_client, acts_of_clients}
 
 abbrev pub Outcome : Type 0
 Outcome = Result (Unit {0}) SpaceFault
@@ -62,7 +64,7 @@ response_of each = each.response
 abbrev pub IsLastOf : (base : ℕ) → List Outcome → LastResponse → ClientState → Type 0
 IsLastOf base outcomes IsReleased l = l.slot ≡ None
 IsLastOf base outcomes (IsDeferred r) l =
-    (l.slot ≡ Some (slot_for r.asked)) × ((l.batch ≡ base + r.commits) ⊎ (max_count ≤ l.batch)) × (r.commits ≤ length outcomes)
+    (l.slot ≡ Some (slot_for r.call.asked)) × ((l.batch ≡ base + r.commits) ⊎ (max_count ≤ l.batch)) × (r.commits ≤ length outcomes) × (r.call.waits ≡ true)
 IsLastOf base outcomes (HasEnded end) l = (l.slot ≡ None) × (l.done ≡ true)
 IsLastOf base outcomes (IsDropped r) l = (l.slot ≡ None) × (l.done ≡ true)
 
@@ -147,7 +149,7 @@ outcome_is base outcomes commit batch r is few is_batch next =
 last_alike : (base : ℕ) (outcomes : List Outcome) (last : LastResponse) (l l' : ClientState) → l'.slot ≡ l.slot → l'.batch ≡ l.batch → (l.done ≡ true → l'.done ≡ true) → IsLastOf base outcomes last l
     → IsLastOf base outcomes last l'
 last_alike base outcomes IsReleased l l' slot batch done h = slot ∙ h
-last_alike base outcomes (IsDeferred r) l l' slot batch done h = (slot ∙ h.0, subst (λ n. (n ≡ base + r.commits) ⊎ (max_count ≤ n)) (sym batch) h.1, h.2)
+last_alike base outcomes (IsDeferred r) l l' slot batch done h = (slot ∙ h.0, subst (λ n. (n ≡ base + r.commits) ⊎ (max_count ≤ n)) (sym batch) h.1, h.2, h.3)
 last_alike base outcomes (HasEnded end) l l' slot batch done h = (slot ∙ h.0, done h.1)
 last_alike base outcomes (IsDropped r) l l' slot batch done h = (slot ∙ h.0, done h.1)
 
@@ -161,14 +163,21 @@ nothing_told (Err fault) l a none empty = λ i. record {
 }
 
 -- A deferred response is released.
-response_told : (outcome : Outcome) (l : ClientState) (sent : List ℕ) (released : List ReleasedResponse) (r : ClientResponse) → l.slot ≡ Some (slot_for r.asked)
-    → after_outcome outcome l (record { sent = sent; released = flat_map text_of_released released ++ []; deferred = text_of r })
-    ≡ record { sent = sent; released = flat_map text_of_released (released ++ record { response = r; waited = true; outcome = outcome } ∷ []) ++ []; deferred = [] }
-response_told (Ok x) l sent released r slot = λ i. record { sent = sent; released = texts_then released (record { response = r; waited = true; outcome = Ok x }) i; deferred = [] }
-response_told (Err fault) l sent released r slot = λ i. record {
+text_is : (r : ClientResponse) (outcome : Outcome) → r.call.waits ≡ true → released_text r.call true outcome ≡ text_of_released (record { response = r; outcome = outcome })
+text_is r outcome waits = ap (λ b. released_text r.call b outcome) (sym waits)
+
+response_told : (outcome : Outcome) (l : ClientState) (sent : List ℕ) (released : List ReleasedResponse) (r : ClientResponse) → l.slot ≡ Some (slot_for r.call.asked) → r.call.waits ≡ true
+    → after_outcome outcome l (record { sent = sent; released = flat_map text_of_released released ++ []; deferred = text_of r.call })
+    ≡ record { sent = sent; released = flat_map text_of_released (released ++ record { response = r; outcome = outcome } ∷ []) ++ []; deferred = [] }
+response_told (Ok x) l sent released r slot waits = λ i. record {
+  sent = sent;
+  released = (ap (λ v. (flat_map text_of_released released ++ []) ++ v) (text_is r (Ok x) waits) ∙ texts_then released (record { response = r; outcome = Ok x })) i;
+  deferred = [];
+}
+response_told (Err fault) l sent released r slot waits = λ i. record {
   sent = sent;
   released = (ap (λ v. (flat_map text_of_released released ++ []) ++ text_at v (reply_of (halts.Space fault))) slot
-      ∙ texts_then released (record { response = r; waited = true; outcome = Err fault })) i;
+      ∙ ap (λ v. (flat_map text_of_released released ++ []) ++ v) (text_is r (Err fault) waits) ∙ texts_then released (record { response = r; outcome = Err fault })) i;
   deferred = [];
 }
 
@@ -202,16 +211,17 @@ module _ (name base : ℕ) (outcomes : List Outcome) (commit : CommitRecord) (is
   })
   releases (IsDeferred r) sent received ordered responses released l l' p h =
       let outcome = outcome_of commit in
-      let now : ReleasedResponse = record { response = r; waited = true; outcome = outcome } in
+      let now : ReleasedResponse = record { response = r; outcome = outcome } in
       record {
         log' = record { sent = sent; received = received; ordered = ordered; responses = responses; released = released ++ now ∷ []; last = IsReleased };
         has = record {
           name_is = ap (λ v. v.name) h.2 ∙ name_after outcome l ∙ p.name_is;
-          account = subst (λ (a : Account). IsAccountOf a l') (response_told outcome l sent released r p.last_is.0) (accounts.step commit Releases l l' _ p.account h);
+          account = subst (λ (a : Account). IsAccountOf a l') (response_told outcome l sent released r p.last_is.0 p.last_is.3) (accounts.step commit Releases l l' _ p.account h);
           order = orders.step commit Releases l l' received ordered p.order h;
           last_is = ap (λ v. v.slot) h.2 ∙ slot_after outcome l;
           responses_are = responses_then responses released now r p.responses_are refl;
-          told = all_then (IsTold outcomes) released now p.told (outcome_is base outcomes commit l.batch r.commits is h.1 p.last_is.1 h.0);
+          told = all_then (IsTold outcomes) released now p.told
+              (subst (λ (b : Bool). IsToldBy outcomes r.commits b outcome) (sym p.last_is.3) (outcome_is base outcomes commit l.batch r.commits is h.1 p.last_is.1 h.0));
         };
         sent_is = sym (append-nil sent);
         received_is = sym (append-nil received);
@@ -344,6 +354,63 @@ module _ (name base : ℕ) (outcomes : List Outcome) (commit : CommitRecord) (is
     told = p.told;
   })
 
+-- ---- responses in acts
+
+pub responses_then_acts : (key : ℕ) (xs ys : List Act) (n : ℕ) → responses_to key n (xs ++ ys) ≡ responses_to key n xs ++ responses_to key (length (outcomes_in xs) + n) ys
+responses_then_acts key [] ys n = ap (λ v. responses_to key v ys) (omega arith)
+responses_then_acts key (Answers call ∷ xs) ys n =
+    let this : List ClientResponse = if is_to key call then record { call = call; commits = n } ∷ [] else [] in
+    ap (λ v. this ++ v) (responses_then_acts key xs ys n) ∙ sym (append_assoc this (responses_to key n xs) (responses_to key (length (outcomes_in xs) + n) ys))
+responses_then_acts key (EndsBatch outcome ∷ xs) ys n =
+    let size : length (outcomes_in xs) + (n + 1) ≡ length (outcome ∷ outcomes_in xs) + n = omega arith in
+    responses_then_acts key xs ys (n + 1) ∙ ap (λ v. responses_to key (n + 1) xs ++ responses_to key v ys) size
+responses_then_acts key (PurgesUpTo until ∷ xs) ys n = responses_then_acts key xs ys n
+
+pub responses_join : (key : ℕ) (xs ys : List Act) (n : ℕ) → outcomes_in xs ≡ [] → responses_to key n (xs ++ ys) ≡ responses_to key n xs ++ responses_to key n ys
+responses_join key xs ys n none =
+    let size : length (outcomes_in xs) + n ≡ n = ap (λ v. length v + n) none ∙ omega arith in
+    responses_then_acts key xs ys n ∙ ap (λ v. responses_to key n xs ++ responses_to key v ys) size
+
+module _ {S M : Type 0} (g : spaces.Ghosts S) (k : commits.Ghosts S) (m : moments.Ghosts M) (explaining : Explaining) (table : TokenFile) (commit : CommitRecord) (key : ℕ) where
+  client_settles_none : (x : ClientEvent) (old new : ServedClient S M) (h : Occurs g k m explaining table commit x old new) → outcomes_in (acts_of_client g k m explaining table commit key x old new h) ≡ []
+  client_settles_none (Steps step) old new h = refl
+  client_settles_none (Calls asked reply notes) old new h = refl
+  client_settles_none (LosesReply asked reply) old new h = refl
+  client_settles_none (EndsStream end) old new h = refl
+  client_settles_none (ReadsClock moment) old new h = refl
+
+  pub clients_settle_none : (xs : List ClientEvent) (old new : ServedClient S M) (h : OccurAll g k m explaining table commit xs old new)
+      → outcomes_in (acts_of_clients g k m explaining table commit key xs old new h) ≡ []
+  clients_settle_none [] old new h = refl
+  clients_settle_none (x ∷ xs) old new h =
+      flat_map-append outcome_by (acts_of_client g k m explaining table commit key x old h.0 h.1) (acts_of_clients g k m explaining table commit key xs h.0 new h.2)
+      ∙ ap (λ v. v ++ outcomes_in (acts_of_clients g k m explaining table commit key xs h.0 new h.2)) (client_settles_none x old h.0 h.1) ∙ clients_settle_none xs h.0 new h.2
+
+  -- They are of no other client.
+  pub others_get_none : (other n : ℕ) (xs : List ClientEvent) (old new : ServedClient S M) (h : OccurAll g k m explaining table commit xs old new) → (other == key) ≡ false
+      → responses_to other n (acts_of_clients g k m explaining table commit key xs old new h) ≡ []
+  others_get_none other n [] old new h apart = refl
+  others_get_none other n (Steps step ∷ xs) old new h apart = others_get_none other n xs h.0 new h.2 apart
+  others_get_none other n (Calls asked reply notes ∷ xs) old new h apart =
+      let r : ClientResponse = record {
+        call = record { key = key; asked = asked; reply = reply; notes = notes; waits = is_deferred k old.service h.1.1; lost = false };
+        commits = n;
+      } in
+      ap (λ b. cond b (r ∷ []) [] ++ responses_to other n (acts_of_clients g k m explaining table commit key xs h.0 new h.2)) apart ∙ others_get_none other n xs h.0 new h.2 apart
+  others_get_none other n (LosesReply asked reply ∷ xs) old new h apart = others_get_none other n xs h.0 new h.2 apart
+  others_get_none other n (EndsStream end ∷ xs) old new h apart = others_get_none other n xs h.0 new h.2 apart
+  others_get_none other n (ReadsClock moment ∷ xs) old new h apart = others_get_none other n xs h.0 new h.2 apart
+
+  pub steps_occur : (xs : List ClientStep) (s : Service S) (c : M) (l l' : ClientState) → StepsBy commit xs l l'
+      → OccurAll g k m explaining table commit (map (λ x. Steps x) xs) (served_client s c l) (served_client s c l')
+  steps_occur [] s c l l' h = ap (λ v. served_client s c v) h
+  steps_occur (x ∷ xs) s c l l' h = (served_client s c h.0, (h.0, h.1, refl), steps_occur xs s c h.0 l' h.2)
+
+  pub steps_call_none : (xs : List ClientStep) (old new : ServedClient S M) (h : OccurAll g k m explaining table commit (map (λ x. Steps x) xs) old new)
+      → acts_of_clients g k m explaining table commit key (map (λ x. Steps x) xs) old new h ≡ []
+  steps_call_none [] old new h = refl
+  steps_call_none (x ∷ xs) old new h = steps_call_none xs h.0 new h.2
+
 -- ---- calls and the end of the stream
 
 -- A response or a text is added.
@@ -358,23 +425,23 @@ not_done true p q = absurd (cc)
 not_done false p q = absurd (cc)
 
 module _ (name base : ℕ) (outcomes : List Outcome) (commit : CommitRecord) (is : IsRecordOf base outcomes commit) where
-  call_grows : (deferred : Bool) (last : LastResponse) (sent received : List ℕ) (ordered : List OrderedEvent) (responses : List ClientResponse) (released : List ReleasedResponse) (l : ClientState)
+  call_grows : (deferred : Bool) (key : ℕ) (last : LastResponse) (sent received : List ℕ) (ordered : List OrderedEvent) (responses : List ClientResponse) (released : List ReleasedResponse) (l : ClientState)
       (callers : Callers) (asked : RequestCall) (reply : Reply) (notes : List (List ℕ)) (rest : List ℕ)
       → HasLog name base outcomes (record { sent = sent; received = received; ordered = ordered; responses = responses; released = released; last = last }) l
       → l.done ≡ false → 0 < l.left → l.slot ≡ None → asked.closing ≡ (left_after (l.left - 1) asked.head == 0)
       → ((later : List ℕ) → AsksCall AnyMoment callers (l.held ++ later) tt asked (rest ++ later) tt)
       → Grows name base outcomes (record { sent = sent; received = received; ordered = ordered; responses = responses; released = released; last = last }) [] [] (Asks callers asked ∷ [])
-      (record { asked = asked; reply = reply; notes = notes; commits = length outcomes } ∷ [])
+      (record { call = record { key = key; asked = asked; reply = reply; notes = notes; waits = deferred; lost = false }; commits = length outcomes } ∷ [])
       (with_response l asked reply notes rest deferred (number_of commit))
-  call_grows true IsReleased sent received ordered responses released l callers asked reply notes rest p running some none closing asks =
-      let r : ClientResponse = record { asked = asked; reply = reply; notes = notes; commits = length outcomes } in
+  call_grows true key IsReleased sent received ordered responses released l callers asked reply notes rest p running some none closing asks =
+      let r : ClientResponse = record { call = record { key = key; asked = asked; reply = reply; notes = notes; waits = true; lost = false }; commits = length outcomes } in
       record {
         log' = record { sent = sent; received = received; ordered = ordered ++ Asks callers asked ∷ []; responses = responses ++ r ∷ []; released = released; last = IsDeferred r };
         has = record {
           name_is = p.name_is;
           account = accounts.call asked reply notes rest true (number_of commit) l _ p.account none;
           order = orders.call callers asked reply notes rest true (number_of commit) l received ordered p.order some closing asks;
-          last_is = (refl, is.number, omega arith);
+          last_is = (refl, is.number, omega arith, refl);
           responses_are = ap (λ v. v ++ r ∷ []) (p.responses_are ∙ append-nil (map response_of released));
           told = p.told;
         };
@@ -383,9 +450,9 @@ module _ (name base : ℕ) (outcomes : List Outcome) (commit : CommitRecord) (is
         ordered_is = refl;
         responses_is = refl;
       }
-  call_grows false IsReleased sent received ordered responses released l callers asked reply notes rest p running some none closing asks =
-      let r : ClientResponse = record { asked = asked; reply = reply; notes = notes; commits = length outcomes } in
-      let now : ReleasedResponse = record { response = r; waited = false; outcome = Ok tt } in
+  call_grows false key IsReleased sent received ordered responses released l callers asked reply notes rest p running some none closing asks =
+      let r : ClientResponse = record { call = record { key = key; asked = asked; reply = reply; notes = notes; waits = false; lost = false }; commits = length outcomes } in
+      let now : ReleasedResponse = record { response = r; outcome = Ok tt } in
       record {
         log' = record { sent = sent; received = received; ordered = ordered ++ Asks callers asked ∷ []; responses = responses ++ r ∷ []; released = released ++ now ∷ []; last = IsReleased };
         has = record {
@@ -402,9 +469,9 @@ module _ (name base : ℕ) (outcomes : List Outcome) (commit : CommitRecord) (is
         ordered_is = refl;
         responses_is = refl;
       }
-  call_grows deferred (IsDeferred r) sent received ordered responses released l callers asked reply notes rest p running some none closing asks = no_slot l.slot (slot_for r.asked) p.last_is.0 none
-  call_grows deferred (HasEnded end) sent received ordered responses released l callers asked reply notes rest p running some none closing asks = not_done l.done p.last_is.1 running
-  call_grows deferred (IsDropped r) sent received ordered responses released l callers asked reply notes rest p running some none closing asks = not_done l.done p.last_is.1 running
+  call_grows deferred key (IsDeferred r) sent received ordered responses released l callers asked reply notes rest p running some none closing asks = no_slot l.slot (slot_for r.call.asked) p.last_is.0 none
+  call_grows deferred key (HasEnded end) sent received ordered responses released l callers asked reply notes rest p running some none closing asks = not_done l.done p.last_is.1 running
+  call_grows deferred key (IsDropped r) sent received ordered responses released l callers asked reply notes rest p running some none closing asks = not_done l.done p.last_is.1 running
 
   end_grows : (last : LastResponse) (sent received : List ℕ) (ordered : List OrderedEvent) (responses : List ClientResponse) (released : List ReleasedResponse) (l : ClientState) (end : End)
       → HasLog name base outcomes (record { sent = sent; received = received; ordered = ordered; responses = responses; released = released; last = last }) l → l.done ≡ false → l.slot ≡ None
@@ -424,21 +491,31 @@ module _ (name base : ℕ) (outcomes : List Outcome) (commit : CommitRecord) (is
         ordered_is = sym (append-nil ordered);
     responses_is = sym (append-nil responses);
   }
-  end_grows (IsDeferred r) sent received ordered responses released l end p running none = no_slot l.slot (slot_for r.asked) p.last_is.0 none
+  end_grows (IsDeferred r) sent received ordered responses released l end p running none = no_slot l.slot (slot_for r.call.asked) p.last_is.0 none
   end_grows (HasEnded earlier) sent received ordered responses released l end p running none = not_done l.done p.last_is.1 running
   end_grows (IsDropped r) sent received ordered responses released l end p running none = not_done l.done p.last_is.1 running
 
-  module _ {S M : Type 0} (g : spaces.Ghosts S) (k : commits.Ghosts S) (m : moments.Ghosts M) (explaining : Explaining) (table : TokenFile) where
-    event_grows : (x : ClientEvent) (log : Log) (old new : ServedClient S M) → HasLog name base outcomes log old.client → Occurs g k m explaining table commit x old new
-        → Grows name base outcomes log (sent_by x) (received_by x) (ordered_by (callers_of table) x) (responses_by (length outcomes) x) new.client
+  module _ {S M : Type 0} (g : spaces.Ghosts S) (k : commits.Ghosts S) (m : moments.Ghosts M) (explaining : Explaining) (table : TokenFile) (key : ℕ) where
+    -- The responses of an event are to its client.
+    abbrev responses_of : (x : ClientEvent) (old new : ServedClient S M) → Occurs g k m explaining table commit x old new → List ClientResponse
+    responses_of x old new h = responses_to key (length outcomes) (acts_of_client g k m explaining table commit key x old new h)
+
+    event_grows : (x : ClientEvent) (log : Log) (old new : ServedClient S M) → HasLog name base outcomes log old.client → (h : Occurs g k m explaining table commit x old new)
+        → Grows name base outcomes log (sent_by x) (received_by x) (ordered_by (callers_of table) x) (responses_of x old new h) new.client
     event_grows (Steps step) log old new p h =
         subst (λ (l : ClientState). Grows name base outcomes log (sent_by_step step) (received_by_step step) (ordered_by_step step) [] l) (sym (ap (λ v. v.client) h.2))
         (step_grows name base outcomes commit is step log old.client h.0 p h.1)
     event_grows (Calls asked reply notes) log old new p h =
-        subst (λ (l : ClientState). Grows name base outcomes log [] [] (Asks (callers_of table) asked ∷ []) (responses_by (length outcomes) (Calls asked reply notes)) l) (sym (ap (λ v. v.client) h.6))
-        (call_grows (is_deferred k old.service h.1) log.last log.sent log.received log.ordered log.responses log.released old.client (callers_of table) asked reply notes h.0 p
+        let r : ClientResponse = record {
+          call = record { key = key; asked = asked; reply = reply; notes = notes; waits = is_deferred k old.service h.1; lost = false };
+          commits = length outcomes;
+        } in
+        let same : r ∷ [] ≡ responses_of (Calls asked reply notes) old new h = ap (λ b. cond b (r ∷ []) [] ++ []) (sym (eq-eqb key key refl)) in
+        subst (λ (q : List ClientResponse). Grows name base outcomes log [] [] (Asks (callers_of table) asked ∷ []) q new.client) same
+        (subst (λ (l : ClientState). Grows name base outcomes log [] [] (Asks (callers_of table) asked ∷ []) (r ∷ []) l) (sym (ap (λ v. v.client) h.6))
+        (call_grows (is_deferred k old.service h.1) key log.last log.sent log.received log.ordered log.responses log.released old.client (callers_of table) asked reply notes h.0 p
         h.3.is_running h.3.some h.3.none_deferred h.3.closing
-        (λ later. record { body = (h.5 later).body; request = (h.5 later).request; call = (h.5 later).call; moment = tt; next_is = (h.5 later).next_is }))
+        (λ later. record { body = (h.5 later).body; request = (h.5 later).request; call = (h.5 later).call; moment = tt; next_is = (h.5 later).next_is })))
     event_grows (LosesReply asked reply) log old new p h =
         subst (λ (l : ClientState). Grows name base outcomes log [] [] [] [] l) (sym (ap (λ v. v.client) h.5))
         (step_grows name base outcomes commit is Aborts log old.client (record old.client { done = true }) p refl)
@@ -451,19 +528,19 @@ module _ (name base : ℕ) (outcomes : List Outcome) (commit : CommitRecord) (is
         subst (λ (l : ClientState). Grows name base outcomes log [] [] [] [] l) (sym (ap (λ v. v.client) h.2)) (grows_still name base outcomes commit is log old.client p)
 
     -- All events of the client between two commits.
-    pub events_grow : (xs : List ClientEvent) (log : Log) (old new : ServedClient S M) → HasLog name base outcomes log old.client → OccurAll g k m explaining table commit xs old new
-        → Grows name base outcomes log (flat_map sent_by xs) (flat_map received_by xs) (flat_map (ordered_by (callers_of table)) xs) (flat_map (responses_by (length outcomes)) xs) new.client
+    pub events_grow : (xs : List ClientEvent) (log : Log) (old new : ServedClient S M) → HasLog name base outcomes log old.client → (h : OccurAll g k m explaining table commit xs old new)
+        → Grows name base outcomes log (flat_map sent_by xs) (flat_map received_by xs) (flat_map (ordered_by (callers_of table)) xs)
+        (responses_to key (length outcomes) (acts_of_clients g k m explaining table commit key xs old new h)) new.client
     events_grow [] log old new p h =
         subst (λ (l : ClientState). Grows name base outcomes log [] [] [] [] l) (sym (ap (λ v. v.client) h)) (grows_still name base outcomes commit is log old.client p)
     events_grow (x ∷ xs) log old new p h =
         let one = event_grows x log old h.0 p h.1 in
-        grows_then name base outcomes outcomes log (sent_by x) (flat_map sent_by xs) (received_by x) (flat_map received_by xs) (ordered_by (callers_of table) x) (flat_map (ordered_by (callers_of table)) xs) (responses_by (length outcomes) x)
-        (flat_map (responses_by (length outcomes)) xs) h.0.client new.client one (events_grow xs one.log' h.0 new one.has h.2)
-
-    pub steps_occur : (xs : List ClientStep) (s : Service S) (c : M) (l l' : ClientState) → StepsBy commit xs l l'
-        → OccurAll g k m explaining table commit (map (λ x. Steps x) xs) (served_client s c l) (served_client s c l')
-    steps_occur [] s c l l' h = ap (λ v. served_client s c v) h
-    steps_occur (x ∷ xs) s c l l' h = (served_client s c h.0, (h.0, h.1, refl), steps_occur xs s c h.0 l' h.2)
+        let more = acts_of_clients g k m explaining table commit key xs h.0 new h.2 in
+        let first = acts_of_client g k m explaining table commit key x old h.0 h.1 in
+        subst (λ (q : List ClientResponse). Grows name base outcomes log (flat_map sent_by (x ∷ xs)) (flat_map received_by (x ∷ xs)) (flat_map (ordered_by (callers_of table)) (x ∷ xs)) q new.client)
+        (sym (responses_join key first more (length outcomes) (client_settles_none g k m explaining table commit key x old h.0 h.1)))
+        (grows_then name base outcomes outcomes log (sent_by x) (flat_map sent_by xs) (received_by x) (flat_map received_by xs) (ordered_by (callers_of table) x) (flat_map (ordered_by (callers_of table)) xs)
+        (responses_of x old h.0 h.1) (responses_to key (length outcomes) more) h.0.client new.client one (events_grow xs one.log' h.0 new one.has h.2))
 
 -- A new client.
 pub new_log : (name base : ℕ) → HasLog name base [] no_log (new_client name)

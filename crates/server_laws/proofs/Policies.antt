@@ -14,7 +14,8 @@ use Rattle.service_purge.proofs.Known.{segments_aware}
 use Rattle.service_purge.proofs.Unseen.{segments_unseen}
 use Rattle.wire_http.specs.declared.moments.Moments as moments
 use Rattle.server_watch.specs.declared.token_watch.TokenSource as sources
-use Rattle.server_laws.specs.Cut.{Act, Cut}
+use Rattle.server_laws.specs.Acts.{Act}
+use Rattle.server_laws.specs.Cut.{Cut}
 use Rattle.server_laws.specs.Policy.{EventsAreKnown, EventsAreThePolicy, RunsFrom, batches_of}
 use Rattle.server_laws.proofs.Cuts.{form_segments}
 
@@ -40,14 +41,14 @@ module _ {S : Type 0} (g : spaces.Ghosts S) (k : commits.Ghosts S) (laws : Lawfu
     pub are_the_policy : EventsAreThePolicy g k m t
     are_the_policy explaining keep first events old new a h between from =
         let p = form_segments g k m t explaining keep first events old new h between in
-        let runs = cut_runs p.acts old.served.service new.served.service a p.cut from in
-        (p, record { runs = runs; unseen = λ proper goes look. segments_unseen k _ a _ _ _ proper runs goes look })
+        let runs = cut_runs _ old.served.service new.served.service a p.0 from in
+        (p.0, record { runs = runs; unseen = λ proper goes look. segments_unseen k _ a _ _ _ proper runs goes look })
 
     pub are_known : EventsAreKnown g k m t
     are_known explaining keep first events old new n h between from =
         let p = form_segments g k m t explaining keep first events old new h between in
-        let runs = cut_runs p.acts old.served.service new.served.service (empty_at n) p.cut from in (
-          p,
+        let runs = cut_runs _ old.served.service new.served.service (empty_at n) p.0 from in (
+          p.0,
           record {
             numbered = λ b held. purged_numbered k _ n _ _ _ b runs held;
             known = λ goes b held. segments_aware k _ n _ _ _ b runs goes held;

@@ -17,29 +17,30 @@ use Rattle.server_client.specs.CallOrder.{IsInOrder, OrderedEvent}
 use Rattle.server_client.specs.ClientEvents.{ClientEvent, Steps, served_client}
 use Rattle.server_client.specs.ClientState.{ClientState, new_client}
 use Rattle.server_client.specs.CommitRecord.{number_of, outcome_of}
+use Rattle.server_watch.specs.Purger.{MayPurge}
 use Rattle.server_watch.specs.declared.token_watch.TokenSource as sources
 use Rattle.dss_server.specs.ClientSet.{Accepts, Clients, Closes, Refuses, TakesSteps, with_state}
-use Rattle.dss_server.specs.ServeEvents.{Follows, Looks, Purges, Runs, ServeEvent, ServeState}
+use Rattle.dss_server.specs.ServeEvents.{FollowAll, Follows, Looks, Purges, Runs, ServeEvent, ServeState}
 use Rattle.dss_server.specs.ServiceEvents.{Changes, Commits, Serves}
-use Rattle.server_laws.specs.Cut.{Act, ClientCall, EndsBatch, FollowWith, HasActs, act_of_call, calls_of_client}
-use Rattle.server_laws.specs.Clients.{ClientResponse, EachClientIsServed, HasEnded, IsDeferred, IsDropped, IsReleased, IsTold, IsToldBy, LastResponse, ReleasedResponse, ServedFor, closes, commits_after, events_for, ordered_by, ordered_of, outcome_by, outcomes_in, received_by, received_from, responses_by, responses_to, sent_by, sent_to, table_after}
-use Rattle.server_laws.proofs.Logs.{Grows, HasLog, IsLastOf, IsRecordOf, Log, Outcome, events_grow, grows_still, grows_then, new_log, no_log, response_of, steps_occur}
+use Rattle.server_laws.specs.Acts.{Act, acts_of, acts_of_clients, acts_of_event, acts_of_purge}
+use Rattle.server_laws.specs.Clients.{ClientResponse, EachClientIsServed, HasEnded, IsDeferred, IsDropped, IsReleased, IsTold, IsToldBy, LastResponse, ReleasedResponse, ServedFor, closes, events_for, ordered_by, ordered_of, outcome_by, outcomes_in, received_by, received_from, responses_to, sent_by, sent_to, table_after}
+use Rattle.server_laws.proofs.Logs.{Grows, HasLog, IsLastOf, IsRecordOf, Log, Outcome, clients_settle_none, events_grow, grows_still, grows_then, new_log, no_log, others_get_none, response_of, responses_then_acts, steps_call_none, steps_occur}
 
 -- ---- more commits
 
-told_more : (outcomes more : List Outcome) (r : ClientResponse) (waited : Bool) (outcome : Outcome) → IsToldBy outcomes r waited outcome → IsToldBy (outcomes ++ more) r waited outcome
-told_more outcomes more r true outcome h = (h.0, h.1 ++ more, ap (λ v. v ++ more) h.2 ∙ append_assoc h.0 (outcome ∷ h.1) more, h.3)
-told_more outcomes more r false outcome h = tt
+told_more : (outcomes more : List Outcome) (n : ℕ) (waits : Bool) (outcome : Outcome) → IsToldBy outcomes n waits outcome → IsToldBy (outcomes ++ more) n waits outcome
+told_more outcomes more n true outcome h = (h.0, h.1 ++ more, ap (λ v. v ++ more) h.2 ∙ append_assoc h.0 (outcome ∷ h.1) more, h.3)
+told_more outcomes more n false outcome h = tt
 
 all_told : (outcomes more : List Outcome) (xs : List ReleasedResponse) → AllByRecursion (IsTold outcomes) xs → AllByRecursion (IsTold (outcomes ++ more)) xs
 all_told outcomes more [] h = tt
-all_told outcomes more (x ∷ xs) h = (told_more outcomes more x.response x.waited x.outcome h.0, all_told outcomes more xs h.1)
+all_told outcomes more (x ∷ xs) h = (told_more outcomes more x.response.commits x.response.call.waits x.outcome h.0, all_told outcomes more xs h.1)
 
 last_more : (base : ℕ) (outcomes more : List Outcome) (last : LastResponse) (l : ClientState) → IsLastOf base outcomes last l → IsLastOf base (outcomes ++ more) last l
 last_more base outcomes more IsReleased l h = h
 last_more base outcomes more (IsDeferred r) l h =
     let size : length (outcomes ++ more) ≡ length outcomes + length more = length-append outcomes more in
-    (h.0, h.1, omega (arith, size, h.2))
+    (h.0, h.1, omega (arith, size, h.2), h.3)
 last_more base outcomes more (HasEnded end) l h = h
 last_more base outcomes more (IsDropped r) l h = h
 
@@ -67,10 +68,6 @@ record_more base outcomes commit next p is =
 
 -- ---- one event
 
-no_outcomes : (calls : List ClientCall) → outcomes_in (map act_of_call calls) ≡ []
-no_outcomes [] = refl
-no_outcomes (x ∷ xs) = no_outcomes xs
-
 -- The client under a key after an event, and the record of the last commit.
 record Goes {S M T : Type 0} (key name base : ℕ) (outcomes : List Outcome) (log : Log) (sent received : List ℕ) (ordered : List OrderedEvent) (responses : List ClientResponse) (new : ServeState S M T) : Type 0 where
   pub l : ClientState
@@ -90,21 +87,23 @@ module _ {S M T : Type 0} (key name base : ℕ) (outcomes : List Outcome) where
   }
 
   -- The events of a client under a key are those of this client, or of another.
-  goes_at : (b : Bool) (other : ℕ) → (b ≡ true → key ≡ other) → (ordered : ClientEvent → List OrderedEvent) (responses : ClientEvent → List ClientResponse) (events : List ClientEvent) (log : Log) (l l0 l' : ClientState) (old new : ServeState S M T)
+  goes_at : (b : Bool) (other : ℕ) → (b ≡ true → key ≡ other) → (ordered : ClientEvent → List OrderedEvent) (responses : List ClientResponse) (events : List ClientEvent) (log : Log) (l l0 l' : ClientState) (old new : ServeState S M T)
       → old.served.clients.states key ≡ Some l → old.served.clients.states other ≡ Some l0 → HasLog name base outcomes log l → IsRecordOf base outcomes old.served.clients.commit
-      → (HasLog name base outcomes log l0 → Grows name base outcomes log (flat_map sent_by events) (flat_map received_by events) (flat_map ordered events) (flat_map responses events) l')
+      → (b ≡ true → HasLog name base outcomes log l0 → Grows name base outcomes log (flat_map sent_by events) (flat_map received_by events) (flat_map ordered events) responses l')
+      → (b ≡ false → responses ≡ [])
       → new.served.clients.states key ≡ cond b (Some l') (old.served.clients.states key) → new.served.clients.commit ≡ old.served.clients.commit
-      → Goes key name base outcomes log (flat_map sent_by (cond b events [])) (flat_map received_by (cond b events [])) (flat_map ordered (cond b events [])) (flat_map responses (cond b events [])) new
-  goes_at true other same ordered responses events log l l0 l' old new there found p is grows states commit =
+      → Goes key name base outcomes log (flat_map sent_by (cond b events [])) (flat_map received_by (cond b events [])) (flat_map ordered (cond b events [])) responses new
+  goes_at true other same ordered responses events log l l0 l' old new there found p is grows none states commit =
       let one : Some l ≡ Some l0 = sym there ∙ ap old.served.clients.states (same refl) ∙ found in
       let client : l ≡ l0 = cc in
       record {
         l = l';
         state = states;
-        grows = grows (subst (λ (v : ClientState). HasLog name base outcomes log v) client p);
+        grows = grows refl (subst (λ (v : ClientState). HasLog name base outcomes log v) client p);
         record_is = subst (λ (c : CommitRecord). IsRecordOf base outcomes c) (sym commit) is;
       }
-  goes_at false other same ordered responses events log l l0 l' old new there found p is grows states commit = goes_still log l old new there p is states commit
+  goes_at false other same ordered responses events log l l0 l' old new there found p is grows none states commit =
+      subst (λ (q : List ClientResponse). Goes key name base outcomes log [] [] [] q new) (sym (none refl)) (goes_still log l old new there p is states commit)
 
 no_both : {P : Type 0} (b : Bool) → b ≡ true → b ≡ false → P
 no_both true p q = absurd (cc)
@@ -112,10 +111,24 @@ no_both false p q = absurd (cc)
 
 module _ {S M T : Type 0} (g : spaces.Ghosts S) (k : commits.Ghosts S) (m : moments.Ghosts M) (explaining : Explaining) (t : sources.Ghosts T) (keep : Option ℕ) (first : TokenFile) (key name base : ℕ) where
   -- No commit.
-  no_commit : (outcomes : List Outcome) (now : List Act) (log : Log) (sent received : List ℕ) (ordered : List OrderedEvent) (responses : List ClientResponse) (new : ServeState S M T) → outcomes_in now ≡ []
-      → Goes key name base outcomes log sent received ordered responses new → Goes key name base (outcomes ++ outcomes_in now) log sent received ordered responses new
-  no_commit outcomes now log sent received ordered responses new none p =
+  no_commit : (outcomes : List Outcome) (acts : List Act) (log : Log) (sent received : List ℕ) (ordered : List OrderedEvent) (responses : List ClientResponse) (new : ServeState S M T) → outcomes_in acts ≡ []
+      → Goes key name base outcomes log sent received ordered responses new → Goes key name base (outcomes ++ outcomes_in acts) log sent received ordered responses new
+  no_commit outcomes acts log sent received ordered responses new none p =
       subst (λ (v : List Outcome). Goes key name base v log sent received ordered responses new) (sym (ap (λ v. outcomes ++ v) none ∙ append-nil outcomes)) p
+
+  purge_settles_none : (kept : Option ℕ) (old new : Service S) (clock clock' : M) (h : MayPurge g k m kept old new clock clock') → outcomes_in (acts_of_purge g k m kept old new clock clock' h) ≡ []
+  purge_settles_none None old new clock clock' h = refl
+  purge_settles_none (Some kept) old new clock clock' h = elim h as (λ v. outcomes_in (acts_of_purge g k m (Some kept) old new clock clock' v) ≡ []) [
+    | inl nothing ↦ refl
+    | inr chunk ↦ refl
+  ]
+
+  purge_answers_none : (kept : Option ℕ) (n : ℕ) (old new : Service S) (clock clock' : M) (h : MayPurge g k m kept old new clock clock') → responses_to key n (acts_of_purge g k m kept old new clock clock' h) ≡ []
+  purge_answers_none None n old new clock clock' h = refl
+  purge_answers_none (Some kept) n old new clock clock' h = elim h as (λ v. responses_to key n (acts_of_purge g k m (Some kept) old new clock clock' v) ≡ []) [
+    | inl nothing ↦ refl
+    | inr chunk ↦ refl
+  ]
 
   -- Another client gets a vacant key.
   vacant : (b : Bool) (other : ℕ) (states : ℕ → Option ClientState) (l new : ClientState) → (b ≡ true → key ≡ other) → states other ≡ None → states key ≡ Some l → cond b (Some new) (states key) ≡ states key
@@ -128,124 +141,121 @@ module _ {S M T : Type 0} (g : spaces.Ghosts S) (k : commits.Ghosts S) (m : mome
   left_open true states h = absurd cc
   left_open false states h = refl
 
-  event_goes : (x : ServeEvent) (log : Log) (l : ClientState) (outcomes : List Outcome) (now : List Act) (old new : ServeState S M T) → Follows g k m explaining t keep first x old new
-      → HasActs x old new now → closes key x ≡ false → old.served.clients.states key ≡ Some l → HasLog name base outcomes log l → IsRecordOf base outcomes old.served.clients.commit
-      → Goes key name base (outcomes ++ outcomes_in now) log (flat_map sent_by (events_for key x)) (flat_map received_by (events_for key x))
-      (flat_map (ordered_by (callers_of old.active.table)) (events_for key x)) (flat_map (responses_by (length outcomes)) (events_for key x)) new
-  event_goes (Runs (Changes (Accepts other named))) log l outcomes now old new h has stays there p is =
+  event_goes : (x : ServeEvent) (log : Log) (l : ClientState) (outcomes : List Outcome) (old new : ServeState S M T) (h : Follows g k m explaining t keep first x old new)
+      → closes key x ≡ false → old.served.clients.states key ≡ Some l → HasLog name base outcomes log l → IsRecordOf base outcomes old.served.clients.commit
+      → Goes key name base (outcomes ++ outcomes_in (acts_of_event g k m explaining t keep first x old new h)) log (flat_map sent_by (events_for key x)) (flat_map received_by (events_for key x))
+      (flat_map (ordered_by (callers_of old.active.table)) (events_for key x)) (responses_to key (length outcomes) (acts_of_event g k m explaining t keep first x old new h)) new
+  event_goes (Runs (Changes (Accepts other named))) log l outcomes old new h stays there p is =
       let clients : new.served.clients ≡ with_state old.served.clients other (Some (new_client named)) = ap (λ v. v.served.clients) h.2 ∙ ap (λ v. v.clients) h.1.2 ∙ h.1.1.1 in
-      no_commit outcomes now log [] [] [] [] new (ap outcomes_in has) (goes_still key name base outcomes log l old new there p is
+      no_commit outcomes [] log [] [] [] [] new refl (goes_still key name base outcomes log l old new there p is
       (ap (λ v. v.states key) clients ∙ vacant (key == other) other old.served.clients.states l (new_client named) (λ e. eqb-true key other e) h.1.1.0 there) (ap (λ v. v.commit) clients))
-  event_goes (Runs (Changes (Refuses named))) log l outcomes now old new h has stays there p is =
+  event_goes (Runs (Changes (Refuses named))) log l outcomes old new h stays there p is =
       let clients : new.served.clients ≡ old.served.clients = ap (λ v. v.served.clients) h.2 ∙ ap (λ v. v.clients) h.1.2 ∙ h.1.1 in
-      no_commit outcomes now log [] [] [] [] new (ap outcomes_in has) (goes_still key name base outcomes log l old new there p is (ap (λ v. v.states key) clients) (ap (λ v. v.commit) clients))
-  event_goes (Runs (Changes (TakesSteps other named steps))) log l outcomes now old new h has stays there p is =
+      no_commit outcomes [] log [] [] [] [] new refl (goes_still key name base outcomes log l old new there p is (ap (λ v. v.states key) clients) (ap (λ v. v.commit) clients))
+  event_goes (Runs (Changes (TakesSteps other named steps))) log l outcomes old new h stays there p is =
       let clients : new.served.clients ≡ with_state old.served.clients other (Some h.1.1.3) = ap (λ v. v.served.clients) h.2 ∙ ap (λ v. v.clients) h.1.2 ∙ h.1.1.5 in
-      no_commit outcomes now log _ _ _ _ new (ap outcomes_in has) (goes_at key name base outcomes (key == other) other (λ e. eqb-true key other e) (ordered_by (callers_of old.active.table)) (responses_by (length outcomes))
-      (map (λ step. Steps step) steps) log l h.1.1.0 h.1.1.3 old new there h.1.1.1 p is
-      (λ q. events_grow name base outcomes old.served.clients.commit is g k m explaining old.active.table (map (λ step. Steps step) steps) log
-      (served_client old.served.service old.served.clock h.1.1.0) (served_client old.served.service old.served.clock h.1.1.3) q
-      (steps_occur name base outcomes old.served.clients.commit is g k m explaining old.active.table steps old.served.service old.served.clock h.1.1.0 h.1.1.3 h.1.1.4))
-      (ap (λ v. v.states key) clients) (ap (λ v. v.commit) clients))
-  event_goes (Runs (Changes (Closes other))) log l outcomes now old new h has stays there p is =
+      let commit = old.served.clients.commit in
+      let table = old.active.table in
+      let from = served_client old.served.service old.served.clock h.1.1.0 in
+      let to = served_client old.served.service old.served.clock h.1.1.3 in
+      let events = map (λ step. Steps step) steps in
+      let occur = steps_occur g k m explaining table commit key steps old.served.service old.served.clock h.1.1.0 h.1.1.3 h.1.1.4 in
+      no_commit outcomes [] log _ _ _ [] new refl (goes_at key name base outcomes (key == other) other (λ e. eqb-true key other e) (ordered_by (callers_of table)) [] events log l h.1.1.0 h.1.1.3 old new there h.1.1.1 p is
+      (λ e q. subst (λ (v : List ClientResponse). Grows name base outcomes log (flat_map sent_by events) (flat_map received_by events) (flat_map (ordered_by (callers_of table)) events) v h.1.1.3)
+      (ap (λ v. responses_to key (length outcomes) v) (steps_call_none g k m explaining table commit key steps from to occur))
+      (events_grow name base outcomes commit is g k m explaining table key events log from to q occur))
+      (λ e. refl) (ap (λ v. v.states key) clients) (ap (λ v. v.commit) clients))
+  event_goes (Runs (Changes (Closes other))) log l outcomes old new h stays there p is =
       let clients : new.served.clients ≡ with_state old.served.clients other None = ap (λ v. v.served.clients) h.2 ∙ ap (λ v. v.clients) h.1.2 ∙ h.1.1 in
-      no_commit outcomes now log [] [] [] [] new (ap outcomes_in has) (goes_still key name base outcomes log l old new there p is
+      no_commit outcomes [] log [] [] [] [] new refl (goes_still key name base outcomes log l old new there p is
       (ap (λ v. v.states key) clients ∙ left_open (key == other) old.served.clients.states stays) (ap (λ v. v.commit) clients))
-  event_goes (Runs (Serves other named events)) log l outcomes now old new h has stays there p is =
+  event_goes (Runs (Serves other named events)) log l outcomes old new h stays there p is =
       let clients : new.served.clients ≡ with_state old.served.clients other (Some h.1.3.client) = ap (λ v. v.served.clients) h.2 ∙ ap (λ v. v.clients) h.1.5 in
-      no_commit outcomes now log _ _ _ _ new (ap outcomes_in has ∙ no_outcomes (flat_map (calls_of_client other) events))
-      (goes_at key name base outcomes (key == other) other (λ e. eqb-true key other e) (ordered_by (callers_of old.active.table)) (responses_by (length outcomes)) events log l h.1.0 h.1.3.client old new there h.1.1 p is
-      (λ q. events_grow name base outcomes old.served.clients.commit is g k m explaining old.active.table events log (served_client old.served.service old.served.clock h.1.0) h.1.3 q h.1.4)
+      let commit = old.served.clients.commit in
+      let table = old.active.table in
+      let from = served_client old.served.service old.served.clock h.1.0 in
+      let acts = acts_of_clients g k m explaining table commit other events from h.1.3 h.1.4 in
+      no_commit outcomes acts log _ _ _ _ new (clients_settle_none g k m explaining table commit other events from h.1.3 h.1.4)
+      (goes_at key name base outcomes (key == other) other (λ e. eqb-true key other e) (ordered_by (callers_of table)) (responses_to key (length outcomes) acts) events log l h.1.0 h.1.3.client old new there h.1.1 p is
+      (λ e q. subst (λ (v : ℕ). Grows name base outcomes log (flat_map sent_by events) (flat_map received_by events) (flat_map (ordered_by (callers_of table)) events)
+      (responses_to v (length outcomes) acts) h.1.3.client) (sym (eqb-true key other e))
+      (events_grow name base outcomes commit is g k m explaining table other events log from h.1.3 q h.1.4))
+      (λ e. others_get_none g k m explaining table commit other key (length outcomes) events from h.1.3 h.1.4 e)
       (ap (λ v. v.states key) clients) (ap (λ v. v.commit) clients))
-  event_goes (Runs Commits) log l outcomes now old new h has stays there p is =
+  event_goes (Runs Commits) log l outcomes old new h stays there p is =
       let clients : new.served.clients ≡ record old.served.clients { commit = h.1.1 } = ap (λ v. v.served.clients) h.2 ∙ ap (λ v. v.clients) h.1.4 in
       let commit : new.served.clients.commit ≡ h.1.1 = ap (λ v. v.commit) clients in
-      let after = outcomes ++ outcome_of new.served.clients.commit ∷ [] in
-      let grown : Goes key name base after log [] [] [] [] new = record {
+      record {
         l = l;
         state = ap (λ v. v.states key) clients ∙ there;
         grows = record {
           log' = log;
-          has = log_more name base outcomes (outcome_of new.served.clients.commit ∷ []) log l p;
+          has = log_more name base outcomes (outcome_of h.1.1 ∷ []) log l p;
           sent_is = sym (append-nil log.sent);
           received_is = sym (append-nil log.received);
           ordered_is = sym (append-nil log.ordered);
           responses_is = sym (append-nil log.responses);
         };
-        record_is = record_more base outcomes old.served.clients.commit new.served.clients.commit is (ap number_of commit ∙ h.1.3);
-      } in
-      subst (λ (v : List Outcome). Goes key name base v log [] [] [] [] new) (ap (λ v. outcomes ++ v) (sym (ap outcomes_in has))) grown
-  event_goes Purges log l outcomes now old new h has stays there p is =
+        record_is = subst (λ (c : CommitRecord). IsRecordOf base (outcomes ++ outcome_of h.1.1 ∷ []) c) (sym commit) (record_more base outcomes old.served.clients.commit h.1.1 is h.1.3);
+      }
+  event_goes Purges log l outcomes old new h stays there p is =
       let clients : new.served.clients ≡ old.served.clients = ap (λ v. v.served.clients) h.3 in
-      let none : outcomes_in now ≡ [] = elim has [
-        | inl empty ↦ ap outcomes_in empty
-        | inr chunk ↦ ap outcomes_in chunk.1
-      ] in
-      no_commit outcomes now log [] [] [] [] new none (goes_still key name base outcomes log l old new there p is (ap (λ v. v.states key) clients) (ap (λ v. v.commit) clients))
-  event_goes (Looks now' taken) log l outcomes now old new h has stays there p is =
+      let acts = acts_of_purge g k m keep old.served.service h.0 old.served.clock h.1 h.2 in
+      subst (λ (q : List ClientResponse). Goes key name base (outcomes ++ outcomes_in acts) log [] [] [] q new) (sym (purge_answers_none keep (length outcomes) old.served.service h.0 old.served.clock h.1 h.2))
+      (no_commit outcomes acts log [] [] [] [] new (purge_settles_none keep old.served.service h.0 old.served.clock h.1 h.2)
+      (goes_still key name base outcomes log l old new there p is (ap (λ v. v.states key) clients) (ap (λ v. v.commit) clients)))
+  event_goes (Looks now' taken) log l outcomes old new h stays there p is =
       let clients : new.served.clients ≡ old.served.clients = ap (λ v. v.served.clients) h.2 in
-      no_commit outcomes now log [] [] [] [] new (ap outcomes_in has) (goes_still key name base outcomes log l old new there p is (ap (λ v. v.states key) clients) (ap (λ v. v.commit) clients))
+      no_commit outcomes [] log [] [] [] [] new refl (goes_still key name base outcomes log l old new there p is (ap (λ v. v.states key) clients) (ap (λ v. v.commit) clients))
 
-  -- ---- what an event does to the table, and to the number of commits
+  -- ---- all events
 
   table_is : (x : ServeEvent) (old new : ServeState S M T) → Follows g k m explaining t keep first x old new → new.active.table ≡ table_after x old.active.table
   table_is (Runs event) old new h = ap (λ v. v.active.table) h.2
   table_is Purges old new h = ap (λ v. v.active.table) h.3
   table_is (Looks now' taken) old new h = ap (λ v. v.active.table) h.2
 
-  none_more : (outcomes : List Outcome) (now : List Act) → outcomes_in now ≡ [] → length (outcomes ++ outcomes_in now) ≡ length outcomes
-  none_more outcomes now none = ap (λ v. length (outcomes ++ v)) none ∙ ap length (append-nil outcomes)
-
-  commits_are : (x : ServeEvent) (outcomes : List Outcome) (now : List Act) (old new : ServeState S M T) → HasActs x old new now
-      → length (outcomes ++ outcomes_in now) ≡ commits_after x (length outcomes)
-  commits_are (Runs (Changes change)) outcomes now old new has = none_more outcomes now (ap outcomes_in has)
-  commits_are (Runs (Serves other named events)) outcomes now old new has = none_more outcomes now (ap outcomes_in has ∙ no_outcomes (flat_map (calls_of_client other) events))
-  commits_are (Runs Commits) outcomes now old new has = ap (λ v. length (outcomes ++ outcomes_in v)) has ∙ length-append outcomes (outcome_of new.served.clients.commit ∷ [])
-  commits_are Purges outcomes now old new has = none_more outcomes now (elim has [
-    | inl empty ↦ ap outcomes_in empty
-    | inr chunk ↦ ap outcomes_in chunk.1
-  ])
-  commits_are (Looks now' taken) outcomes now old new has = none_more outcomes now (ap outcomes_in has)
-
-  -- ---- all events
-
-  events_go : (events : List ServeEvent) (acts : List Act) (log : Log) (l : ClientState) (outcomes : List Outcome) (old new : ServeState S M T)
-      → FollowWith g k m explaining t keep first events acts old new → AllByRecursion (λ event. closes key event ≡ false) events
+  events_go : (events : List ServeEvent) (log : Log) (l : ClientState) (outcomes : List Outcome) (old new : ServeState S M T)
+      (h : FollowAll g k m explaining t keep first events old new) → AllByRecursion (λ event. closes key event ≡ false) events
       → old.served.clients.states key ≡ Some l → HasLog name base outcomes log l → IsRecordOf base outcomes old.served.clients.commit
-      → Goes key name base (outcomes ++ outcomes_in acts) log (sent_to key events) (received_from key events) (ordered_of key old.active.table events) (responses_to key (length outcomes) events) new
-  events_go [] acts log l outcomes old new h stays there p is =
-      no_commit outcomes acts log [] [] [] [] new (ap outcomes_in h.0)
-      (goes_still key name base outcomes log l old new there p is (ap (λ v. v.served.clients.states key) h.1) (ap (λ v. v.served.clients.commit) h.1))
-  events_go (x ∷ xs) acts log l outcomes old new h stays there p is =
+      → Goes key name base (outcomes ++ outcomes_in (acts_of g k m explaining t keep first events old new h)) log (sent_to key events) (received_from key events)
+      (ordered_of key old.active.table events) (responses_to key (length outcomes) (acts_of g k m explaining t keep first events old new h)) new
+  events_go [] log l outcomes old new h stays there p is =
+      no_commit outcomes [] log [] [] [] [] new refl
+      (goes_still key name base outcomes log l old new there p is (ap (λ v. v.served.clients.states key) h) (ap (λ v. v.served.clients.commit) h))
+  events_go (x ∷ xs) log l outcomes old new h stays there p is =
       let mid = h.0 in
-      let now = h.1 in
-      let later = h.2 in
-      let one = event_goes x log l outcomes now old mid h.4 h.5 stays.0 there p is in
-      let rest = events_go xs later one.grows.log' one.l (outcomes ++ outcomes_in now) mid new h.6 stays.1 one.state one.grows.has one.record_is in
-      let same : responses_to key (length (outcomes ++ outcomes_in now)) xs ≡ responses_to key (commits_after x (length outcomes)) xs =
-      ap (λ v. responses_to key v xs) (commits_are x outcomes now old mid h.5) in
-      let alike : ordered_of key mid.active.table xs ≡ ordered_of key (table_after x old.active.table) xs = ap (λ v. ordered_of key v xs) (table_is x old mid h.4) in
-      let joined = grows_then name base (outcomes ++ outcomes_in now) ((outcomes ++ outcomes_in now) ++ outcomes_in later) log
+      let now = acts_of_event g k m explaining t keep first x old mid h.1 in
+      let later = acts_of g k m explaining t keep first xs mid new h.2 in
+      let middle = outcomes ++ outcomes_in now in
+      let one = event_goes x log l outcomes old mid h.1 stays.0 there p is in
+      let rest = events_go xs one.grows.log' one.l middle mid new h.2 stays.1 one.state one.grows.has one.record_is in
+      let size : length middle ≡ length (outcomes_in now) + length outcomes = let both = length-append outcomes (outcomes_in now) in omega (arith, both) in
+      let joined = grows_then name base middle (middle ++ outcomes_in later) log
       (flat_map sent_by (events_for key x)) (sent_to key xs) (flat_map received_by (events_for key x)) (received_from key xs)
-      (flat_map (ordered_by (callers_of old.active.table)) (events_for key x)) (ordered_of key (table_after x old.active.table) xs)
-      (flat_map (responses_by (length outcomes)) (events_for key x)) (responses_to key (commits_after x (length outcomes)) xs)
-      one.l rest.l one.grows
-      (subst (λ (v : List OrderedEvent). Grows name base ((outcomes ++ outcomes_in now) ++ outcomes_in later) one.grows.log' (sent_to key xs) (received_from key xs) v
-      (responses_to key (commits_after x (length outcomes)) xs) rest.l) alike
-      (subst (λ (v : List ClientResponse). Grows name base ((outcomes ++ outcomes_in now) ++ outcomes_in later) one.grows.log' (sent_to key xs) (received_from key xs)
-      (ordered_of key mid.active.table xs) v rest.l) same rest.grows)) in
-      let all : Goes key name base ((outcomes ++ outcomes_in now) ++ outcomes_in later) log (sent_to key (x ∷ xs)) (received_from key (x ∷ xs)) (ordered_of key old.active.table (x ∷ xs)) (responses_to key (length outcomes) (x ∷ xs)) new =
+      (flat_map (ordered_by (callers_of old.active.table)) (events_for key x)) (ordered_of key mid.active.table xs)
+      (responses_to key (length outcomes) now) (responses_to key (length middle) later) one.l rest.l one.grows rest.grows in
+      let alike : flat_map (ordered_by (callers_of old.active.table)) (events_for key x) ++ ordered_of key mid.active.table xs ≡ ordered_of key old.active.table (x ∷ xs) =
+      ap (λ v. flat_map (ordered_by (callers_of old.active.table)) (events_for key x) ++ ordered_of key v xs) (table_is x old mid h.1) in
+      let answered : responses_to key (length outcomes) now ++ responses_to key (length middle) later ≡ responses_to key (length outcomes) (now ++ later) =
+      ap (λ v. responses_to key (length outcomes) now ++ responses_to key v later) size ∙ sym (responses_then_acts key now later (length outcomes)) in
+      let settled : middle ++ outcomes_in later ≡ outcomes ++ outcomes_in (now ++ later) =
+      append_assoc outcomes (outcomes_in now) (outcomes_in later) ∙ ap (λ v. outcomes ++ v) (sym (flat_map-append outcome_by now later)) in
+      let first_ones : Goes key name base (middle ++ outcomes_in later) log (sent_to key (x ∷ xs)) (received_from key (x ∷ xs))
+      (flat_map (ordered_by (callers_of old.active.table)) (events_for key x) ++ ordered_of key mid.active.table xs)
+      (responses_to key (length outcomes) now ++ responses_to key (length middle) later) new =
       record { l = rest.l; state = rest.state; grows = joined; record_is = rest.record_is } in
-      let outcomes_are : (outcomes ++ outcomes_in now) ++ outcomes_in later ≡ outcomes ++ outcomes_in acts =
-      append_assoc outcomes (outcomes_in now) (outcomes_in later) ∙ ap (λ v. outcomes ++ v) (sym (flat_map-append outcome_by now later)) ∙ ap (λ v. outcomes ++ outcomes_in v) (sym h.3) in
-      subst (λ (v : List Outcome). Goes key name base v log (sent_to key (x ∷ xs)) (received_from key (x ∷ xs)) (ordered_of key old.active.table (x ∷ xs)) (responses_to key (length outcomes) (x ∷ xs)) new) outcomes_are all
+      subst (λ (v : List Outcome). Goes key name base v log (sent_to key (x ∷ xs)) (received_from key (x ∷ xs)) (ordered_of key old.active.table (x ∷ xs)) (responses_to key (length outcomes) (now ++ later)) new) settled
+      (subst (λ (v : List ClientResponse). Goes key name base (middle ++ outcomes_in later) log (sent_to key (x ∷ xs)) (received_from key (x ∷ xs)) (ordered_of key old.active.table (x ∷ xs)) v new) answered
+      (subst (λ (v : List OrderedEvent). Goes key name base (middle ++ outcomes_in later) log (sent_to key (x ∷ xs)) (received_from key (x ∷ xs)) v
+      (responses_to key (length outcomes) now ++ responses_to key (length middle) later) new) alike first_ones))
 
 module _ {S M T : Type 0} (g : spaces.Ghosts S) (k : commits.Ghosts S) (m : moments.Ghosts M) (t : sources.Ghosts T) where
   pub each_is_served : EachClientIsServed g k m t
-  each_is_served explaining keep first events acts old new key name h there stays =
+  each_is_served explaining keep first events old new key name h there stays =
       let base = number_of old.served.clients.commit in
       let start : IsRecordOf base [] old.served.clients.commit = record { number = inl (omega arith); outcome = inl refl } in
-      let p = events_go g k m explaining t keep first key name base events acts no_log (new_client name) [] old new h stays there (new_log name base) start in
+      let p = events_go g k m explaining t keep first key name base events no_log (new_client name) [] old new h stays there (new_log name base) start in
       let has = p.grows.has in
       let log = p.grows.log' in (
         p.l,

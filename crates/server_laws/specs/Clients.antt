@@ -20,7 +20,7 @@ use Rattle.server_watch.specs.declared.token_watch.TokenSource as sources
 use Rattle.dss_server.specs.ClientSet.{Accepts, Closes, Refuses, SetChange, TakesSteps}
 use Rattle.dss_server.specs.ServeEvents.{FollowAll, Looks, Purges, Runs, ServeEvent, ServeState}
 use Rattle.dss_server.specs.ServiceEvents.{Changes, Commits, Serves, ServiceEvent}
-use Rattle.server_laws.specs.Cut.{Act, EndsBatch, FollowWith, PurgesUpTo, Replies}
+use Rattle.server_laws.specs.Acts.{Act, Answers, EndsBatch, LoggedCall, PurgesUpTo, acts_of}
 
 -- ---- the events of one client
 
@@ -96,45 +96,11 @@ sent_to key events = flat_map (λ event. flat_map sent_by (events_for key event)
 abbrev pub received_from : (key : ℕ) → List ServeEvent → List ℕ
 received_from key events = flat_map (λ event. flat_map received_by (events_for key event)) events
 
--- A call of a client with its reply as it was made, the texts in its response, and the number of
--- commits before it.
-pub record ClientResponse : Type 0 where
-  pub asked : RequestCall
-  pub reply : Reply
-  pub notes : List (List ℕ)
-  pub commits : ℕ
-
-abbrev pub responses_by : (commits : ℕ) → ClientEvent → List ClientResponse
-responses_by commits (Steps step) = []
-responses_by commits (Calls asked reply notes) = record {
-  asked = asked;
-  reply = reply;
-  notes = notes;
-  commits = commits;
-} ∷ []
-responses_by commits (LosesReply asked reply) = []
-responses_by commits (EndsStream end) = []
-responses_by commits (ReadsClock moment) = []
-
--- The table and the number of commits after an event.
+-- The table after an event.
 abbrev pub table_after : ServeEvent → TokenFile → TokenFile
 table_after (Runs event) table = table
 table_after Purges table = table
 table_after (Looks now taken) table = unwrap_or taken table
-
-abbrev pub commits_after : ServeEvent → (commits : ℕ) → ℕ
-commits_after (Runs (Changes change)) commits = commits
-commits_after (Runs (Serves key name events)) commits = commits
-commits_after (Runs Commits) commits = commits + 1
-commits_after Purges commits = commits
-commits_after (Looks now taken) commits = commits
-
--- The answered calls of the client, in order. A call whose response is lost is not among them.
--- `commits` commits came before the events.
-abbrev pub responses_to : (key : ℕ) → (commits : ℕ) → List ServeEvent → List ClientResponse
-responses_to key commits [] = []
-responses_to key commits (event ∷ events) = flat_map (responses_by commits) (events_for key event)
-    ++ responses_to key (commits_after event commits) events
 
 -- The calls of the client, but for one whose response is lost, and the limits to one more request, in
 -- order.
@@ -163,26 +129,44 @@ ordered_of key table (event ∷ events) =
 
 -- ---- responses
 
--- The text of the response to the reply as it was made.
-abbrev pub text_of : ClientResponse → List ℕ
-text_of r = noted_text r.notes r.asked.endpoint r.asked.closing r.reply
+-- A response to a client, and the number of commits before its call.
+pub record ClientResponse : Type 0 where
+  pub call : LoggedCall
+  pub commits : ℕ
 
--- A response that was released: whether it had been deferred, and the outcome of the commit of its
--- batch, or `Ok` if it had not.
+-- Returns true if the response to the call is not lost and goes to the client under a key.
+abbrev pub is_to : (key : ℕ) → LoggedCall → Bool
+is_to key call = if call.lost then false else key == call.key
+
+-- The responses to the client under a key, in order. `commits` commits came before the acts.
+abbrev pub responses_to : (key commits : ℕ) → List Act → List ClientResponse
+responses_to key commits [] = []
+responses_to key commits (Answers call ∷ acts) =
+    (if is_to key call then record { call = call; commits = commits } ∷ [] else [])
+    ++ responses_to key commits acts
+responses_to key commits (EndsBatch outcome ∷ acts) = responses_to key (commits + 1) acts
+responses_to key commits (PurgesUpTo until ∷ acts) = responses_to key commits acts
+
+-- The text of the response to the reply as it was made.
+abbrev pub text_of : LoggedCall → List ℕ
+text_of call = noted_text call.notes call.asked.endpoint call.asked.closing call.reply
+
+-- A response that was released, and the outcome of the commit of its batch. The outcome of a response
+-- that was not deferred does not matter.
 pub record ReleasedResponse : Type 0 where
   pub response : ClientResponse
-  pub waited : Bool
   pub outcome : Result (Unit {0}) SpaceFault
 
--- The text of a released response. If the commit failed, it is that of the fault.
-abbrev pub released_text : ClientResponse → (waited : Bool) → Result (Unit {0}) SpaceFault → List ℕ
-released_text r true (Ok x) = text_of r
-released_text r true (Err fault) =
-    response_text r.asked.endpoint r.asked.closing (reply_of (halts.Space fault))
-released_text r false outcome = text_of r
+-- The text of a released response. If it was deferred and the commit failed, it is that of the fault.
+abbrev pub released_text : LoggedCall → (waits : Bool) → Result (Unit {0}) SpaceFault → List ℕ
+released_text call true (Ok x) = text_of call
+released_text call true (Err fault) =
+    response_text call.asked.endpoint call.asked.closing (reply_of (halts.Space fault))
+released_text call false outcome = text_of call
 
 abbrev pub text_of_released : ReleasedResponse → List ℕ
-text_of_released released = released_text released.response released.waited released.outcome
+text_of_released released =
+    released_text released.response.call released.response.call.waits released.outcome
 
 -- What became of the last response of a client: it was released, it is deferred, the stream ended
 -- after it, or it was deferred and dropped.
@@ -209,13 +193,13 @@ last_text (IsDropped response) = []
 -- The text that may not be sent yet.
 abbrev pub deferred_text : LastResponse → List ℕ
 deferred_text IsReleased = []
-deferred_text (IsDeferred response) = text_of response
+deferred_text (IsDeferred response) = text_of response.call
 deferred_text (HasEnded end) = []
 deferred_text (IsDropped response) = []
 
 -- The outcomes of the commits, in order.
 abbrev pub outcome_by : Act → List (Result (Unit {0}) SpaceFault)
-outcome_by (Replies call reply) = []
+outcome_by (Answers call) = []
 outcome_by (EndsBatch outcome) = outcome ∷ []
 outcome_by (PurgesUpTo until) = []
 
@@ -229,16 +213,16 @@ HasOutcome outcomes n outcome = (before : List (Result (Unit {0}) SpaceFault))
     × (after : List (Result (Unit {0}) SpaceFault))
     × (outcomes ≡ before ++ outcome ∷ after) × (length before ≡ n)
 
--- Holds if a response that had been deferred was released after the first commit that followed its
--- call, and with the outcome of that commit.
-abbrev pub IsToldBy : List (Result (Unit {0}) SpaceFault) → ClientResponse → (waited : Bool)
+-- Holds if a deferred response was released after the first commit that followed its call, with the
+-- outcome of that commit.
+abbrev pub IsToldBy : List (Result (Unit {0}) SpaceFault) → (commits : ℕ) → (waits : Bool)
     → Result (Unit {0}) SpaceFault → Type 0
-IsToldBy outcomes response true outcome = HasOutcome outcomes response.commits outcome
-IsToldBy outcomes response false outcome = Unit {0}
+IsToldBy outcomes commits true outcome = HasOutcome outcomes commits outcome
+IsToldBy outcomes commits false outcome = Unit {0}
 
 abbrev pub IsTold : List (Result (Unit {0}) SpaceFault) → ReleasedResponse → Type 0
-IsTold outcomes released =
-    IsToldBy outcomes released.response released.waited released.outcome
+IsTold outcomes released = IsToldBy outcomes released.response.commits
+    released.response.call.waits released.outcome
 
 -- ---- the law
 
@@ -249,9 +233,9 @@ pub record ServedFor (key name : ℕ) (table : TokenFile) (events : List ServeEv
   pub released : List ReleasedResponse
   pub last : LastResponse
   -- Its responses are those to its calls, in order, each once. All but the last were released.
-  pub responses : responses_to key 0 events
+  pub responses : responses_to key 0 acts
       ≡ map (λ each. each.response) released ++ unreleased last
-  -- No response that had been deferred was released before its commit.
+  -- No deferred response was released before its commit.
   pub told : AllByRecursion (IsTold (outcomes_in acts)) released
   -- The sent bytes, and those that may be sent, are the released responses, in order.
   pub sent : sent_to key events ++ l.ready ≡ flat_map text_of_released released ++ last_text last
@@ -265,9 +249,10 @@ module _ {S M T : Type 0} (g : spaces.Ghosts S) (k : commits.Ghosts S) (m : mome
     (t : sources.Ghosts T) where
   abbrev pub EachClientIsServed : Type 0
   EachClientIsServed = (explaining : Explaining) (keep : Option ℕ) (first : TokenFile)
-      (events : List ServeEvent) (acts : List Act) (old new : ServeState S M T) (key name : ℕ)
-      → FollowWith g k m explaining t keep first events acts old new
+      (events : List ServeEvent) (old new : ServeState S M T) (key name : ℕ)
+      (h : FollowAll g k m explaining t keep first events old new)
       → old.served.clients.states key ≡ Some (new_client name)
       → AllByRecursion (λ event. closes key event ≡ false) events
       → (l : ClientState) × (new.served.clients.states key ≡ Some l)
-      × ServedFor key name old.active.table events acts l
+      × ServedFor key name old.active.table events
+      (acts_of g k m explaining t keep first events old new h) l

@@ -1,3 +1,4 @@
+pub mod Acts
 pub mod Cut
 pub mod Policy
 pub mod Clients

@@ -16,7 +16,8 @@ use Rattle.wire_http.specs.declared.explaining.Explaining.{Explaining}
 use Rattle.wire_http.specs.declared.moments.Moments as moments
 use Rattle.server_watch.specs.declared.token_watch.TokenSource as sources
 use Rattle.dss_server.specs.ServeEvents.{FollowAll, PurgesBetween, ServeEvent, ServeState}
-use Rattle.server_laws.specs.Cut.{Act, Cut, FormSegments}
+use Rattle.server_laws.specs.Acts.{Act, acts_of}
+use Rattle.server_laws.specs.Cut.{Cut}
 
 module _ {S : Type 0} (g : spaces.Ghosts S) (k : commits.Ghosts S) where
   -- Holds if a service that was not shut ran. Its space had a single airspace and nothing pending
@@ -64,14 +65,16 @@ module _ {S M T : Type 0} (g : spaces.Ghosts S) (k : commits.Ghosts S) (m : mome
   abbrev pub EventsAreThePolicy : Type 0
   EventsAreThePolicy = (explaining : Explaining) (keep : Option ℕ) (first : TokenFile)
       (events : List ServeEvent) (old new : ServeState S M T) (a : Airspace)
-      → FollowAll g k m explaining t keep first events old new → PurgesBetween events false
+      (h : FollowAll g k m explaining t keep first events old new) → PurgesBetween events false
       → RunsFrom g k a old.served.service new.served.service
-      → (p : FormSegments g k m t explaining keep first events old new) × RunsAsPolicy g k a p.cut
+      → (cut : Cut g k (acts_of g k m explaining t keep first events old new h)
+      old.served.service new.served.service) × RunsAsPolicy g k a cut
 
   -- States what is known of the durable airspace after events from the empty airspace.
   abbrev pub EventsAreKnown : Type 0
   EventsAreKnown = (explaining : Explaining) (keep : Option ℕ) (first : TokenFile)
       (events : List ServeEvent) (old new : ServeState S M T) (n : ℕ)
-      → FollowAll g k m explaining t keep first events old new → PurgesBetween events false
+      (h : FollowAll g k m explaining t keep first events old new) → PurgesBetween events false
       → RunsFrom g k (empty_at n) old.served.service new.served.service
-      → (p : FormSegments g k m t explaining keep first events old new) × IsKnownFrom g k n p.cut
+      → (cut : Cut g k (acts_of g k m explaining t keep first events old new h)
+      old.served.service new.served.service) × IsKnownFrom g k n cut
