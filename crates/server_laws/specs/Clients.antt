@@ -102,8 +102,8 @@ table_after (Runs event) table = table
 table_after Purges table = table
 table_after (Looks now taken) table = unwrap_or taken table
 
--- The calls of the client, but for one whose response is lost, and the limits to one more request, in
--- order.
+-- The calls of the client, but for one whose response is lost, and the limits to one more request,
+-- in order.
 abbrev pub ordered_by_step : ClientStep → List OrderedEvent
 ordered_by_step (Receives bytes) = []
 ordered_by_step ReceivesEnd = []
@@ -151,13 +151,14 @@ responses_to key commits (PurgesUpTo until ∷ acts) = responses_to key commits 
 abbrev pub text_of : LoggedCall → List ℕ
 text_of call = noted_text call.notes call.asked.endpoint call.asked.closing call.reply
 
--- A response that was released, and the outcome of the commit of its batch. The outcome of a response
--- that was not deferred does not matter.
+-- A response that was released, and the outcome of the commit of its batch. The outcome of a
+-- response that was not deferred does not matter.
 pub record ReleasedResponse : Type 0 where
   pub response : ClientResponse
   pub outcome : Result (Unit {0}) SpaceFault
 
--- The text of a released response. If it was deferred and the commit failed, it is that of the fault.
+-- The text of a released response. If it was deferred and the commit failed, it is that of the
+-- fault.
 abbrev pub released_text : LoggedCall → (waits : Bool) → Result (Unit {0}) SpaceFault → List ℕ
 released_text call true (Ok x) = text_of call
 released_text call true (Err fault) =

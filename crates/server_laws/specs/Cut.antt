@@ -57,8 +57,8 @@ pub record Cut {S : Type 0} (g : spaces.Ghosts S) (k : commits.Ghosts S) (acts :
 
 module _ {S M T : Type 0} (g : spaces.Ghosts S) (k : commits.Ghosts S) (m : moments.Ghosts M)
     (t : sources.Ghosts T) where
-  -- States that the acts form segments and batches, if purges come between batches. If a commit came
-  -- after each call, all are in batches.
+  -- States that the acts form segments and batches, if purges come between batches. If a commit
+  -- came after each call, all are in batches.
   abbrev pub EventsFormSegments : Type 0
   EventsFormSegments = (explaining : Explaining) (keep : Option ℕ) (first : TokenFile)
       (events : List ServeEvent) (old new : ServeState S M T)

@@ -28,9 +28,10 @@ module _ {S : Type 0} (g : spaces.Ghosts S) (k : commits.Ghosts S) where
     pub content : IsContent g.holds (space_of old) a
     pub sound : g.is_sound (space_of new)
 
-  -- The batches after the last purge. The calls after the last commit form one that is not committed,
-  -- as after a crash: each deferred reply counts as a failure.
-  abbrev pub batches_of : {acts : List Act} {old new : Service S} → Cut g k acts old new → List Batch
+  -- The batches after the last purge. The calls after the last commit form one that is not
+  -- committed, as after a crash: each deferred reply counts as a failure.
+  abbrev pub batches_of : {acts : List Act} {old new : Service S} → Cut g k acts old new
+      → List Batch
   batches_of cut = cut.batches ++ uncommitted cut.calls ∷ []
 
   -- Returns true if some delivered reply is `Stopped`.

@@ -20,9 +20,10 @@ pub fn events_form_segments<S: GroupCommit, M: Moments, T: TokenSource>()
 /// policy over what the purges left.
 ///
 /// If no reply was `Stopped`, and each call is forward-looking from the purges before it, they are
-/// those of the policy without purges. After events from the empty airspace, each durable entity has
-/// the OVN of its own serial. If no reply was `Stopped`, the last put of the later of two meeting
-/// entities knew the other, and each index is the number of calls that notified the subscription.
+/// those of the policy without purges. After events from the empty airspace, each durable entity
+/// has the OVN of its own serial. If no reply was `Stopped`, the last put of the later of two
+/// meeting entities knew the other, and each index is the number of calls that notified the
+/// subscription.
 pub fn events_are_the_policy<S: GroupCommit, M: Moments, T: TokenSource>()
     ensures replies { EventsAreThePolicy S.Space S.GroupCommit.own M.Moments T.TokenSource }
     ensures known { EventsAreKnown S.Space S.GroupCommit.own M.Moments T.TokenSource }
