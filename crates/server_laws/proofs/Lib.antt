@@ -1,3 +1,4 @@
+pub mod Blinds
 pub mod Cuts
 pub mod Policies
 pub mod Logs

@@ -1,4 +1,5 @@
 //! Laws of the events of `serve`. Each is the contract of a function that does nothing.
+ghost use Rattle.server_laws.specs.Blind.{PurgeIsBlind, PurgedRunIsBlind};
 ghost use Rattle.server_laws.specs.Clients.{EachClientIsServed};
 ghost use Rattle.server_laws.specs.Cut.{EventsFormSegments};
 ghost use Rattle.server_laws.specs.Policy.{EventsAreKnown, EventsAreThePolicy};
@@ -36,4 +37,13 @@ pub fn events_are_the_policy<S: GroupCommit, M: Moments, T: TokenSource>()
 /// and with the outcome of that commit. The calls are those of the first requests in its bytes.
 pub fn each_client_is_served<S: GroupCommit, M: Moments, T: TokenSource>()
     ensures { EachClientIsServed S.Space S.GroupCommit.own M.Moments T.TokenSource }
+{}
+
+/// States that over any calls and purges, by any callers, a USS gets the same replies from two
+/// airspaces that differ only in OVNs and versions that it does not know.
+///
+/// The same items are purged in both: what has ended does not depend on an OVN.
+pub fn purges_are_blind()
+    ensures purge { PurgeIsBlind }
+    ensures run { PurgedRunIsBlind }
 {}
