@@ -10,10 +10,8 @@ use Rattle.entity_core.specs.declared.entity.Entity.{Entity}
 use Rattle.entity_core.specs.declared.subscription.Sub.{Sub}
 use Rattle.entity_core.proofs.Entries.{entries-remove}
 use Rattle.entity_core.proofs.Keys.{key_exact, key_total}
-use Rattle.entity_purge.specs.declared.purge_item.PurgeItem.{PurgeItem}
 use Rattle.entity_purge.specs.declared.purge_item.PurgeItem.TheVariants as items
 use Rattle.entity_purge.specs.Purge.{less_entity, less_subscription}
-use Rattle.entity_purge.specs.PurgeItem.{without_items}
 use Rattle.policy_core.specs.Blind.{IsLike, redacted_entry, redacted_sub_entry}
 use Rattle.service_calls.specs.Blind.{replies_to}
 use Rattle.service_calls.specs.Run.{replies_of}

@@ -1,5 +1,5 @@
 -- The events form segments of batches.
-use Rattle.std.proofs.Common.{◌≡◌, ◌||◌, ℕ, Bool, true, false, List, [], ◌∷◌, ◌++◌, ◌-◌, Option, Some, None, refl, sym, ap, subst, ◌∙◌, append_assoc, ◌⊎◌, inl, inr, map, Result}
+use Rattle.std.proofs.Common.{◌≡◌, ◌||◌, ℕ, Bool, true, false, List, [], ◌∷◌, ◌++◌, ◌-◌, Option, Some, None, refl, sym, ap, subst, ◌∙◌, append_assoc, inl, inr, map, Result}
 use Rattle.std.specs.List.{flat_map}
 use Rattle.std.proofs.lemmas.List.{append-nil, map-append}
 use Rattle.std.proofs.lemmas.List.Concat.{flat_map-append}
@@ -20,7 +20,7 @@ use Rattle.server_watch.specs.Purger.{MayPurge}
 use Rattle.server_watch.specs.declared.token_watch.TokenSource as sources
 use Rattle.dss_server.specs.ServeEvents.{FollowAll, Follows, Looks, Purges, PurgesBetween, Runs, ServeEvent, ServeState, is_called_since}
 use Rattle.dss_server.specs.ServiceEvents.{Changes, Commits, Serves, has_call, is_called_after}
-use Rattle.server_laws.specs.Acts.{Act, Answers, EndsBatch, LoggedCall, PurgesUpTo, acts_of, acts_of_client, acts_of_clients, acts_of_event, acts_of_purge}
+use Rattle.server_laws.specs.Acts.{Act, EndsBatch, PurgesUpTo, acts_of, acts_of_client, acts_of_clients, acts_of_event, acts_of_purge}
 use Rattle.server_laws.specs.Cut.{Cut, EventsFormSegments, Makes, Settles, Sweeps, acts_of_batch, acts_of_calls, acts_of_segment, batch_act}
 
 -- ---- calls, batches and segments one after the other

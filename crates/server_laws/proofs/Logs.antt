@@ -1,5 +1,5 @@
 -- What one client sent and was sent, event by event.
-use Rattle.std.proofs.Common.{◌≡◌, ◌<◌, ◌≤◌, ◌+◌, ◌-◌, ◌==◌, ℕ, zero, suc, Bool, true, false, List, [], ◌∷◌, ◌++◌, Option, Some, None, Result, Ok, Err, refl, sym, ap, subst, ◌∙◌, append_assoc, ◌⊎◌, inl, inr, map, cond, if◌then◌else◌, length, length-append, arith}
+use Rattle.std.proofs.Common.{◌≡◌, ◌<◌, ◌≤◌, ◌+◌, ◌-◌, ◌==◌, ℕ, Bool, true, false, List, [], ◌∷◌, ◌++◌, Option, Some, None, Result, Ok, Err, refl, sym, ap, subst, ◌∙◌, append_assoc, ◌⊎◌, inl, inr, map, cond, if◌then◌else◌, length, length-append, arith}
 use Rattle.std.proofs.lemmas.Bool.{eq-eqb}
 use Rattle.std.specs.List.{AllByRecursion, concat, flat_map}
 use Rattle.std.proofs.lemmas.List.{append-nil, map-append}
@@ -16,7 +16,7 @@ use Rattle.wire_http.specs.declared.end.End.{End}
 use Rattle.wire_http.specs.declared.explaining.Explaining.{Explaining}
 use Rattle.wire_http.specs.declared.moments.Moments as moments
 use Rattle.wire_http.specs.Connection.{slot_for}
-use Rattle.wire_http.specs.Count.{max_count, one_more}
+use Rattle.wire_http.specs.Count.{max_count}
 use Rattle.wire_http.specs.DeferredResponse.{text_at}
 use Rattle.wire_http.specs.Many.{AnyMoment}
 use Rattle.wire_http.specs.Text.{end_texts}
@@ -24,7 +24,7 @@ use Rattle.wire_http.specs.Wire.{AsksCall, RequestCall, left_after}
 use Rattle.server_client.specs.declared.commit_record.CommitRecord.{CommitRecord}
 use Rattle.server_client.specs.Account.{Account, IsAccountOf, after_outcome}
 use Rattle.server_client.specs.CallOrder.{Asks, IsInOrder, LetsOneCome, OrderedEvent}
-use Rattle.server_client.specs.ClientEvents.{Calls, ClientEvent, EndsStream, IsCallFor, LosesReply, OccurAll, Occurs, ReadsClock, ServedClient, Steps, is_deferred, served_client}
+use Rattle.server_client.specs.ClientEvents.{Calls, ClientEvent, EndsStream, LosesReply, OccurAll, Occurs, ReadsClock, ServedClient, Steps, is_deferred, served_client}
 use Rattle.server_client.specs.ClientState.{Aborts, ClientState, ClientStep, Discards, Drops, Limits, Receives, ReceivesEnd, Releases, Sends, StepsBy, StepsTo, after_commit, finished, new_client, with_response}
 use Rattle.server_client.specs.CommitRecord.{number_of, outcome_of}
 use Rattle.server_client.proofs.Accounts as accounts
@@ -268,7 +268,7 @@ module _ (name base : ℕ) (outcomes : List Outcome) (commit : CommitRecord) (is
     };
     sent_is = sym (append-nil sent);
     received_is = sym (append-nil received);
-        ordered_is = sym (append-nil ordered);
+    ordered_is = sym (append-nil ordered);
     responses_is = sym (append-nil responses);
   }
   drops (HasEnded end) sent received ordered responses released l l' p h = grows_still (record { sent = sent; received = received; ordered = ordered; responses = responses; released = released; last = HasEnded end }) l' (record {
@@ -325,7 +325,8 @@ module _ (name base : ℕ) (outcomes : List Outcome) (commit : CommitRecord) (is
       told = p.told;
     };
     sent_is = refl;
-    received_is = sym (append-nil log.received); ordered_is = sym (append-nil log.ordered);
+    received_is = sym (append-nil log.received);
+    ordered_is = sym (append-nil log.ordered);
     responses_is = sym (append-nil log.responses);
   }
   step_grows Releases log l l' p h = releases log.last log.sent log.received log.ordered log.responses log.released l l' p h
@@ -488,7 +489,7 @@ module _ (name base : ℕ) (outcomes : List Outcome) (commit : CommitRecord) (is
     };
     sent_is = sym (append-nil sent);
     received_is = sym (append-nil received);
-        ordered_is = sym (append-nil ordered);
+    ordered_is = sym (append-nil ordered);
     responses_is = sym (append-nil responses);
   }
   end_grows (IsDeferred r) sent received ordered responses released l end p running none = no_slot l.slot (slot_for r.call.asked) p.last_is.0 none

@@ -1,6 +1,6 @@
 -- Each client over a sequence of events.
 use Rattle.std.proofs.Common.{◌≡◌, ◌≤◌, ◌+◌, ◌==◌, ℕ, Bool, true, false, List, [], ◌∷◌, ◌++◌, Option, Some, None, cond, refl, sym, ap, subst, ◌∙◌, append_assoc, ◌⊎◌, inl, inr, map, length, length-append, arith}
-use Rattle.std.specs.Prelude.{min, nat_eq}
+use Rattle.std.specs.Prelude.{min}
 use Rattle.std.specs.List.{AllByRecursion, flat_map}
 use Rattle.std.proofs.lemmas.Bool.{eqb-true}
 use Rattle.std.proofs.lemmas.List.{append-nil}
@@ -19,12 +19,12 @@ use Rattle.server_client.specs.ClientState.{ClientState, new_client}
 use Rattle.server_client.specs.CommitRecord.{number_of, outcome_of}
 use Rattle.server_watch.specs.Purger.{MayPurge}
 use Rattle.server_watch.specs.declared.token_watch.TokenSource as sources
-use Rattle.dss_server.specs.ClientSet.{Accepts, Clients, Closes, Refuses, TakesSteps, with_state}
+use Rattle.dss_server.specs.ClientSet.{Accepts, Closes, Refuses, TakesSteps, with_state}
 use Rattle.dss_server.specs.ServeEvents.{FollowAll, Follows, Looks, Purges, Runs, ServeEvent, ServeState}
 use Rattle.dss_server.specs.ServiceEvents.{Changes, Commits, Serves}
 use Rattle.server_laws.specs.Acts.{Act, acts_of, acts_of_clients, acts_of_event, acts_of_purge}
-use Rattle.server_laws.specs.Clients.{ClientResponse, EachClientIsServed, HasEnded, IsDeferred, IsDropped, IsReleased, IsTold, IsToldBy, LastResponse, ReleasedResponse, ServedFor, closes, events_for, ordered_by, ordered_of, outcome_by, outcomes_in, received_by, received_from, responses_to, sent_by, sent_to, table_after}
-use Rattle.server_laws.proofs.Logs.{Grows, HasLog, IsLastOf, IsRecordOf, Log, Outcome, clients_settle_none, events_grow, grows_still, grows_then, new_log, no_log, others_get_none, response_of, responses_then_acts, steps_call_none, steps_occur}
+use Rattle.server_laws.specs.Clients.{ClientResponse, EachClientIsServed, HasEnded, IsDeferred, IsDropped, IsReleased, IsTold, IsToldBy, LastResponse, ReleasedResponse, closes, events_for, ordered_by, ordered_of, outcome_by, outcomes_in, received_by, received_from, responses_to, sent_by, sent_to, table_after}
+use Rattle.server_laws.proofs.Logs.{Grows, HasLog, IsLastOf, IsRecordOf, Log, Outcome, clients_settle_none, events_grow, grows_still, grows_then, new_log, no_log, others_get_none, responses_then_acts, steps_call_none, steps_occur}
 
 -- ---- more commits
 

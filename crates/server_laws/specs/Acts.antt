@@ -1,7 +1,6 @@
 -- What the service does over a sequence of events, act by act.
-use Rattle.std.specs.Prelude.{◌≡◌, ◌-◌, ℕ, Bool, true, false, List, [], ◌∷◌, ◌++◌, map, Option, Some, None, Result}
+use Rattle.std.specs.Prelude.{◌-◌, ℕ, Bool, true, false, List, [], ◌∷◌, ◌++◌, Option, Some, None, Result}
 use Rattle.std.proofs.Common.{inl, inr}
-use Rattle.std.specs.List.{flat_map}
 use Rattle.space_core.specs.declared.group_commit.GroupCommit as commits
 use Rattle.space_core.specs.declared.space.Space as spaces
 use Rattle.space_core.specs.declared.space.SpaceFault.{SpaceFault}

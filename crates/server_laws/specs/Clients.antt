@@ -1,18 +1,16 @@
 -- What one client sent and was sent over a sequence of events.
-use Rattle.std.specs.Prelude.{◌≡◌, ◌==◌, ◌+◌, ℕ, Bool, true, false, List, [], ◌∷◌, ◌++◌, length, map, Option, Some, None, Result, Ok, Err, if◌then◌else◌, unwrap_or}
+use Rattle.std.specs.Prelude.{◌≡◌, ◌==◌, ◌+◌, ℕ, Bool, true, false, List, [], ◌∷◌, ◌++◌, length, map, Option, Some, Result, Ok, Err, if◌then◌else◌, unwrap_or}
 use Rattle.std.specs.List.{AllByRecursion, concat, flat_map}
 use Rattle.space_core.specs.declared.group_commit.GroupCommit as commits
 use Rattle.space_core.specs.declared.space.Space as spaces
 use Rattle.space_core.specs.declared.space.SpaceFault.{SpaceFault}
 use Rattle.service_calls.specs.Service.{reply_of}
 use Rattle.service_step.specs.declared.call_fault.CallFault.TheVariants as halts
-use Rattle.service_step.specs.declared.reply.Reply.{Reply}
 use Rattle.token_conf.specs.TokenFile.{Callers, TokenFile, callers_of}
 use Rattle.wire_http.specs.declared.end.End.{End}
 use Rattle.wire_http.specs.declared.explaining.Explaining.{Explaining}
 use Rattle.wire_http.specs.declared.moments.Moments as moments
 use Rattle.wire_http.specs.Text.{noted_text, end_texts, response_text}
-use Rattle.wire_http.specs.Wire.{RequestCall}
 use Rattle.server_client.specs.CallOrder.{Asks, IsInOrder, LetsOneCome, OrderedEvent}
 use Rattle.server_client.specs.ClientEvents.{Calls, ClientEvent, EndsStream, LosesReply, ReadsClock, Steps}
 use Rattle.server_client.specs.ClientState.{Aborts, ClientState, ClientStep, Discards, Drops, Limits, Receives, ReceivesEnd, Releases, Sends, new_client}
