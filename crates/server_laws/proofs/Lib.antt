@@ -1,0 +1,5 @@
+pub mod Blinds
+pub mod Cuts
+pub mod Policies
+pub mod Logs
+pub mod Served
