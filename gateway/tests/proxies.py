@@ -152,6 +152,9 @@ def the_documented_nginx(files, built):
             service.drops, before = 1, len(service.asked)
             assert ask(port, token, method, f"{INTENTS}/{name}/{OVN}", "{}") == status, method
             assert len(service.asked) - before == times, method
+        service.drops, before = 2, len(service.asked)
+        assert ask(port, token, "GET", PATH) == 503
+        assert len(service.asked) - before == 2
         assert ask(port, token, "GET", "/health") == 404
         assert ask(port, token, "PUT", PATH, b" " * ((1 << 20) + 1)) == 413
         with connected(port) as it:

@@ -179,6 +179,12 @@ class Verbose(Service):
     preface = f"line 1: {IS_EXAMPLE}\nline 1: {is_short(len(wire.SALT))}\n{limits('1 connections')}".encode()
 
 
+class VerboseForThree(Verbose):
+    """The same for three connections."""
+
+    preface = Verbose.preface.replace(b"1 connections", b"3 connections")
+
+
 class VerboseIpv6(Verbose):
     """The same on ::1."""
 
@@ -218,7 +224,7 @@ def given_up(kind, host):
 def resets():
     """Of connections that clients reset within a minute, only the first has lines. Without the option each has its line."""
     found = []
-    for kind, lines in (Verbose, 2), (Service, 3):
+    for kind, lines, wanted in (VerboseForThree, 2, 1), (Service, 3, 3):
         with kind(count=3) as service:
             for _ in range(3):
                 with socket.create_connection(("127.0.0.1", service.port)) as client:
@@ -228,7 +234,7 @@ def resets():
             status, output, error = service.ended()
         more = error.removeprefix(service.listening).splitlines()
         reset = more.count(b"dss: stream: fault 1 Read")
-        found += difference(f"{kind.__name__}: the service", (status, output, len(more), reset), (0, b"", lines, 1 if kind is Verbose else 3))
+        found += difference(f"{kind.__name__}: the service", (status, output, len(more), reset), (0, b"", lines, wanted))
     return found
 
 

@@ -1,8 +1,8 @@
-//! A law of the commands over a database. No program calls it: its contract is the statement.
-ghost use Rattle.dss_database.specs.Served.{NextStartFinds};
+//! Laws of the commands over a database. No program calls them: their contracts are the statements.
+ghost use Rattle.dss_database.specs.Served.{NextStartFinds, NextStartFindsLeft};
 
 use server_watch::token_watch::TokenSource;
-use service_recovery::laws::closed_run_in_batches_continues;
+use service_recovery::laws::{closed_run_in_batches_continues, run_in_batches_continues};
 use space_core::space::Space;
 use space_mirror::mirrored::Mirrored;
 use space_quota::quota_space::QuotaSpace;
@@ -21,4 +21,19 @@ pub fn next_start_finds<F: Start, M: Moments, T: Alter, W: TokenSource>()
         ⟦<SqlSpace<T> as Space>⟧ W.gives }
 {
     closed_run_in_batches_continues::<F>();
+}
+
+/// States the same if `serve` fails, also if its close fails, or if the machine stops.
+///
+/// The next start finds what this one has reported to its clients as done. It relates what `opened`
+/// opens, what `serve` then leaves (clause `served`), and what `SqlSpace::open` opens next. A
+/// machine that stops is a disk on which every later call fails. Then `serve` fails, and its close
+/// too, and a crash leaves what `AreLeft` says.
+pub fn next_start_finds_after_a_failure<F: Start, M: Moments, T: Alter, W: TokenSource>()
+    ensures { NextStartFindsLeft ⟦<SqlSpace<FileStore<FileFrom<F>>> as Space>⟧
+        ⟦<QuotaSpace<Mirrored<SqlSpace<FileStore<FileFrom<F>>>>> as Space>⟧ M.Moments
+        ⟦<SqlSpace<T> as Space>⟧ W.gives }
+{
+    closed_run_in_batches_continues::<F>();
+    run_in_batches_continues::<F>();
 }
