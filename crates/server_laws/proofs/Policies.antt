@@ -14,9 +14,12 @@ use Rattle.service_purge.proofs.Known.{segments_aware}
 use Rattle.service_purge.proofs.Unseen.{segments_unseen}
 use Rattle.wire_http.specs.declared.moments.Moments as moments
 use Rattle.server_watch.specs.declared.token_watch.TokenSource as sources
+use Rattle.dss_server.specs.ClientSet.{no_clients}
+use Rattle.dss_server.specs.ServeEvents.{serve_state, watched}
+use Rattle.dss_server.specs.ServiceEvents.{served_clients}
 use Rattle.server_laws.specs.Acts.{Act}
 use Rattle.server_laws.specs.Cut.{Cut}
-use Rattle.server_laws.specs.Policy.{EventsAreKnown, EventsAreThePolicy, RunsFrom, batches_of}
+use Rattle.server_laws.specs.Policy.{EventsAreKnown, EventsAreThePolicy, RunsFrom, ServedIsThePolicy, batches_of}
 use Rattle.server_laws.proofs.Cuts.{form_segments}
 
 module _ {S : Type 0} (g : spaces.Ghosts S) (k : commits.Ghosts S) (laws : Lawful g k) where
@@ -54,3 +57,10 @@ module _ {S : Type 0} (g : spaces.Ghosts S) (k : commits.Ghosts S) (laws : Lawfu
             known = λ goes b held. segments_aware k _ n _ _ _ b runs goes held;
           },
         )
+
+    pub served_is_the_policy : ServedIsThePolicy g k m t
+    served_is_the_policy explaining keep first watch old new clock clock' past now p a from =
+        let start = serve_state (served_clients old clock no_clients) (watched first watch) in
+        let q = form_segments g k m t explaining keep first p.runs.events start p.end p.runs.follow p.purges in
+        let runs = cut_runs _ old p.end.served.service a q.0 from in
+        (q.0, q.1 p.committed, record { runs = runs; unseen = λ proper goes look. segments_unseen k _ a _ _ _ proper runs goes look })

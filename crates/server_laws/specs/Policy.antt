@@ -14,8 +14,12 @@ use Rattle.service_purge.specs.Segments.{AreUnseen, KnownOver, LookAheadOncePurg
 use Rattle.token_conf.specs.TokenFile.{TokenFile}
 use Rattle.wire_http.specs.declared.explaining.Explaining.{Explaining}
 use Rattle.wire_http.specs.declared.moments.Moments as moments
+use Rattle.server_base.specs.History.{HistoryEvent}
 use Rattle.server_watch.specs.declared.token_watch.TokenSource as sources
-use Rattle.dss_server.specs.ServeEvents.{FollowAll, PurgesBetween, ServeEvent, ServeState}
+use Rattle.server_watch.specs.declared.token_watch.TokenWatch.{TokenWatch}
+use Rattle.dss_server.specs.ClientSet.{no_clients}
+use Rattle.dss_server.specs.ServeEvents.{FollowAll, PurgesBetween, ServeEvent, ServeState, ServesEachClient, serve_state, watched}
+use Rattle.dss_server.specs.ServiceEvents.{served_clients}
 use Rattle.server_laws.specs.Acts.{Act, acts_of}
 use Rattle.server_laws.specs.Cut.{Cut}
 
@@ -79,3 +83,15 @@ module _ {S M T : Type 0} (g : spaces.Ghosts S) (k : commits.Ghosts S) (m : mome
       → RunsFrom g k (empty_at n) old.served.service new.served.service
       → (cut : Cut g k (acts_of g k m explaining t keep first events old new h)
       old.served.service new.served.service) × IsKnownFrom g k n cut
+
+  -- States that the replies to the calls of `serve_clients`, and the durable airspace, are those of
+  -- the policy. A commit came after each call, so all are in batches.
+  abbrev pub ServedIsThePolicy : Type 0
+  ServedIsThePolicy = (explaining : Explaining) (keep : Option ℕ) (first : TokenFile)
+      (watch : TokenWatch T) (old new : Service S) (clock clock' : M)
+      (past now : Option (List HistoryEvent))
+      (p : ServesEachClient g k m explaining t keep first watch old new clock clock' past now)
+      (a : Airspace) → RunsFrom g k a old p.end.served.service
+      → (cut : Cut g k (acts_of g k m explaining t keep first p.runs.events
+      (serve_state (served_clients old clock no_clients) (watched first watch)) p.end p.runs.follow)
+      old p.end.served.service) × (cut.calls ≡ []) × RunsAsPolicy g k a cut

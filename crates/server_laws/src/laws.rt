@@ -2,7 +2,7 @@
 ghost use Rattle.server_laws.specs.Blind.{PurgeIsBlind, PurgedRunIsBlind};
 ghost use Rattle.server_laws.specs.Clients.{EachClientIsServed};
 ghost use Rattle.server_laws.specs.Cut.{EventsFormSegments};
-ghost use Rattle.server_laws.specs.Policy.{EventsAreKnown, EventsAreThePolicy};
+ghost use Rattle.server_laws.specs.Policy.{EventsAreKnown, EventsAreThePolicy, ServedIsThePolicy};
 
 use server_watch::token_watch::TokenSource;
 use space_core::group_commit::GroupCommit;
@@ -24,10 +24,11 @@ pub fn events_form_segments<S: GroupCommit, M: Moments, T: TokenSource>()
 /// those of the policy without purges. After events from the empty airspace, each durable entity
 /// has the OVN of its own serial. If no reply was `Stopped`, the last put of the later of two
 /// meeting entities knew the other, and each index is the number of calls that notified the
-/// subscription.
+/// subscription. The contract of `serve_clients` meets the premise that purges come between batches.
 pub fn events_are_the_policy<S: GroupCommit, M: Moments, T: TokenSource>()
     ensures replies { EventsAreThePolicy S.Space S.GroupCommit.own M.Moments T.TokenSource }
     ensures known { EventsAreKnown S.Space S.GroupCommit.own M.Moments T.TokenSource }
+    ensures served { ServedIsThePolicy S.Space S.GroupCommit.own M.Moments T.TokenSource }
 {}
 
 /// States what each client was sent from its acceptance on, after any events that do not close it.

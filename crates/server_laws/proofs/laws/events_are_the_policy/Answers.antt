@@ -1,4 +1,4 @@
-use Rattle.server_laws.proofs.Policies.{are_known, are_the_policy}
+use Rattle.server_laws.proofs.Policies.{are_known, are_the_policy, served_is_the_policy}
 use Rattle.server_laws.proofs.laws.events_are_the_policy.Goals as goal
 
 pub returns-clause-replies : goal.returns-clause-replies
@@ -10,5 +10,11 @@ returns-clause-replies g c =
 pub returns-clause-known : goal.returns-clause-known
 returns-clause-known g c =
     are_known g.S.Space g.S.GroupCommit
+    (record { quiet = g.met.S.GroupCommit.persists_held; rests = g.met.S.GroupCommit.persists_while_pending; works = g.met.S.GroupCommit.unbroken_while_pending; live = g.met.S.GroupCommit.pending_is_unbroken })
+    g.M.Moments g.T.TokenSource
+
+pub returns-clause-served : goal.returns-clause-served
+returns-clause-served g c =
+    served_is_the_policy g.S.Space g.S.GroupCommit
     (record { quiet = g.met.S.GroupCommit.persists_held; rests = g.met.S.GroupCommit.persists_while_pending; works = g.met.S.GroupCommit.unbroken_while_pending; live = g.met.S.GroupCommit.pending_is_unbroken })
     g.M.Moments g.T.TokenSource
