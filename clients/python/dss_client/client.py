@@ -218,8 +218,8 @@ class Client:
     def request(self, method: str, path: str, body: Any = None) -> Any:
         """Sends a JSON value with the same retries, such as a body of the standard to the gateway.
 
-        Warns of members that the service ignored, if it was started with `--explain`. Returns the value of the response. The `value` of a `Denial` has what is missing. The caller decides what a lost
-        response means."""
+        Warns of members that the service ignored, if it was started with `--explain`. Returns the value of the
+        response. The `value` of a `Denial` has what is missing. The caller decides what a lost response means."""
         return self._call(method, path, body, object)
 
     def _query(self, kind: str, area: Union[Area, Volume], form: Type[Model]) -> Model:
