@@ -28,7 +28,7 @@ use std::process::ExitCode;
 // The seed and the number of simulations if none are given.
 const SEED: u64 = 1;
 
-const COUNT: u64 = 300;
+const COUNT: u64 = 30;
 
 // Returns the number of an argument, or another number without one.
 fn number(word: Option<String>, other: u64) -> Option<u64> {

@@ -11,7 +11,7 @@ use wire_http::Explaining;
 // How many clients send many requests at once in some schedules, and how many each of them sends.
 const FLOODS: usize = 4;
 
-const FLOOD: usize = 60;
+const FLOOD: usize = 40;
 
 /// A drawn schedule.
 #[derive(Drop)]

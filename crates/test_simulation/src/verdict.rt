@@ -19,7 +19,7 @@ const CLOSING: u64 = 15 * SECOND;
 
 // For how many requests of others one may wait: about those that are answered while its class is
 // charged for moving the bytes of a request, for the call and for the commit.
-const MOST_OTHERS: u64 = 60;
+const MOST_OTHERS: u64 = 30;
 
 /// What went wrong.
 #[derive(Clone, Copy, Debug, PartialEq, Eq)]
@@ -260,7 +260,7 @@ struct Span {
 }
 
 // Returns the time limit after which the service ends its side of a client that does no more.
-fn span_of(peer: &Peer, expected: usize) -> Span {
+fn span_of(peer: &Peer, expected: usize, answers: u64) -> Span {
     let last = peer.accepted_at.max(peer.sent_at);
     if peer.taken.len() < expected {
         return Span {
@@ -269,9 +269,16 @@ fn span_of(peer: &Peer, expected: usize) -> Span {
             most: 33,
         };
     }
-    if peer.has_ended_first() || (peer.is_last && peer.ready.len() == peer.ends.len()) {
+    if peer.has_ended_first() {
         return Span {
             since: last.max(peer.ended_at).max(peer.begun_at),
+            least: 0,
+            most: 3,
+        };
+    }
+    if peer.is_last && answers >= peer.ends.len() as u64 {
+        return Span {
+            since: last,
             least: 0,
             most: 3,
         };
@@ -303,6 +310,7 @@ fn check_times(
     peer: &Peer,
     closed: u64,
     expected: usize,
+    answers: u64,
     has_clock_fault: bool,
 ) -> Result<(), Flaw> {
     check(closed != 0, Flaw::Open)?;
@@ -318,7 +326,7 @@ fn check_times(
     if has_clock_fault {
         return Ok(());
     }
-    let Span { since, least, most } = span_of(peer, expected);
+    let Span { since, least, most } = span_of(peer, expected, answers);
     check(
         over >= since.saturating_add(least.saturating_mul(SECOND)),
         Flaw::Early,
@@ -403,13 +411,8 @@ fn check_peer(
     };
     let faulty = has_clock_fault(journal, connection);
     let expected = made.output();
-    check_bytes(
-        peer,
-        expected,
-        shared.answers_of(connection),
-        is_stopped,
-        faulty,
-    )?;
+    let answers = shared.answers_of(connection);
+    check_bytes(peer, expected, answers, is_stopped, faulty)?;
     let closed = shared.closed_at(name);
     if is_stopped {
         return check(
@@ -417,7 +420,7 @@ fn check_peer(
             Flaw::Late,
         );
     }
-    check_times(peer, closed, expected.len(), faulty)
+    check_times(peer, closed, expected.len(), answers, faulty)
 }
 
 // Checks all clients.
