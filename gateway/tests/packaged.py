@@ -117,6 +117,31 @@ def a_start_from_the_release(files, built):
         assert "the release is damaged: building the gateway" in said and "make ran" in said, said
 
 
+def only_its_own_gateway_counts(files, built):
+    """If another program takes the port after it was checked, gateway/run does not take its answers for those of the gateway."""
+    port, folder = free_port(), files.folder / "taken"
+    folder.mkdir()
+    # gateway/run runs openssl after it has checked the ports.
+    (folder / "openssl").write_text(f"""#!/bin/sh
+[ -e "{folder}/said" ] || {{
+    cd "{folder}" && : >said && echo fine >health
+    python3 -m http.server --bind 127.0.0.1 {port} >/dev/null 2>&1 </dev/null &
+    echo $! >"{folder}/process"
+    until curl -sf http://127.0.0.1:{port}/health; do sleep 0.05; done >/dev/null
+}}
+exec /usr/bin/openssl "$@"
+""")
+    (folder / "openssl").chmod(0o755)
+    words = [TOP / "gateway" / "run", "--port", str(port), "--service", str(free_port()), "--folder", folder / "made"]
+    try:
+        done = subprocess.run(words, capture_output=True, text=True, timeout=300,
+                              env={**os.environ, "PATH": f"{folder}:{os.environ['PATH']}"})
+    finally:
+        with contextlib.suppress(OSError):
+            os.kill(int((folder / "process").read_text()), signal.SIGTERM)
+    assert done.returncode == 1 and "Both listen" not in done.stdout and "did not start" in done.stderr, done
+
+
 def a_taken_port_is_named(files, built):
     """gateway/run names the option of a port that is taken, before it installs or builds anything."""
     with socket.create_server(("127.0.0.1", 0)) as taken:
@@ -137,4 +162,4 @@ def readers_under_fuzzing(files, built):
 
 
 # They take the directory with the programs.
-ALL = [the_release, a_start_from_the_release, the_package, a_taken_port_is_named, readers_under_fuzzing]
+ALL = [the_release, a_start_from_the_release, the_package, a_taken_port_is_named, only_its_own_gateway_counts, readers_under_fuzzing]

@@ -152,6 +152,9 @@ def the_documented_nginx(files, built):
             service.drops, before = 1, len(service.asked)
             assert ask(port, token, method, f"{INTENTS}/{name}/{OVN}", "{}") == status, method
             assert len(service.asked) - before == times, method
+        service.drops, before = 2, len(service.asked)
+        assert ask(port, token, "GET", PATH) == 503
+        assert len(service.asked) - before == 2
         assert ask(port, token, "GET", "/health") == 404
         assert ask(port, token, "PUT", PATH, b" " * ((1 << 20) + 1)) == 413
         with connected(port) as it:
@@ -220,7 +223,7 @@ class Log:
 
 
 def the_documented_haproxy(files, built):
-    """Its connections to the service stay open, its log has no OVN, it sends nothing twice, it limits requests, and its
+    """Its connections to the service stay open, its log has no OVN, it repeats only reads, it limits requests, and its
     errors are JSON. A check of health may take three seconds."""
     token, name = files.token("uss-a", STRATEGIC), new_id()
     service, admin = Counted(), healthy(3)
@@ -233,13 +236,16 @@ def the_documented_haproxy(files, built):
             service.drops, before = 1, len(service.asked)
             assert ask(port, token, method, f"{INTENTS}/{name}/{OVN}", "{}") == 502
             assert len(service.asked) - before == 1
+        service.drops, before = 1, len(service.asked)
+        assert ask(port, token, "GET", PATH) == 200
+        assert len(service.asked) - before == 2
         assert ask(port, token, "GET", "/health") == 404
         with connected(port) as it:
             assert answer(it, token, "PUT", PATH, fields={"Content-Length": f"{(1 << 20) + 1}"}) == 413
         with connected(port) as it:
             assert answer(it, token, "PUT", PATH, iter([b"{}"])) == 411
         many = limits(port, name)
-        lines = log.has(30 + 6 + many)
+        lines = log.has(30 + 7 + many)
     service.end()
     admin.end()
     assert " PUT 200 " in lines and OVN not in lines and token not in lines, lines[-2000:]

@@ -26,6 +26,7 @@ STOPPING = b"stopping: a stop was requested\n"
 BOTH_VERSIONS = pathlib.Path("/proc/sys/net/ipv6/bindv6only")
 DEAD = b"stopped: the database failed; restart the service\n"
 
+QUERY = wire.request("POST", f"{wire.INTENTS}/query", "Bearer tok-a", b'{"area_of_interest":{"cells":["89c2591"]}}')
 PUT = wire.request("PUT", f"{wire.AVAILABILITY}/uss-b", "Bearer tok-v", b'{"old_version":"","availability":"Down"}')
 # The most seconds that a stopping service takes, and those within which an operator gets a response.
 END, AT_ONCE = 5, 2
@@ -294,8 +295,8 @@ def counts():
 
 
 def ends():
-    """A service that is told to stop answers complete requests, closes its connections and exits. It accepts no new
-    client."""
+    """A service that is told to stop answers a complete request of each client, closes its connections and exits. It
+    accepts no new client."""
     found = []
     with AdminService() as started, contextlib.ExitStack() as stack:
         silent, half, kept = (stack.enter_context(started.connect()) for _ in range(3))
@@ -305,12 +306,12 @@ def ends():
         until_counted(started, "dss_connections_open", "3")
         began = time.monotonic()
         # These bytes are in the socket when it is told to stop.
-        kept.sendall(PUT + ASKED)
+        kept.sendall(PUT)
         found += difference("told to end", started.asked(STOP), said(200, b"stopping\n"))
         found += difference("a silent client", until_closed(silent), b"")
         found += difference("half a request", until_closed(half), b"")
         statuses = [it[9:12] for it in wire.answers_of(until_closed(kept))]
-        found += difference("whole requests", statuses, [b"200", b"200"])
+        found += difference("a whole request", statuses, [b"200"])
         found += difference("the service", started.ended(), (0, b"", started.listening))
         found += exceeded(time.monotonic() - began, END, "its end")
         with contextlib.suppress(ConnectionRefusedError), started.connect() as late:
@@ -320,24 +321,46 @@ def ends():
     return found
 
 
+def filled(started, held, sent):
+    """Stores intents, and sends requests of a client that reads no response until no more of them are answered."""
+    puts = list(stored_intents())
+    for at in range(0, len(puts), wire.MAX_REQUESTS):
+        started.ask(puts[at : at + wire.MAX_REQUESTS])
+    held.setsockopt(socket.SOL_SOCKET, socket.SO_RCVBUF, 4096)
+    held.connect(("127.0.0.1", started.port))
+    held.sendall(sent)
+    # Once the buffers are full, no request is answered.
+    made = []
+    while len(made) < 3 or len(set(made[-3:])) > 1:
+        made.append(started.counted()["dss_response_bytes_total"])
+        time.sleep(1)
+
+
+def closes_after_its_stop():
+    """Once a service is told to stop, the response to the next request of a client has `Connection: close`, and is its
+    last. An idle connection is closed."""
+    found = []
+    with AdminService() as started, socket.socket() as held, started.connect() as idle:
+        idle.sendall(ASKED)
+        found += difference("an answer", idle.recv(1 << 16), ANSWER)
+        # One request less than a connection may make, so that no response closes it for that reason.
+        filled(started, held, QUERY * (wire.MAX_REQUESTS - 1))
+        found += difference("told to end", started.asked(STOP), said(200, b"stopping\n"))
+        found += difference("an idle client", until_closed(idle), b"")
+        answers = wire.answers_of(until_closed(held))
+        closing = [b"\r\nConnection: close\r\n" in it.partition(b"\r\n\r\n")[0] + b"\r\n" for it in answers]
+        found += difference("the responses that close", closing, [False] * (len(closing) - 1) + [True])
+        found += difference("some requests are not answered", len(answers) < wire.MAX_REQUESTS - 1, True)
+        found += difference("the service", started.ended()[:2], (0, b""))
+    return found
+
+
 def ends_with_others():
     """It stops in time beside a client that reads none of its responses and operators that wait, and reports that it is
     stopping."""
     found = []
-    query = wire.request("POST", f"{wire.INTENTS}/query", "Bearer tok-a", b'{"area_of_interest":{"cells":["89c2591"]}}')
     with AdminService() as started, socket.socket() as held, contextlib.ExitStack() as stack:
-        puts = list(stored_intents())
-        for at in range(0, len(puts), wire.MAX_REQUESTS):
-            started.ask(puts[at : at + wire.MAX_REQUESTS])
-        held.setsockopt(socket.SOL_SOCKET, socket.SO_RCVBUF, 4096)
-        held.connect(("127.0.0.1", started.port))
-        held.sendall(query * wire.MAX_REQUESTS)
-        until_counted(started, "dss_connections_open", "1")
-        # Once the buffers are full, no request is answered.
-        made = []
-        while len(made) < 3 or len(set(made[-3:])) > 1:
-            made.append(started.counted()["dss_response_bytes_total"])
-            time.sleep(1)
+        filled(started, held, QUERY * wire.MAX_REQUESTS)
         waiting, asking = (stack.enter_context(started.operator()) for _ in range(2))
         asking.sendall(HEALTH[:20])
         started.until_read(asking)
@@ -554,6 +577,7 @@ CASES = {
     "admin-port-and-a-browser": of_a_browser,
     "admin-port-metrics": counts,
     "admin-port-ends-the-service": again(ends),
+    "admin-port-last-responses": again(closes_after_its_stop),
     "admin-port-ends-it-in-time": again(ends_with_others),
     "admin-port-of-a-broken-service": broken,
     "admin-port-with-many": many,

@@ -179,6 +179,12 @@ class Verbose(Service):
     preface = f"line 1: {IS_EXAMPLE}\nline 1: {is_short(len(wire.SALT))}\n{limits('1 connections')}".encode()
 
 
+class VerboseForThree(Verbose):
+    """The same for three connections."""
+
+    preface = Verbose.preface.replace(b"1 connections", b"3 connections")
+
+
 class VerboseIpv6(Verbose):
     """The same on ::1."""
 
@@ -215,6 +221,23 @@ def given_up(kind, host):
         return difference("the service", service.ended(), (0, b"", service.listening + wanted.encode()))
 
 
+def resets():
+    """Of connections that clients reset within a minute, only the first has lines. Without the option each has its line."""
+    found = []
+    for kind, lines, wanted in (VerboseForThree, 2, 1), (Service, 3, 3):
+        with kind(count=3) as service:
+            for _ in range(3):
+                with socket.create_connection(("127.0.0.1", service.port)) as client:
+                    client.sendall(b"GET /")
+                    service.until_read(client)
+                    client.setsockopt(socket.SOL_SOCKET, socket.SO_LINGER, struct.pack("ii", 1, 0))
+            status, output, error = service.ended()
+        more = error.removeprefix(service.listening).splitlines()
+        reset = more.count(b"dss: stream: fault 1 Read")
+        found += difference(f"{kind.__name__}: the service", (status, output, len(more), reset), (0, b"", lines, wanted))
+    return found
+
+
 CASES = {
     "verbose-token-files": token_files,
     "verbose-limits": limits_of_options,
@@ -222,5 +245,6 @@ CASES = {
     "verbose-causes": causes,
     "verbose-cause-of-ipv6": cause_of_ipv6_port,
     "verbose-connections": connection_given_up,
+    "verbose-reset-connections": resets,
     "verbose-start-without-memory": start_without_memory,
 }

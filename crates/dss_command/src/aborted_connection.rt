@@ -14,12 +14,22 @@ fn words(phase: Phase) -> &'static str {
     }
 }
 
+/// Prints one line that says how many connections were reset since the last one that was reported.
+pub(crate) fn print_more_resets<E: Write>(count: u64, error: &mut E) -> io::Result<()> {
+    writeln!(
+        error,
+        "dss: stream: {count} more connections were reset since the last such line"
+    )
+}
+
 /// Prints one line that says which connection was aborted, and in which phase.
 pub(crate) fn print_aborted<E: Write>(aborted: AbortedConnection, error: &mut E) -> io::Result<()> {
     let AbortedConnection {
         client,
         connection,
         phase,
+        is_reset: _,
+        at: _,
     } = aborted;
     let words = words(phase);
     match client {

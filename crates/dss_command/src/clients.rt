@@ -6,7 +6,7 @@ ghost use Rattle.token_conf.specs.TokenFile.{salt_of};
 ghost use Rattle.dss_command.specs.Fault.{EndsServing, TellsClient};
 ghost use Rattle.dss_command.specs.Service.{ServesClients};
 
-use crate::aborted_connection::print_aborted;
+use crate::aborted_connection::{print_aborted, print_more_resets};
 use crate::clock_lines::{print_clock_event, print_removed};
 use crate::fault::{Fault, io_fault, print_fault};
 use crate::request_log::{LogFile, RequestLog};
@@ -24,6 +24,7 @@ use server_base::server_log::{
     AbortedConnection, ClockEvent, LoggedRequest, ServerLog, StoreEvent, TokenReloadFault,
 };
 use server_base::sockets::Sockets;
+use server_watch::reset_watch::ResetWatch;
 use server_watch::token_watch::{TokenSource, TokenWatch};
 use service_calls::service::Service;
 use space_core::purge_ended::PurgeEnded;
@@ -82,20 +83,41 @@ pub fn print_accept_failed<E: Write>(error: &mut E) -> io::Result<()>
 
 // The server log: the access log, if there is one, and a line for each fault of a client, of the
 // token file and of the clock. If `verbose`, also a line for each change of the store's state, and
-// for each purge that removed something.
+// for each purge that removed something, but for reset connections at most one a minute.
 #[derive(Drop)]
 struct Lines<'a, E: Write, L> {
     alloc: Global,
     error: &'a mut E,
     log: Option<RequestLog<L>>,
     verbose: bool,
+    resets: ResetWatch,
+}
+
+impl<'a, E: Write, L> Lines<'a, E, L> {
+    // Prints the lines of an aborted connection. If a client reset it, prints them at most once a
+    // minute, and how many others were reset meanwhile.
+    fn print_aborted_once(&mut self, fault: StreamFault, aborted: AbortedConnection) {
+        let mut more = 0;
+        if aborted.is_reset {
+            match self.resets.note(aborted.at) {
+                Some(unreported) => more = unreported,
+                None => return,
+            }
+        }
+        let _ = print_client_fault(fault, self.error);
+        let _ = print_aborted(aborted, self.error);
+        if more > 0 {
+            let _ = print_more_resets(more, self.error);
+        }
+    }
 }
 
 impl<'a, E: Write, L: LogFile> ServerLog for Lines<'a, E, L> {
     fn connection_failed(&mut self, fault: StreamFault, aborted: AbortedConnection) {
-        let _ = print_client_fault(fault, self.error);
         if self.verbose {
-            let _ = print_aborted(aborted, self.error);
+            self.print_aborted_once(fault, aborted);
+        } else {
+            let _ = print_client_fault(fault, self.error);
         }
     }
 
@@ -337,6 +359,7 @@ pub fn serve_port<
         error,
         log: log.map(|file| RequestLog::new(alloc, file)),
         verbose: given.verbose,
+        resets: ResetWatch::new(),
     };
     serve_sockets(
         alloc,

@@ -1,5 +1,5 @@
 -- How the clients change.
-use Rattle.std.proofs.Common.{◌≡◌, ℕ, Bool, true, false, List, [], ◌∷◌, ◌++◌, Option, Some, None, option_map, cond, refl, sym, ap, subst, ◌∙◌, inl, inr}
+use Rattle.std.proofs.Common.{◌≡◌, ◌<◌, ◌≤◌, ◌+◌, ℕ, Bool, true, false, List, [], ◌∷◌, ◌++◌, Option, Some, None, option_map, cond, refl, sym, ap, subst, ◌∙◌, arith, inl, inr}
 use Rattle.std.specs.Prelude.{IsSome, nat_eq, slice_index_or}
 use Rattle.std.specs.List.{flat_map}
 use Rattle.std.proofs.lemmas.Bool.{eqb-true, eq-eqb}
@@ -9,12 +9,12 @@ use Rattle.slab.specs.Slab.{Slab, Updates, get, with_value}
 use Rattle.slab.proofs.SlabLemmas.{Updates-with_value}
 use Rattle.wire_http.specs.Turns.{set_at}
 use Rattle.server_base.specs.History.{Extends, HistoryEvent}
-use Rattle.server_base.proofs.Histories.{extends_same, extends_then}
+use Rattle.server_base.proofs.Histories.{extends_none, extends_same, extends_then}
 use Rattle.server_client.specs.declared.client_connection.ClientConnection.{ClientConnection}
 use Rattle.server_client.specs.declared.commit_record.CommitRecord.{CommitRecord}
 use Rattle.server_client.specs.ClientConnection.{state_of_client}
-use Rattle.server_client.specs.ClientState.{ClientState, ClientSteps, new_client}
-use Rattle.dss_server.specs.ClientSet.{Accepts, AddsIf, ChangesBy, ChangesTo, Clients, Closes, MayClose, Refuses, SetChange, SetChanges, TakesSteps, clients_with, history_of_change, with_state}
+use Rattle.server_client.specs.ClientState.{ClientState, ClientSteps, Limits, limited, new_client}
+use Rattle.dss_server.specs.ClientSet.{Accepts, AddsIf, ChangesBy, ChangesTo, Clients, Closes, LimitsAt, LimitsBelow, MayClose, Refuses, SetChange, SetChanges, TakesSteps, clients_with, history_of_change, with_state}
 
 -- ---- values under keys
 
@@ -72,6 +72,23 @@ module _ {T : Type 0} (name : T → ℕ) (commit : CommitRecord) where
     ap (λ v. option_map (λ client. state_of_client name client) v) vacant,
     same ∙ clients_updated old new key (Some p) h ∙ ap (λ v. with_state (clients_with name old commit) key (Some v)) is,
   )
+
+  -- A client may make at most one more request.
+  pub clients_limited : (connections : Slab (ClientConnection T)) (key : ℕ) (p p' : ClientConnection T) → Some p ≡ get connections key → state_of_client name p' ≡ limited (state_of_client name p)
+      → LimitsAt key (clients_with name connections commit) (clients_with name (with_value connections key p') commit)
+  clients_limited connections key p p' there is =
+      clients_put connections key p p' (sym there)
+      ∙ ap (λ v. with_state (clients_with name connections commit) key v) (ap (λ v. Some v) is ∙ sym (ap (λ v. option_map limited v) (client_there connections key p (sym there))))
+
+  -- There is no client under the key.
+  pub clients_absent : (connections : Slab (ClientConnection T)) (key : ℕ) → get connections key ≡ None → LimitsAt key (clients_with name connections commit) (clients_with name connections commit)
+  clients_absent connections key absent =
+      let states : ℕ → Option ClientState = λ other. option_map (λ client. state_of_client name client) (get connections other) in
+      let none : states key ≡ None = ap (λ v. option_map (λ client. state_of_client name client) v) absent in
+      λ i. record {
+        states = sym (set_same states key (option_map limited (states key)) (none ∙ sym (ap (λ v. option_map limited v) none))) i;
+        commit = commit;
+      }
 
   pub clients_none : (connections : Slab (ClientConnection T)) → connections.slots ≡ [] → clients_with name connections commit ≡ record { states = λ key. None; commit = commit }
   clients_none connections empty = λ i. record {
@@ -139,3 +156,37 @@ changes_at name commit connections key p mid p' past now there same h =
     let found = client_there name commit connections key p (sym there) ∙ ap (λ v. Some v) (sym same) in
     change_once (TakesSteps key l.name h.steps) (clients_with name connections commit) (clients_with name (with_value connections key p') commit) past now
     (l, found, refl, state_of_client name p', h.by, clients_put name commit connections key p p' (sym there)) h.history
+
+-- ---- a limit to one more request
+
+-- The limit of one client is a change, unless there is none.
+pub changes_limit : (key : ℕ) (old new : Clients) (past : Option (List HistoryEvent)) → LimitsAt key old new → SetChanges old new past past
+changes_limit key old new past h =
+    (elim (old.states key) as (λ (v : Option ClientState). old.states key ≡ v → new ≡ with_state old key (option_map limited v) → SetChanges old new past past) [
+      | None ↦ λ e. λ is. changes_none old new past past (is ∙ (λ i. record { states = set_same old.states key None e i; commit = old.commit })) refl
+      | Some l ↦ λ e. λ is. change_once (TakesSteps key l.name (Limits ∷ [])) old new past past (l, e, refl, limited l, (limited l, refl, refl), is) (extends_none past)
+    ]) refl h
+
+pub limits_none : (old : Clients) → LimitsBelow 0 old old
+limits_none old = record { below = λ key. λ less. absurd (omega (arith, less)); others = λ key. λ above. refl; commit = refl }
+
+other_below : (key bound : ℕ) → key < bound + 1 → nat_eq key bound ≡ false → key < bound
+other_below key bound less e =
+    let other : key ≡ bound → ⊥ = λ same. no_both (nat_eq key bound) (eq-eqb key bound same) e in
+    omega (arith, less, other)
+
+-- The next client.
+pub limits_next : (bound : ℕ) (old mid new : Clients) → LimitsBelow bound old mid → LimitsAt bound mid new → LimitsBelow (bound + 1) old new
+limits_next bound old mid new p h =
+    let at : (key : ℕ) → new.states key ≡ cond (nat_eq key bound) (option_map limited (mid.states bound)) (mid.states key) = λ key. ap (λ (v : Clients). v.states key) h in
+    record {
+      below = λ key. λ less. at key ∙ (elim (nat_eq key bound) as (λ v. nat_eq key bound ≡ v → cond v (option_map limited (mid.states bound)) (mid.states key) ≡ option_map limited (old.states key)) [
+        | true ↦ λ e. ap (λ v. option_map limited v) (p.others bound (omega arith) ∙ sym (ap old.states (eqb-true key bound e)))
+        | false ↦ λ e. p.below key (other_below key bound less e)
+      ] refl);
+      others = λ key. λ above. at key ∙ (elim (nat_eq key bound) as (λ v. nat_eq key bound ≡ v → cond v (option_map limited (mid.states bound)) (mid.states key) ≡ old.states key) [
+        | true ↦ λ e. let same = eqb-true key bound e in absurd (omega (arith, above, same))
+        | false ↦ λ e. p.others key (omega (arith, above))
+      ] refl);
+      commit = ap (λ (v : Clients). v.commit) h ∙ p.commit;
+    }

@@ -1,6 +1,7 @@
 -- How the events of the service and of `serve` follow one another.
 use Rattle.std.proofs.Common.{◌≡◌, ℕ, List, [], ◌∷◌, ◌++◌, Option, Some, None, refl, sym, ap, subst, ◌∙◌, ◌⊎◌, inl, inr, map, Result}
-use Rattle.std.specs.Prelude.{IfSome, unwrap_or}
+use Rattle.std.specs.Prelude.{unwrap_or}
+use Rattle.std.specs.declared.time.Duration.{Duration}
 use Rattle.std.specs.List.{flat_map}
 use Rattle.std.specs.Option.{option_or}
 use Rattle.std.proofs.lemmas.List.{append-nil}
@@ -23,9 +24,11 @@ use Rattle.server_client.specs.ClientConnection.{state_of_client}
 use Rattle.server_client.specs.ClientEvents.{ClientRuns, served_client}
 use Rattle.server_client.specs.CommitRecord.{number_of, outcome_of}
 use Rattle.server_watch.specs.Purger.{MayPurge}
-use Rattle.server_watch.specs.Tokens.{IsTakenAfter}
+use Rattle.server_watch.specs.TokenWatch.{LooksOnce}
+use Rattle.server_watch.specs.declared.token_watch.TokenSource as sources
+use Rattle.server_watch.specs.declared.token_watch.TokenWatch.{TokenWatch}
 use Rattle.dss_server.specs.ClientSet.{ChangesBy, Clients, SetChange, SetChanges, clients_with, history_of_change, no_clients}
-use Rattle.dss_server.specs.ServeEvents.{FollowAll, Follows, Loads, Purges, Runs, ServeEvent, ServeRuns, ServeState, ServesEachClient, history_of_serve, serve_state}
+use Rattle.dss_server.specs.ServeEvents.{FollowAll, Follows, Looks, Purges, Runs, ServeEvent, ServeRuns, ServeState, ServesEachClient, WatchedTable, history_of_serve, serve_state, watched}
 use Rattle.dss_server.specs.ServiceEvents.{Changes, Commits, CommitsBatch, HappenAll, Happens, MayCommitBatch, ServedClients, Serves, ServiceEvent, ServiceRuns, history_of_service, served_clients}
 use Rattle.dss_server.proofs.Clients.{changes_none, changes_then, client_there, clients_put}
 
@@ -158,17 +161,17 @@ runs_recorded : (xs : List ServiceEvent) → flat_map history_of_serve (map_runs
 runs_recorded [] = refl
 runs_recorded (x ∷ xs) = ap (λ v. history_of_service x ++ v) (runs_recorded xs)
 
-module _ {S M : Type 0} (g : spaces.Ghosts S) (k : commits.Ghosts S) (m : moments.Ghosts M) (explaining : Explaining) (gives : List ℕ → Type 0) (keep : Option ℕ) (first : TokenFile) where
+module _ {S M T : Type 0} (g : spaces.Ghosts S) (k : commits.Ghosts S) (m : moments.Ghosts M) (explaining : Explaining) (t : sources.Ghosts T) (keep : Option ℕ) (first : TokenFile) (start : TokenWatch T) where
   -- A run of `serve` in this context.
-  abbrev GoesTo : ServeState S M → ServeState S M → (past now : Option (List HistoryEvent)) → Type 0
-  GoesTo old new past now = ServeRuns g k m explaining gives keep first old new past now
+  abbrev GoesTo : ServeState S M T → ServeState S M T → (past now : Option (List HistoryEvent)) → Type 0
+  GoesTo old new past now = ServeRuns g k m explaining t keep first old new past now
 
-  follow_then : (xs ys : List ServeEvent) (old mid new : ServeState S M) → FollowAll g k m explaining gives keep first xs old mid → FollowAll g k m explaining gives keep first ys mid new
-      → FollowAll g k m explaining gives keep first (xs ++ ys) old new
-  follow_then [] ys old mid new h q = subst (λ (v : ServeState S M). FollowAll g k m explaining gives keep first ys v new) h q
+  follow_then : (xs ys : List ServeEvent) (old mid new : ServeState S M T) → FollowAll g k m explaining t keep first xs old mid → FollowAll g k m explaining t keep first ys mid new
+      → FollowAll g k m explaining t keep first (xs ++ ys) old new
+  follow_then [] ys old mid new h q = subst (λ (v : ServeState S M T). FollowAll g k m explaining t keep first ys v new) h q
   follow_then (x ∷ xs) ys old mid new h q = (h.0, h.1, follow_then xs ys h.0 mid new h.2 q)
 
-  serve_then : (old mid new : ServeState S M) (past between now : Option (List HistoryEvent)) → GoesTo old mid past between → GoesTo mid new between now → GoesTo old new past now
+  serve_then : (old mid new : ServeState S M T) (past between now : Option (List HistoryEvent)) → GoesTo old mid past between → GoesTo mid new between now → GoesTo old new past now
   serve_then old mid new past between now p q = record {
     events = p.events ++ q.events;
     follow = follow_then p.events q.events old mid new p.follow q.follow;
@@ -176,7 +179,7 @@ module _ {S M : Type 0} (g : spaces.Ghosts S) (k : commits.Ghosts S) (m : moment
         (extends_then past between now (flat_map history_of_serve p.events) (flat_map history_of_serve q.events) p.history q.history);
   }
 
-  serve_once : (x : ServeEvent) (old new : ServeState S M) (past now : Option (List HistoryEvent)) → Follows g k m explaining gives keep first x old new → Extends past now (history_of_serve x)
+  serve_once : (x : ServeEvent) (old new : ServeState S M T) (past now : Option (List HistoryEvent)) → Follows g k m explaining t keep first x old new → Extends past now (history_of_serve x)
       → GoesTo old new past now
   serve_once x old new past now h recorded = record {
     events = x ∷ [];
@@ -185,99 +188,106 @@ module _ {S M : Type 0} (g : spaces.Ghosts S) (k : commits.Ghosts S) (m : moment
   }
 
   -- What was served since the start: the service, its clock, its clients and the active table.
-  pub record ServesSince (old : Service S) (clock : M) (new : Service S) (clock' : M) (clients : Clients) (table : TokenFile) (past now : Option (List HistoryEvent)) : Type 0 where
-    pub runs : GoesTo (serve_state (served_clients old clock no_clients) first) (serve_state (served_clients new clock' clients) table) past now
+  pub record ServesSince (old : Service S) (clock : M) (new : Service S) (clock' : M) (clients : Clients) (active : WatchedTable T) (past now : Option (List HistoryEvent)) : Type 0 where
+    pub runs : GoesTo (serve_state (served_clients old clock no_clients) (watched first start)) (serve_state (served_clients new clock' clients) active) past now
 
   pub since_none : (service : Service S) (clock : M) (clients : Clients) (past now : Option (List HistoryEvent)) → clients ≡ no_clients → now ≡ past
-      → ServesSince service clock service clock clients first past now
+      → ServesSince service clock service clock clients (watched first start) past now
   since_none service clock clients past now none same = record {
-    runs = record { events = []; follow = ap (λ v. serve_state (served_clients service clock v) first) none; history = extends_same past now same };
+    runs = record { events = []; follow = ap (λ v. serve_state (served_clients service clock v) (watched first start)) none; history = extends_same past now same };
   }
 
-  pub since_serves : (old new : Service S) (clock clock' : M) (clients : Clients) (table : TokenFile) (past now : Option (List HistoryEvent))
-      → ServesSince old clock new clock' clients table past now → ServesEachClient g k m explaining gives keep first old new clock clock' past now
-  since_serves old new clock clock' clients table past now p =
-      record { end = serve_state (served_clients new clock' clients) table; runs = p.runs; service_is = refl; clock_is = refl }
+  pub since_serves : (old new : Service S) (clock clock' : M) (clients : Clients) (active : WatchedTable T) (past now : Option (List HistoryEvent))
+      → ServesSince old clock new clock' clients active past now → ServesEachClient g k m explaining t keep first start old new clock clock' past now
+  since_serves old new clock clock' clients active past now p =
+      record { end = serve_state (served_clients new clock' clients) active; runs = p.runs; service_is = refl; clock_is = refl }
 
   -- Nothing was served.
-  pub serves_still : (service : Service S) (clock : M) (past : Option (List HistoryEvent)) → ServesEachClient g k m explaining gives keep first service service clock clock past past
-  serves_still service clock past = since_serves service service clock clock no_clients first past past (since_none service clock no_clients past past refl refl)
+  pub serves_still : (service : Service S) (clock : M) (past : Option (List HistoryEvent)) → ServesEachClient g k m explaining t keep first start service service clock clock past past
+  serves_still service clock past = since_serves service service clock clock no_clients (watched first start) past past (since_none service clock no_clients past past refl refl)
 
-  runs_follow : (xs : List ServiceEvent) (table : TokenFile) (old new : ServedClients S M) → HappenAll g k m explaining table xs old new
-      → FollowAll g k m explaining gives keep first (map_runs xs) (serve_state old table) (serve_state new table)
-  runs_follow [] table old new h = ap (λ v. serve_state v table) h
-  runs_follow (x ∷ xs) table old new h = (serve_state h.0 table, (h.0, h.1, refl), runs_follow xs table h.0 new h.2)
+  runs_follow : (xs : List ServiceEvent) (active : WatchedTable T) (old new : ServedClients S M) → HappenAll g k m explaining active.table xs old new
+      → FollowAll g k m explaining t keep first (map_runs xs) (serve_state old active) (serve_state new active)
+  runs_follow [] active old new h = ap (λ v. serve_state v active) h
+  runs_follow (x ∷ xs) active old new h = (serve_state h.0 active, (h.0, h.1, refl), runs_follow xs active h.0 new h.2)
 
   -- Events of the service under the active table.
-  since_runs : (old mid new : Service S) (clock between clock' : M) (c0 c1 : Clients) (table : TokenFile) (past h0 h1 : Option (List HistoryEvent))
-      → ServesSince old clock mid between c0 table past h0 → ServiceRuns g k m explaining table (served_clients mid between c0) (served_clients new clock' c1) h0 h1
-      → ServesSince old clock new clock' c1 table past h1
-  since_runs old mid new clock between clock' c0 c1 table past h0 h1 p q =
-      let at = serve_state (served_clients mid between c0) table in
-      let end = serve_state (served_clients new clock' c1) table in
+  since_runs : (old mid new : Service S) (clock between clock' : M) (c0 c1 : Clients) (active : WatchedTable T) (past h0 h1 : Option (List HistoryEvent))
+      → ServesSince old clock mid between c0 active past h0 → ServiceRuns g k m explaining active.table (served_clients mid between c0) (served_clients new clock' c1) h0 h1
+      → ServesSince old clock new clock' c1 active past h1
+  since_runs old mid new clock between clock' c0 c1 active past h0 h1 p q =
+      let at = serve_state (served_clients mid between c0) active in
+      let end = serve_state (served_clients new clock' c1) active in
       record {
-        runs = serve_then (serve_state (served_clients old clock no_clients) first) at end past h0 h1 p.runs (record {
+        runs = serve_then (serve_state (served_clients old clock no_clients) (watched first start)) at end past h0 h1 p.runs (record {
           events = map_runs q.events;
-          follow = runs_follow q.events table (served_clients mid between c0) (served_clients new clock' c1) q.happen;
+          follow = runs_follow q.events active (served_clients mid between c0) (served_clients new clock' c1) q.happen;
           history = subst (λ (v : List HistoryEvent). Extends h0 h1 v) (sym (runs_recorded q.events)) q.history;
         });
       }
 
-  since_loads : (old new : Service S) (clock clock' : M) (clients : Clients) (newer taken : Option TokenFile) (past now : Option (List HistoryEvent))
-      → ServesSince old clock new clock' clients (unwrap_or newer first) past now → IfSome taken (IsTakenAfter gives first)
-      → ServesSince old clock new clock' clients (unwrap_or (option_or taken newer) first) past now
-  since_loads old new clock clock' clients newer None past now p is = p
-  since_loads old new clock clock' clients newer (Some table) past now p is =
+  newest : (newer taken : Option TokenFile) (served : ServedClients S M) (watch : TokenWatch T)
+      → serve_state served (watched (unwrap_or (option_or taken newer) first) watch) ≡ serve_state served (watched (unwrap_or taken (unwrap_or newer first)) watch)
+  newest newer None served watch = refl
+  newest newer (Some table) served watch = refl
+
+  since_looks : (old new : Service S) (clock clock' : M) (clients : Clients) (newer taken : Option TokenFile) (time : Duration) (w0 w1 : TokenWatch T) (past now : Option (List HistoryEvent))
+      → ServesSince old clock new clock' clients (watched (unwrap_or newer first) w0) past now → LooksOnce t first time w0 w1 taken
+      → ServesSince old clock new clock' clients (watched (unwrap_or (option_or taken newer) first) w1) past now
+  since_looks old new clock clock' clients newer taken time w0 w1 past now p looks =
       let served = served_clients new clock' clients in
+      let at = serve_state served (watched (unwrap_or newer first) w0) in
+      let end = serve_state served (watched (unwrap_or (option_or taken newer) first) w1) in
       record {
-        runs = serve_then (serve_state (served_clients old clock no_clients) first) (serve_state served (unwrap_or newer first)) (serve_state served table) past now now p.runs
-            (serve_once (Loads table) (serve_state served (unwrap_or newer first)) (serve_state served table) now now (is, refl) (extends_none now));
+        runs = serve_then (serve_state (served_clients old clock no_clients) (watched first start)) at end past now now p.runs
+            (serve_once (Looks time taken) at end now now (w1, looks, newest newer taken served w1) (extends_none now));
       }
 
-  since_purges : (old mid new : Service S) (clock between clock' : M) (clients : Clients) (table : TokenFile) (past now : Option (List HistoryEvent))
-      → ServesSince old clock mid between clients table past now → MayPurge g k m keep mid new between clock' → ServesSince old clock new clock' clients table past now
-  since_purges old mid new clock between clock' clients table past now p purged =
-      let at = serve_state (served_clients mid between clients) table in
-      let end = serve_state (served_clients new clock' clients) table in
+  since_purges : (old mid new : Service S) (clock between clock' : M) (clients : Clients) (active : WatchedTable T) (past now : Option (List HistoryEvent))
+      → ServesSince old clock mid between clients active past now → MayPurge g k m keep mid new between clock' → ServesSince old clock new clock' clients active past now
+  since_purges old mid new clock between clock' clients active past now p purged =
+      let at = serve_state (served_clients mid between clients) active in
+      let end = serve_state (served_clients new clock' clients) active in
       record {
-        runs = serve_then (serve_state (served_clients old clock no_clients) first) at end past now now p.runs
+        runs = serve_then (serve_state (served_clients old clock no_clients) (watched first start)) at end past now now p.runs
             (serve_once Purges at end now now (new, clock', purged, refl) (extends_none now));
       }
 
   -- The clients change, and the service stays.
-  since_changes : (old new : Service S) (clock clock' : M) (c0 c1 : Clients) (table : TokenFile) (past h0 h1 : Option (List HistoryEvent)) → ServesSince old clock new clock' c0 table past h0
-      → SetChanges c0 c1 h0 h1 → ServesSince old clock new clock' c1 table past h1
-  since_changes old new clock clock' c0 c1 table past h0 h1 p q =
-      since_runs old new new clock clock' clock' c0 c1 table past h0 h1 p (runs_changes g k m explaining table new clock' c0 c1 h0 h1 q)
+  since_changes : (old new : Service S) (clock clock' : M) (c0 c1 : Clients) (active : WatchedTable T) (past h0 h1 : Option (List HistoryEvent)) → ServesSince old clock new clock' c0 active past h0
+      → SetChanges c0 c1 h0 h1 → ServesSince old clock new clock' c1 active past h1
+  since_changes old new clock clock' c0 c1 active past h0 h1 p q =
+      since_runs old new new clock clock' clock' c0 c1 active past h0 h1 p (runs_changes g k m explaining active.table new clock' c0 c1 h0 h1 q)
 
   -- The clients stay.
-  pub since_same : (old new : Service S) (clock clock' : M) (c0 c1 : Clients) (table : TokenFile) (past h0 h1 : Option (List HistoryEvent)) → ServesSince old clock new clock' c0 table past h0
-      → c1 ≡ c0 → h1 ≡ h0 → ServesSince old clock new clock' c1 table past h1
-  since_same old new clock clock' c0 c1 table past h0 h1 p same is =
-      subst (λ (h : Option (List HistoryEvent)). ServesSince old clock new clock' c1 table past h) (sym is)
-      (subst (λ (c : Clients). ServesSince old clock new clock' c table past h0) (sym same) p)
+  pub since_same : (old new : Service S) (clock clock' : M) (c0 c1 : Clients) (active : WatchedTable T) (past h0 h1 : Option (List HistoryEvent)) → ServesSince old clock new clock' c0 active past h0
+      → c1 ≡ c0 → h1 ≡ h0 → ServesSince old clock new clock' c1 active past h1
+  since_same old new clock clock' c0 c1 active past h0 h1 p same is =
+      subst (λ (h : Option (List HistoryEvent)). ServesSince old clock new clock' c1 active past h) (sym is)
+      (subst (λ (c : Clients). ServesSince old clock new clock' c active past h0) (sym same) p)
 
   -- The wait for events, and the accepted clients.
-  pub since_accepts : (old new : Service S) (clock clock' : M) (c0 c1 c2 : Clients) (table : TokenFile) (past h0 h1 h2 : Option (List HistoryEvent))
-      → ServesSince old clock new clock' c0 table past h0 → c1 ≡ c0 → h1 ≡ h0 → SetChanges c1 c2 h1 h2 → ServesSince old clock new clock' c2 table past h2
-  since_accepts old new clock clock' c0 c1 c2 table past h0 h1 h2 p same is q =
-      since_changes old new clock clock' c1 c2 table past h1 h2 (since_same old new clock clock' c0 c1 table past h0 h1 p same is) q
+  pub since_accepts : (old new : Service S) (clock clock' : M) (c0 c1 c2 : Clients) (active : WatchedTable T) (past h0 h1 h2 : Option (List HistoryEvent))
+      → ServesSince old clock new clock' c0 active past h0 → c1 ≡ c0 → h1 ≡ h0 → SetChanges c1 c2 h1 h2 → ServesSince old clock new clock' c2 active past h2
+  since_accepts old new clock clock' c0 c1 c2 active past h0 h1 h2 p same is q =
+      since_changes old new clock clock' c1 c2 active past h1 h2 (since_same old new clock clock' c0 c1 active past h0 h1 p same is) q
 
-  -- The check of the token file, and the batches under the active table.
-  pub since_answers : (old s0 s1 : Service S) (clock m0 m1 : M) (c0 c1 c2 : Clients) (newer taken newer' : Option TokenFile) (used : TokenFile) (past h0 h1 : Option (List HistoryEvent))
-      → ServesSince old clock s0 m0 c0 (unwrap_or newer first) past h0 → IfSome taken (IsTakenAfter gives first) → newer' ≡ option_or taken newer → used ≡ unwrap_or newer' first → c1 ≡ c0
-      → ServiceRuns g k m explaining used (served_clients s0 m0 c1) (served_clients s1 m1 c2) h0 h1 → ServesSince old clock s1 m1 c2 (unwrap_or newer' first) past h1
-  since_answers old s0 s1 clock m0 m1 c0 c1 c2 newer taken newer' used past h0 h1 p is_taken is_newer is_used same q =
-      let loaded = subst (λ (n : Option TokenFile). ServesSince old clock s0 m0 c0 (unwrap_or n first) past h0) (sym is_newer) (since_loads old s0 clock m0 c0 newer taken past h0 p is_taken) in
-      let shown = since_same old s0 clock m0 c0 c1 (unwrap_or newer' first) past h0 h0 loaded same refl in
+  -- A look at the token file, and the batches under the active table.
+  pub since_answers : (old s0 s1 : Service S) (clock m0 m1 : M) (c0 c1 c2 : Clients) (newer taken newer' : Option TokenFile) (used : TokenFile) (time : Duration) (w0 w1 : TokenWatch T) (past h0 h1 : Option (List HistoryEvent))
+      → ServesSince old clock s0 m0 c0 (watched (unwrap_or newer first) w0) past h0 → LooksOnce t first time w0 w1 taken → newer' ≡ option_or taken newer → used ≡ unwrap_or newer' first → c1 ≡ c0
+      → ServiceRuns g k m explaining used (served_clients s0 m0 c1) (served_clients s1 m1 c2) h0 h1 → ServesSince old clock s1 m1 c2 (watched (unwrap_or newer' first) w1) past h1
+  since_answers old s0 s1 clock m0 m1 c0 c1 c2 newer taken newer' used time w0 w1 past h0 h1 p looks is_newer is_used same q =
+      let looked = subst (λ (n : Option TokenFile). ServesSince old clock s0 m0 c0 (watched (unwrap_or n first) w1) past h0) (sym is_newer) (since_looks old s0 clock m0 c0 newer taken time w0 w1 past h0 p looks) in
+      let shown = since_same old s0 clock m0 c0 c1 (watched (unwrap_or newer' first) w1) past h0 h0 looked same refl in
       let runs = subst (λ (t : TokenFile). ServiceRuns g k m explaining t (served_clients s0 m0 c1) (served_clients s1 m1 c2) h0 h1) is_used q in
-      since_runs old s0 s1 clock m0 m1 c1 c2 (unwrap_or newer' first) past h0 h1 shown runs
+      since_runs old s0 s1 clock m0 m1 c1 c2 (watched (unwrap_or newer' first) w1) past h0 h1 shown runs
 
   -- The rest of an iteration: a purge, late clients, and the admin port.
-  pub since_ends : (old s0 s1 s2 : Service S) (clock m0 m1 : M) (c0 c1 c2 c3 c4 : Clients) (table : TokenFile) (past h0 h1 : Option (List HistoryEvent))
-      → ServesSince old clock s0 m0 c0 table past h0 → c1 ≡ c0 → MayPurge g k m keep s0 s1 m0 m1 → c2 ≡ c1 → SetChanges c2 c3 h0 h1 → c4 ≡ c3 → s2 ≡ s1
-      → ServesSince old clock s2 m1 c4 table past h1
-  since_ends old s0 s1 s2 clock m0 m1 c0 c1 c2 c3 c4 table past h0 h1 p flushed purged same q shown stays =
-      let after = since_purges old s0 s1 clock m0 m1 c1 table past h0 (since_same old s0 clock m0 c0 c1 table past h0 h0 p flushed refl) purged in
-      let looked = since_changes old s1 clock m1 c2 c3 table past h0 h1 (since_same old s1 clock m1 c1 c2 table past h0 h0 after same refl) q in
-      subst (λ (s : Service S). ServesSince old clock s m1 c4 table past h1) (sym stays) (since_same old s1 clock m1 c3 c4 table past h1 h1 looked shown refl)
+  pub since_ends : (old s0 s1 s2 : Service S) (clock m0 m1 : M) (c0 c1 c2 c3 c4 : Clients) (active : WatchedTable T) (past h0 h1 : Option (List HistoryEvent))
+      → ServesSince old clock s0 m0 c0 active past h0 → c1 ≡ c0 → MayPurge g k m keep s0 s1 m0 m1 → c2 ≡ c1 → SetChanges c2 c3 h0 h1
+      → ((h : Option (List HistoryEvent)) → SetChanges c3 c4 h h) → s2 ≡ s1
+      → ServesSince old clock s2 m1 c4 active past h1
+  since_ends old s0 s1 s2 clock m0 m1 c0 c1 c2 c3 c4 active past h0 h1 p flushed purged same q shown stays =
+      let after = since_purges old s0 s1 clock m0 m1 c1 active past h0 (since_same old s0 clock m0 c0 c1 active past h0 h0 p flushed refl) purged in
+      let looked = since_changes old s1 clock m1 c2 c3 active past h0 h1 (since_same old s1 clock m1 c1 c2 active past h0 h0 after same refl) q in
+      subst (λ (s : Service S). ServesSince old clock s m1 c4 active past h1) (sym stays) (since_changes old s1 clock m1 c3 c4 active past h1 h1 looked (shown h1))

@@ -1,5 +1,5 @@
 -- The clients of the service, and their changes without a call.
-use Rattle.std.specs.Prelude.{◌≡◌, ◌⊎◌, ℕ, Bool, true, false, List, [], ◌∷◌, Option, Some, None, option_map}
+use Rattle.std.specs.Prelude.{◌≡◌, ◌⊎◌, ◌<◌, ◌≤◌, ℕ, Bool, true, false, List, [], ◌∷◌, Option, Some, None, option_map}
 use Rattle.std.specs.List.{flat_map}
 use Rattle.slab.specs.Slab.{Slab, get}
 use Rattle.wire_http.specs.Turns.{set_at}
@@ -7,7 +7,7 @@ use Rattle.server_base.specs.History.{Accepted, Extends, HistoryEvent}
 use Rattle.server_client.specs.declared.client_connection.ClientConnection.{ClientConnection}
 use Rattle.server_client.specs.declared.commit_record.CommitRecord.{CommitRecord}
 use Rattle.server_client.specs.ClientConnection.{state_of_client}
-use Rattle.server_client.specs.ClientState.{ClientState, ClientStep, StepsBy, history_of_step, new_client}
+use Rattle.server_client.specs.ClientState.{ClientState, ClientStep, StepsBy, history_of_step, limited, new_client}
 use Rattle.server_client.specs.CommitRecord.{first_commit}
 use Rattle.dss_server.specs.declared.client_set.ClientSet.{ClientSet}
 
@@ -34,8 +34,8 @@ clients_with name connections commit = record {
 abbrev pub clients_of : {T : Type 0} → (name : T → ℕ) → ClientSet T → Clients
 clients_of name set = clients_with name set.connections set.committed
 
--- A change of the clients without a call: one is accepted and gets a key, or is closed at once. One
--- takes steps, or is closed.
+-- A change of the clients without a call: a client is accepted under a key, or closed as soon as it
+-- is accepted; it takes steps; or it is closed.
 pub data SetChange : Type 0 where
   Accepts : (key name : ℕ) → SetChange
   Refuses : (name : ℕ) → SetChange
@@ -82,6 +82,18 @@ AddsIf false name old new = new ≡ old
 abbrev pub MayClose : (key : ℕ) → Clients → Clients → Type 0
 MayClose key old new = (new ≡ old) ⊎ (new ≡ with_state old key None)
 
+-- Holds if the client under that key may make at most one more request. If there is none, nothing
+-- changed.
+abbrev pub LimitsAt : (key : ℕ) → Clients → Clients → Type 0
+LimitsAt key old new = new ≡ with_state old key (option_map limited (old.states key))
+
+-- Holds if each client with a key below `bound` may make at most one more request, and nothing else
+-- changed.
+pub record LimitsBelow (bound : ℕ) (old new : Clients) : Type 0 where
+  pub below : (key : ℕ) → key < bound → new.states key ≡ option_map limited (old.states key)
+  pub others : (key : ℕ) → bound ≤ key → new.states key ≡ old.states key
+  pub commit : new.commit ≡ old.commit
+
 -- The same of sets of clients, whose names their sockets have.
 module _ {T : Type 0} (name : T → ℕ) (old new : ClientSet T) where
   -- Holds if neither the clients nor the record of the last commit changed.
@@ -92,3 +104,7 @@ module _ {T : Type 0} (name : T → ℕ) (old new : ClientSet T) where
   -- exactly them.
   abbrev pub ChangesClients : (past now : Option (List HistoryEvent)) → Type 0
   ChangesClients past now = SetChanges (clients_of name old) (clients_of name new) past now
+
+  -- Holds if some changes of which the history records nothing lead from the one to the other.
+  abbrev pub ChangesUnseen : Type 0
+  ChangesUnseen = (past : Option (List HistoryEvent)) → ChangesClients past past

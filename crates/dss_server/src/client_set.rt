@@ -1,6 +1,7 @@
 //! All clients of a port, and which of them goes on next.
 ghost use Rattle.std.specs.Prelude.{◌≡◌, IfOk};
 ghost use Rattle.dss_server.specs.ClientSet.{AddsIf, ChangesClients, KeepsClients, MayClose};
+ghost use Rattle.dss_server.specs.ClientSet.{ChangesUnseen, LimitsAt, LimitsBelow};
 ghost use Rattle.dss_server.specs.ClientSet.{clients_of, no_clients};
 
 use crate::deferred_clients::DeferredClients;
@@ -106,11 +107,23 @@ impl<T: ClientSocket> ClientSet<T> {
         client.set_queued(self.next.push(key).is_ok());
     }
 
-    /// Queues all clients for their next turn.
-    pub(crate) fn queue_all(&mut self)
-        ensures { KeepsClients T.name self.old self.new }
+    // Lets a client make at most one more request.
+    fn limit_to_one_request(&mut self, key: usize)
+        ensures { LimitsAt key (clients_of T.name self.old) (clients_of T.name self.new) }
+    {
+        if let Some(client) = self.connections.get_mut(key) {
+            client.limit_to_one_request();
+        }
+    }
+
+    /// Lets each client make at most one more request, and queues it for its next turn.
+    pub(crate) fn limit_all(&mut self)
+        ensures changes { ChangesUnseen T.name self.old self.new }
+        ensures limits { LimitsBelow 1000 (clients_of T.name self.old)
+            (clients_of T.name self.new) }
     {
         for key in 0..MAX_CONNECTIONS {
+            self.limit_to_one_request(key);
             self.queue(key);
         }
     }

@@ -3,8 +3,8 @@ ghost use Rattle.std.specs.Prelude.{◌≡◌, Bool, IfOk, IsSome, IsTrue};
 ghost use Rattle.token_conf.specs.TokenFile.{callers_of};
 ghost use Rattle.server_base.specs.Calls.{GoesOn};
 ghost use Rattle.server_watch.specs.Purger.{MayPurge};
-ghost use Rattle.dss_server.specs.ClientSet.{AddsIf, ChangesClients, KeepsClients};
-ghost use Rattle.dss_server.specs.ClientSet.{clients_of, no_clients};
+ghost use Rattle.dss_server.specs.ClientSet.{AddsIf, ChangesClients, ChangesUnseen, KeepsClients};
+ghost use Rattle.dss_server.specs.ClientSet.{LimitsBelow, clients_of, no_clients};
 ghost use Rattle.dss_server.specs.Serve.{ServesBy, ServesSoFar};
 ghost use Rattle.dss_server.specs.ServiceEvents.{CommitsBatch, MayCommitBatch, ServiceRuns};
 ghost use Rattle.dss_server.specs.ServiceEvents.{served_clients};
@@ -240,7 +240,7 @@ impl<N: Sockets + Drop, B: MakeBackups + Drop> EventLoop<N, B> {
             (N.history sockets.old) (N.history sockets.new) }
     {
         if let Some(client) = self.clients.connections.get(key) {
-            journal.connection_failed(fault, client.aborted());
+            journal.connection_failed(fault, client.aborted(now));
         }
         self.metrics.fail(failure_of(fault));
         self.clients.abort(sockets, key, now)
@@ -688,13 +688,25 @@ impl<N: Sockets + Drop, B: MakeBackups + Drop> EventLoop<N, B> {
         }
     }
 
-    // Begins the stop: accepts no more clients, and queues a turn for each.
+    // Begins the stop: accepts no more clients. Lets each make at most one more request, and queues
+    // a turn for it.
     fn stop(&mut self, now: Duration)
-        ensures { KeepsClients N.Client.name self.old.clients self.new.clients }
+        ensures changes { ChangesUnseen N.Client.name self.old.clients self.new.clients }
+        ensures limits { LimitsBelow 1000 (clients_of N.Client.name self.old.clients)
+            (clients_of N.Client.name self.new.clients) }
     {
         self.stopping = Some(now.saturating_add(Duration::from_millis(STOPPING)));
         self.metrics.stop();
-        self.clients.queue_all();
+        self.clients.limit_all();
+    }
+
+    // Confirms the clock if an operator requested that.
+    fn take_confirmation(&mut self)
+        ensures { KeepsClients N.Client.name self.old.clients self.new.clients }
+    {
+        if self.operators.take_confirmation() {
+            self.purger.confirm_clock();
+        }
     }
 
     /// Answers the admin port, if there is one, from a snapshot that does not change the service,
@@ -709,7 +721,7 @@ impl<N: Sockets + Drop, B: MakeBackups + Drop> EventLoop<N, B> {
     ) -> bool
         ensures told { IsTrue result → IsSome operated.entry }
         ensures same { service.new ≡ service.old }
-        ensures clients { KeepsClients N.Client.name self.old.clients self.new.clients }
+        ensures clients { ChangesUnseen N.Client.name self.old.clients self.new.clients }
     {
         match operated {
             Some(build) => self.has_ended(sockets, build, service.space().snapshot(), now),
@@ -762,15 +774,13 @@ impl<N: Sockets + Drop, B: MakeBackups + Drop> EventLoop<N, B> {
         shown: Result<Snapshot<'_>, NoMirror>,
         now: Duration,
     ) -> bool
-        ensures { KeepsClients N.Client.name self.old.clients self.new.clients }
+        ensures { ChangesUnseen N.Client.name self.old.clients self.new.clients }
     {
         self.answer_operators(sockets, build, shown, now);
         let Some(until) = self.stopping else {
+            self.take_confirmation();
             if self.operators.stops() {
                 self.stop(now);
-            }
-            if self.operators.take_confirmation() {
-                self.purger.confirm_clock();
             }
             return false;
         };

@@ -98,8 +98,8 @@ pub fn serve_clients<
     ensures serves { ServesAll S.Space S.GroupCommit.own M.Moments T.gives keep tokens.now
         service.old service.new moments.old moments.new }
     ensures clients { ServesEachClient S.Space S.GroupCommit.own M.Moments
-        explaining T.gives keep tokens.now service.old service.new moments.old moments.new
-        (N.history sockets.old) (N.history sockets.new) }
+        explaining T.TokenSource keep tokens.now watch service.old service.new
+        moments.old moments.new (N.history sockets.old) (N.history sockets.new) }
     ensures counted { OnOk result (IsSome limits.count ⊎ IsSome operated.entry) }
 {
     let mut newer = None;

@@ -69,6 +69,10 @@ pub struct AbortedConnection {
     pub connection: u64,
     /// The phase in which it was aborted.
     pub phase: Phase,
+    /// True if its client reset it.
+    pub is_reset: bool,
+    /// The time of the monotonic clock when it was aborted.
+    pub at: Duration,
 }
 
 /// A log of requests, and of faults of clients, of a changed token file and of the store.

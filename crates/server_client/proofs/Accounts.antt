@@ -8,7 +8,7 @@ use Rattle.space_core.specs.declared.space.SpaceFault.{SpaceFault}
 use Rattle.wire_http.specs.DeferredResponse.{text_at}
 use Rattle.wire_http.specs.Text.{noted_text, end_texts}
 use Rattle.server_client.specs.Account.{Account, IsAccountAfterCall, IsAccountAfterEnd, IsAccountAfterStep, IsAccountAtStart, IsAccountOf, after_outcome}
-use Rattle.server_client.specs.ClientState.{Aborts, ClientState, Discards, Drops, Receives, ReceivesEnd, Releases, Sends, after_commit}
+use Rattle.server_client.specs.ClientState.{Aborts, ClientState, Discards, Drops, Limits, Receives, ReceivesEnd, Releases, Sends, after_commit}
 use Rattle.server_client.specs.CommitRecord.{outcome_of}
 
 pub start : IsAccountAtStart
@@ -46,6 +46,7 @@ step commit (Sends bytes) l l' a p h =
 step commit Releases l l' a p h = subst (λ (v : ClientState). IsAccountOf (after_outcome (outcome_of commit) l a) v) (sym h.2) (committed (outcome_of commit) l a p)
 step commit Drops l l' a p h = subst (λ (v : ClientState). IsAccountOf (record a { deferred = [] }) v) (sym h) (record { released = p.released; deferred = sym (append-nil l.ready); none = λ e. refl })
 step commit Aborts l l' a p h = subst (λ (v : ClientState). IsAccountOf a v) (sym h) (record { released = p.released; deferred = p.deferred; none = p.none })
+step commit Limits l l' a p h = subst (λ (v : ClientState). IsAccountOf a v) (sym h) (record { released = p.released; deferred = p.deferred; none = p.none })
 
 no_slot : {X : Type 0} (x : X) (b : List ℕ) → Some x ≡ None → b ≡ []
 no_slot x b h = cc

@@ -1,5 +1,5 @@
 -- The state of a client after each kind of step of its connection.
-use Rattle.std.proofs.Common.{◌≡◌, ℕ, ◌-◌, ◌||◌, ◌++◌, Bool, true, false, List, Option, Some, None, is_some, option_map, refl, sym, ap, ◌∙◌}
+use Rattle.std.proofs.Common.{◌≡◌, ℕ, min, ◌-◌, ◌||◌, ◌++◌, Bool, true, false, List, Option, Some, None, is_some, option_map, refl, sym, ap, ◌∙◌}
 use Rattle.std.specs.List.{concat}
 use Rattle.service_step.specs.declared.reply.Reply.{Reply}
 use Rattle.wire_http.specs.declared.connection.Connection.{Connection}
@@ -10,7 +10,7 @@ use Rattle.wire_http.specs.DeferredResponse.{before_last, slot_at}
 use Rattle.wire_http.specs.Text.{end_texts, noted_text}
 use Rattle.wire_http.specs.Wire.{RequestCall, left_after}
 use Rattle.server_client.specs.ClientIo.{ReleasesUnless}
-use Rattle.server_client.specs.ClientState.{aborted, batch_of, finished, state_of, with_response}
+use Rattle.server_client.specs.ClientState.{aborted, batch_of, finished, limited, state_of, with_response}
 
 pub or_done : (a : Bool) → (a || true) ≡ true
 or_done true = refl
@@ -177,4 +177,20 @@ unchanged_state name batch gone c new same = λ i. record {
   slot = same.slot i;
   batch = batch_of (same.slot i) batch;
   done = gone || same.done i;
+}
+
+-- After at most one more request may come.
+pub limited_state : (name batch : ℕ) (gone : Bool) (c new : Connection) → buffered_of new ≡ buffered_of c → output_of new ≡ output_of c → ready_of new ≡ ready_of c → slot_of new ≡ slot_of c
+    → left_of new ≡ min (left_of c) 1 → has_ended new ≡ has_ended c → is_done new ≡ is_done c
+    → state_of name batch gone new ≡ limited (state_of name batch gone c)
+limited_state name batch gone c new held output ready slot left ended done = λ i. record {
+  name = name;
+  held = held i;
+  ended = ended i;
+  left = left i;
+  output = output i;
+  ready = ready i;
+  slot = slot i;
+  batch = batch_of (slot i) batch;
+  done = gone || done i;
 }

@@ -13,7 +13,7 @@ use Rattle.server_base.specs.History.{Extends, HistoryEvent, ReceivedEnd, Sent, 
 use Rattle.server_base.proofs.Histories.{extends_none, extends_same, extends_then, read_some}
 use Rattle.server_client.specs.declared.commit_record.CommitRecord.{CommitRecord}
 use Rattle.server_client.specs.ClientIo.{IsAnsweredBy}
-use Rattle.server_client.specs.ClientState.{Aborts, ClientState, ClientStep, ClientSteps, Discards, Drops, Receives, ReceivesEnd, Releases, Sends, StepsBy, StepsTo, StepsWithoutCommit, after_commit, batch_of, history_of_step, state_of}
+use Rattle.server_client.specs.ClientState.{Aborts, ClientState, ClientStep, ClientSteps, Discards, Drops, Limits, Receives, ReceivesEnd, Releases, Sends, StepsBy, StepsTo, StepsWithoutCommit, after_commit, batch_of, history_of_step, state_of}
 use Rattle.server_client.specs.CommitRecord.{number_of, outcome_of}
 use Rattle.server_client.proofs.States.{or_done}
 
@@ -36,6 +36,7 @@ module _ (commit : CommitRecord) where
   step_name Releases l l' h = ap (λ v. v.name) h.2 ∙ committed_name l (outcome_of commit)
   step_name Drops l l' h = ap (λ v. v.name) h
   step_name Aborts l l' h = ap (λ v. v.name) h
+  step_name Limits l l' h = ap (λ v. v.name) h
 
   by_name : (xs : List ClientStep) (l l' : ClientState) → StepsBy commit xs l l' → l'.name ≡ l.name
   by_name [] l l' h = ap (λ v. v.name) h

@@ -10,7 +10,7 @@ use Rattle.wire_http.specs.DeferredResponse.{text_at}
 use Rattle.wire_http.specs.Text.{noted_text, end_texts}
 use Rattle.wire_http.specs.Wire.{RequestCall}
 use Rattle.server_client.specs.declared.commit_record.CommitRecord.{CommitRecord}
-use Rattle.server_client.specs.ClientState.{Aborts, ClientState, ClientStep, Discards, Drops, Receives, ReceivesEnd, Releases, Sends, StepsTo, finished, new_client, with_response}
+use Rattle.server_client.specs.ClientState.{Aborts, ClientState, ClientStep, Discards, Drops, Limits, Receives, ReceivesEnd, Releases, Sends, StepsTo, finished, new_client, with_response}
 use Rattle.server_client.specs.CommitRecord.{outcome_of}
 
 -- The bytes that were sent, the released responses, in order, and the deferred response.
@@ -39,6 +39,7 @@ after_step outcome (Sends bytes) l a = record a { sent = a.sent ++ bytes }
 after_step outcome Releases l a = after_outcome outcome l a
 after_step outcome Drops l a = record a { deferred = [] }
 after_step outcome Aborts l a = a
+after_step outcome Limits l a = a
 
 -- The account after a call: its response is deferred or released.
 abbrev pub after_call : RequestCall → Reply → (notes : List (List ℕ)) → (deferred : Bool)

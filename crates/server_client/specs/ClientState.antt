@@ -1,5 +1,5 @@
 -- The state of a client as seen from outside, and the steps that change it without a call.
-use Rattle.std.specs.Prelude.{◌≡◌, ◌<◌, ◌≤◌, ◌+◌, ◌-◌, ◌||◌, ℕ, Bool, false, true, List, [], ◌∷◌, ◌++◌, length, take, drop, Option, Some, None, Result, Ok, Err, if◌then◌else◌}
+use Rattle.std.specs.Prelude.{◌≡◌, ◌<◌, ◌≤◌, ◌+◌, ◌-◌, ◌||◌, ℕ, min, Bool, false, true, List, [], ◌∷◌, ◌++◌, length, take, drop, Option, Some, None, Result, Ok, Err, if◌then◌else◌}
 use Rattle.std.specs.List.{concat, flat_map}
 use Rattle.service_calls.specs.Service.{reply_of}
 use Rattle.service_step.specs.declared.call_fault.CallFault.TheVariants as halts
@@ -64,6 +64,10 @@ with_response l asked reply notes rest deferred batch = record l {
 abbrev pub aborted : ClientState → ClientState
 aborted l = record l { done = true }
 
+-- The state after the server let at most one more request come.
+abbrev pub limited : ClientState → ClientState
+limited l = record l { left = min l.left 1 }
+
 -- The state after the stream ended, with the text of the protocol rule that ended it, if one did.
 abbrev pub finished : ClientState → End → ClientState
 finished l end = record l {
@@ -85,7 +89,8 @@ after_commit l (Err fault) = record l {
 
 -- A step of a client without a call: bytes arrive, no more bytes arrive, arrived bytes are
 -- discarded, or bytes are sent. The deferred response is released or replaced after its commit, or
--- dropped (the code drops one only if memory runs out). The server stops answering the client.
+-- dropped (the code drops one only if memory runs out). The server stops answering the client, or
+-- lets at most one more request come, as it does once it stops.
 pub data ClientStep : Type 0 where
   Receives : (bytes : List ℕ) → ClientStep
   ReceivesEnd : ClientStep
@@ -94,6 +99,7 @@ pub data ClientStep : Type 0 where
   Releases : ClientStep
   Drops : ClientStep
   Aborts : ClientStep
+  Limits : ClientStep
 
 -- Holds if the commit is the one of the batch of the deferred response.
 abbrev pub IsCommitOf : CommitRecord → ClientState → Type 0
@@ -108,6 +114,7 @@ history_of_step name (Sends bytes) = Sent name bytes ∷ []
 history_of_step name Releases = []
 history_of_step name Drops = []
 history_of_step name Aborts = []
+history_of_step name Limits = []
 
 -- `commit` is the record of the last commit.
 module _ (commit : CommitRecord) where
@@ -126,6 +133,7 @@ module _ (commit : CommitRecord) where
   StepsTo Drops l l' =
       l' ≡ record l { output = l.ready; ready = l.ready; slot = None; batch = 0; done = true }
   StepsTo Aborts l l' = l' ≡ aborted l
+  StepsTo Limits l l' = l' ≡ limited l
 
   -- Holds if the steps lead from one state to the other.
   abbrev pub StepsBy : List ClientStep → ClientState → ClientState → Type 0

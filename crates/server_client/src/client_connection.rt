@@ -4,7 +4,8 @@ ghost use Rattle.token_conf.specs.TokenFile.{callers_of};
 ghost use Rattle.server_base.specs.Calls.{GoesOn};
 ghost use Rattle.server_client.specs.ClientEvents.{ClientRuns, served_client};
 ghost use Rattle.server_client.specs.ClientConnection.{state_of_client};
-ghost use Rattle.server_client.specs.ClientState.{ClientSteps, StepsWithoutCommit, new_client};
+ghost use Rattle.server_client.specs.ClientState.{ClientSteps, StepsWithoutCommit, limited};
+ghost use Rattle.server_client.specs.ClientState.{new_client};
 
 use crate::client_io::{ClientIo, ReadOutcome, WriteOutcome};
 use crate::commit_record::CommitRecord;
@@ -111,12 +112,14 @@ impl<T: ClientSocket> ClientConnection<T> {
         }
     }
 
-    /// Returns its description for the log, as an aborted connection.
-    pub fn aborted(&self) -> AbortedConnection {
+    /// Returns its description for the log, as a connection that is aborted now.
+    pub fn aborted(&self, now: Duration) -> AbortedConnection {
         AbortedConnection {
             client: self.io.client(),
             connection: self.number,
             phase: self.phase,
+            is_reset: self.reset,
+            at: now,
         }
     }
 
@@ -310,6 +313,14 @@ impl<T: ClientSocket> ClientConnection<T> {
         self.readable = true;
         self.wants_large_buffer = false;
         TurnOutcome::Again
+    }
+
+    /// Makes its next request the last one, since the service ends. The response to it says that
+    /// the connection closes. A response that waits to be sent stays as it is.
+    pub fn limit_to_one_request(&mut self)
+        ensures { state_of_client T.name self.new ≡ limited (state_of_client T.name self.old) }
+    {
+        self.io.limit_to_one_request();
     }
 
     /// Returns its outcome while the service ends: it is closed once it has all its responses.

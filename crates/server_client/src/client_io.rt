@@ -5,7 +5,7 @@ ghost use Rattle.service_step.specs.declared.call_fault.CallFault.TheVariants as
 ghost use Rattle.server_client.specs.ClientIo.{IsAnsweredBy, Reads, ReleasesUnless, Writes};
 ghost use Rattle.server_client.specs.ClientIo.{client_state, connection_of};
 ghost use Rattle.server_client.specs.ClientState.{ClientSteps, IsCommitOf, StepsWithoutCommit};
-ghost use Rattle.server_client.specs.ClientState.{new_client};
+ghost use Rattle.server_client.specs.ClientState.{limited, new_client};
 ghost use Rattle.server_client.specs.CommitRecord.{outcome_of};
 
 use crate::commit_record::CommitRecord;
@@ -169,6 +169,13 @@ impl<T: ClientSocket> ClientIo<T> {
         ensures { option_map (λ noted. noted.now) result ≡ noted_of (connection_of self.now) }
     {
         self.connection.last_request()
+    }
+
+    /// Makes the next request the last one, unless none may come.
+    pub(crate) fn limit_to_one_request(&mut self)
+        ensures { client_state T.name self.new ≡ limited (client_state T.name self.old) }
+    {
+        self.connection.limit_to_one_request();
     }
 
     /// Returns true if no more requests are answered.

@@ -1,6 +1,6 @@
 -- What a purge chunk does to a service.
-use Rattle.std.specs.Prelude.{◌≡◌, ◌+◌, ◌-◌, ◌<◌, ◌≤◌, ◌⊎◌, ℕ, zero, suc, Bool, true, false, List, [], ◌∷◌, Option, Some, None, Result, Ok, Err, ⊤, min}
-use Rattle.std.specs.Duration.{as_nanos, max_nanos}
+use Rattle.std.specs.Prelude.{◌≡◌, ◌-◌, ◌<◌, ◌≤◌, ◌⊎◌, ℕ, zero, suc, Bool, true, false, List, [], ◌∷◌, Option, Some, None, Result, Ok, Err, ⊤}
+use Rattle.std.specs.Duration.{as_nanos}
 use Rattle.std.specs.declared.time.Duration.{Duration}
 use Rattle.space_core.specs.declared.group_commit.GroupCommit as settles
 use Rattle.space_core.specs.declared.space.Space as spaces
@@ -10,6 +10,7 @@ use Rattle.wire_http.specs.declared.moments.Moments as moments
 use Rattle.server_base.specs.Calls.{ClockReadings}
 use Rattle.server_base.specs.declared.server_log.ClockEvent.{ClockEvent}
 use Rattle.server_watch.specs.ClockWatch.{IsPlausible, IsWrong, ReportsWrong, add, held_after, is_held_in, is_watched_in, jumps_after, jumps_of, looked_of, news_of_right, state_of}
+use Rattle.server_watch.specs.Deadline.{a_minute_after}
 use Rattle.server_watch.specs.declared.clock_watch.ClockState.{ClockState}
 use Rattle.server_watch.specs.declared.clock_watch.ClockState.TheVariants as state
 use Rattle.server_watch.specs.declared.clock_watch.ClockWatch.{ClockWatch}
@@ -64,10 +65,6 @@ count_of (Some (Err why)) = 0
 abbrev pub report_of : (removed : ℕ) → Option ℕ
 report_of zero = None
 report_of (suc n) = Some (suc n)
-
--- A minute later, in nanoseconds, saturating at the maximum duration.
-abbrev pub a_minute_after : (now : ℕ) → ℕ
-a_minute_after now = min (now + 60_000_000_000) max_nanos
 
 -- Holds if the next chunk is planned after one that removed so many items. If it removed some, the
 -- purge goes on after an iteration without a chunk. Otherwise the purge ends: the next chunk is due

@@ -1,6 +1,6 @@
 -- When a failure or a recovery of the store is reported.
 use Rattle.std.specs.Prelude.{◌==◌, ◌+◌, ◌-◌, ◌^◌, ℕ, zero, suc, Bool, true, false, if◌then◌else◌, Option, Some, None, Result, Ok, Err, min}
-use Rattle.std.specs.Duration.{as_nanos, max_nanos}
+use Rattle.std.specs.Duration.{as_nanos}
 use Rattle.server_base.specs.declared.server_log.StoreEvent.{StoreEvent}
 use Rattle.server_base.specs.declared.server_log.StoreEvent.TheVariants as news
 use Rattle.server_watch.specs.declared.store_watch.CommitOutcome.{CommitOutcome}
@@ -27,7 +27,7 @@ outcome_of_purge (Err purge.Clock) = None
 outcome_of_purge (Err (purge.Space space.Unchanged)) = None
 outcome_of_purge (Err (purge.Space space.Broken)) = Some outcome.Unknown
 
--- Failures since the last commit, and how many of them are not reported yet
+-- Failures since the last commit, and how many of them are not reported yet.
 abbrev pub failures_of : StoreWatch → ℕ
 failures_of watch = watch.failures
 
@@ -37,10 +37,6 @@ unreported_of watch = watch.unreported
 -- The time until which further failures are not reported, in nanoseconds.
 abbrev pub silent_until : StoreWatch → ℕ
 silent_until watch = as_nanos watch.silent_until
-
--- The end of the minute after a report, in nanoseconds, saturating at the maximum duration.
-abbrev pub silence_after : (now : ℕ) → ℕ
-silence_after now = min (now + 60_000_000_000) max_nanos
 
 abbrev pub is_broken : StoreWatch → Bool
 is_broken watch = watch.is_broken

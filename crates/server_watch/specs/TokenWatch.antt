@@ -1,5 +1,5 @@
 -- When the token file is read, and what a reading changes.
-use Rattle.std.specs.Prelude.{◌≡◌, ◌+◌, ◌<◌, ◌≤◌, ◌&&◌, ◌⊎◌, nat_lt, ℕ, Bool, true, List, Option, Some, None, Ok, Err}
+use Rattle.std.specs.Prelude.{◌≡◌, ◌+◌, ◌<◌, ◌≤◌, ◌&&◌, ◌⊎◌, nat_lt, ℕ, Bool, true, List, Option, Some, None, Ok, Err, IsNone}
 use Rattle.std.specs.Duration.{as_nanos}
 use Rattle.std.specs.declared.time.Duration.{Duration}
 use Rattle.token_conf.specs.TokenFile.{TokenFile}
@@ -64,3 +64,11 @@ abbrev pub LooksAtFile : {T : Type 0} → sources.Ghosts T → (first : TokenFil
 LooksAtFile t first old new result = (found : Finding) × ReadsFile t first old new found
     × (result ≡ table_in found) × (is_lacking_in new ≡ lacks found)
     × (is_valid_in new ≡ is_valid_after (is_valid_in old) (misses_of new) found)
+
+-- Holds if the watch looked at the file at this time, with this result. If a reading was due, the
+-- source was read once. Otherwise nothing was found, and the watch stays.
+abbrev pub LooksOnce : {T : Type 0} → sources.Ghosts T → (first : TokenFile) → (now : Duration)
+    → TokenWatch T → TokenWatch T → (result : Option TokenFile) → Type 0
+LooksOnce t first now old new result =
+    (IsReadingEarly old now → IsNone result × (new ≡ old))
+    × (IsReadingDue old now → (looked_of new ≡ as_nanos now) × LooksAtFile t first old new result)

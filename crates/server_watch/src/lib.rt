@@ -1,8 +1,10 @@
 //! What `serve` does besides requests: it checks the token file and the clock, purges, and reports
-//! the store.
+//! the store and reset connections.
 #![tactic(auto)]
 
 pub mod clock_watch;
+mod deadline;
 pub mod purger;
+pub mod reset_watch;
 pub mod store_watch;
 pub mod token_watch;

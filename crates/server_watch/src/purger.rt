@@ -4,6 +4,7 @@ ghost use Rattle.server_watch.specs.ClockWatch.{IsDue, confirmed, is_held_in, is
 ghost use Rattle.server_watch.specs.Purger.{IsChunkDue, IsChunkEarly, IsLeft, IsPlanned, MayPurge, PurgesNothing, PurgesPlausibly, ReadsClock, ReadsOnce, RecordsClock, TellsChunk, WatchesClock, clock_of, count_of, due_of, is_held_by, is_running_in, removed_of, rests_in};
 
 use crate::clock_watch::ClockWatch;
+use crate::deadline::is_before;
 use admin_http::clock::ClockMetrics;
 use server_base::server_log::ClockEvent;
 use service_calls::service::Service;
@@ -249,7 +250,7 @@ impl Purger {
         let Some(keep) = keep else {
             return without_chunk(&mut self.clock, moments, now);
         };
-        if rests || !self.due.saturating_sub(now).is_zero() {
+        if rests || is_before(now, self.due) {
             return without_chunk(&mut self.clock, moments, now);
         }
         let (clock, purged) = chunk(&mut self.clock, keep, service, moments, now);

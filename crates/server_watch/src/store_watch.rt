@@ -1,9 +1,11 @@
 //! The state of the store, and when to report it.
 ghost use Rattle.std.specs.Prelude.{◌≡◌, ◌<◌, ◌≤◌, ◌↔◌, Some, IfSome, IfNone, IsNone, IsSome, IsTrue, false, true};
 ghost use Rattle.std.specs.Duration.{as_nanos};
-ghost use Rattle.server_watch.specs.StoreWatch.{failures_of, outcome_of_batch, outcome_of_purge, is_broken, news_of_breaking, news_of_keeping, one_more, silence_after, silent_until, unreported_of};
+ghost use Rattle.server_watch.specs.Deadline.{a_minute_after};
+ghost use Rattle.server_watch.specs.StoreWatch.{failures_of, outcome_of_batch, outcome_of_purge, is_broken, news_of_breaking, news_of_keeping, one_more, silent_until, unreported_of};
 ghost use Rattle.server_base.specs.declared.server_log.StoreEvent.TheVariants as news;
 
+use crate::deadline::is_before;
 use crate::purger::PurgeFault;
 use server_base::response_info::ResponseInfo;
 use server_base::server_log::StoreEvent;
@@ -102,7 +104,7 @@ impl StoreWatch {
     fn tell(&mut self, now: Duration)
         ensures failures { failures_of self.new ≡ failures_of self.old }
         ensures unreported { unreported_of self.new ≡ 0 }
-        ensures silent { silent_until self.new ≡ silence_after (as_nanos now) }
+        ensures silent { silent_until self.new ≡ a_minute_after (as_nanos now) }
         ensures broken { is_broken self.new ≡ is_broken self.old }
     {
         self.unreported = 0;
@@ -124,7 +126,7 @@ impl StoreWatch {
         ensures unreported { IfNone result (unreported_of self.new
             ≡ one_more (unreported_of self.old)) }
         ensures silenced { IfSome result
-            (λ it. silent_until self.new ≡ silence_after (as_nanos now)) }
+            (λ it. silent_until self.new ≡ a_minute_after (as_nanos now)) }
         ensures waits { IfNone result (silent_until self.new ≡ silent_until self.old) }
         ensures broken { is_broken self.new ≡ is_broken self.old }
     {
@@ -135,7 +137,7 @@ impl StoreWatch {
             return Some(StoreEvent::CommitFailed);
         }
         let count = self.unreported.saturating_add(1);
-        if !self.silent_until.saturating_sub(now).is_zero() {
+        if is_before(now, self.silent_until) {
             self.unreported = count;
             return None;
         }

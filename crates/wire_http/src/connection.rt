@@ -242,7 +242,8 @@ pub struct Connection {
 }
 
 impl Connection {
-    ghost use Rattle.std.specs.Prelude.{[], true, false, IsTrue, ◌↔◌, Err, IfErr, None, option_map};
+    ghost use Rattle.std.specs.Prelude.{[], true, false, min, IsTrue, ◌↔◌, Err, IfErr};
+    ghost use Rattle.std.specs.Prelude.{None, option_map};
     ghost use Rattle.wire_http.specs.Peek.{IsPeek};
     ghost use Rattle.wire_http.specs.Connection.{buffered_of, left_of, has_ended, is_done};
     ghost use Rattle.wire_http.specs.Connection.{output_of, ready_of, deferred_of};
@@ -347,6 +348,21 @@ impl Connection {
         ensures noted { noted_of self.new ≡ noted_of self.old }
     {
         self.ended = true;
+    }
+
+    /// Makes the next request the last one, unless none may come. Its response then says that the
+    /// connection closes.
+    pub fn limit_to_one_request(&mut self)
+        ensures held { buffered_of self.new ≡ buffered_of self.old }
+        ensures output { output_of self.new ≡ output_of self.old }
+        ensures ready { ready_of self.new ≡ ready_of self.old }
+        ensures slot { slot_of self.new ≡ slot_of self.old }
+        ensures left { left_of self.new ≡ min (left_of self.old) 1 }
+        ensures ended { has_ended self.new ≡ has_ended self.old }
+        ensures done { is_done self.new ≡ is_done self.old }
+        ensures noted { noted_of self.new ≡ noted_of self.old }
+    {
+        self.left = self.left.min(1);
     }
 
     /// Returns the bytes to send next: those of responses that are not deferred.
