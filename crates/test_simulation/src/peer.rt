@@ -1,4 +1,6 @@
 //! A simulated client.
+ghost use Rattle.std.specs.Prelude.{◌≤◌, length, IfSome};
+
 use std::alloc::Global;
 
 /// How a client behaves.
@@ -191,7 +193,9 @@ impl Peer {
     }
 
     /// Copies the bytes that arrived into a chunk. Returns how many.
-    pub(crate) fn give(&mut self, chunk: &mut [u8], now: u64, total: u64) -> usize {
+    pub(crate) fn give(&mut self, chunk: &mut [u8], now: u64, total: u64) -> usize
+        ensures { result ≤ length chunk.new }
+    {
         let count = self.arrived.saturating_sub(self.read).min(chunk.len());
         for index in 0..count {
             if let Some(byte) = self.script.get(self.read.saturating_add(index))
@@ -205,7 +209,9 @@ impl Peer {
     }
 
     /// Takes some of these bytes. Returns how many, or `None` if memory runs out.
-    pub(crate) fn take(&mut self, bytes: &[u8], now: u64) -> Option<usize> {
+    pub(crate) fn take(&mut self, bytes: &[u8], now: u64) -> Option<usize>
+        ensures { IfSome result (λ count. count ≤ length bytes.now) }
+    {
         let count = self.window.min(bytes.len());
         let part = bytes.get(..count)?;
         self.taken.extend_from_slice(part).ok()?;

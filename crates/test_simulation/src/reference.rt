@@ -93,6 +93,9 @@ impl<'a> Reference<'a> {
         if connection.is_done() || connection.has_deferred() {
             return None;
         }
+        if answered.is_stopping {
+            connection.limit_to_one_request();
+        }
         let mut spare = Service::new(MemorySpace::new(self.alloc), self.salt.clone().ok()?);
         let service = if executed {
             &mut self.service

@@ -1,5 +1,6 @@
 //! Sockets in memory, whose clients follow a drawn schedule.
 ghost use Rattle.std.specs.Prelude.{◌≡◌};
+ghost use Rattle.std.specs.Io.{ReadsAtMost, WritesAtMost};
 
 use crate::draws::Draws;
 use crate::peer::Peer;
@@ -253,7 +254,9 @@ impl<'a> SimSockets<'a> {
 
     // Lets time pass: all that the service would wait, if nothing will happen soon. Returns true
     // then.
-    fn pass(&mut self, patience: Duration) -> bool {
+    fn pass(&mut self, patience: Duration) -> bool
+        ensures { self.new.events ≡ self.old.events }
+    {
         let most = match u64::try_from(patience.as_nanos()) {
             Ok(most) => most,
             Err(_) => SECOND,
@@ -275,12 +278,16 @@ impl<'a> SimSockets<'a> {
     }
 
     // Reports an event.
-    fn report(&mut self, event: SocketEvent) {
+    fn report(&mut self, event: SocketEvent)
+        ensures { self.new.events ≡ self.old.events }
+    {
         let _ = self.ready.push(event);
     }
 
     // Lets clients connect.
-    fn connect(&mut self) {
+    fn connect(&mut self)
+        ensures { self.new.events ≡ self.old.events }
+    {
         let mut is_any = false;
         for _ in self.connected..self.peers.len() {
             if self.draws.chance(60) {
@@ -294,7 +301,9 @@ impl<'a> SimSockets<'a> {
     }
 
     // Lets the operator come, and reports what the operator sends.
-    fn operate(&mut self) {
+    fn operate(&mut self)
+        ensures { self.new.events ≡ self.old.events }
+    {
         match self.course.operator {
             Operator::Comes(waits) if self.waits >= waits => {
                 self.course.operator = Operator::Waits;
@@ -309,7 +318,9 @@ impl<'a> SimSockets<'a> {
     }
 
     // Makes a step of the client of that name.
-    fn step_peer(&mut self, name: usize, is_idle: bool) {
+    fn step_peer(&mut self, name: usize, is_idle: bool)
+        ensures { self.new.events ≡ self.old.events }
+    {
         let now = self.shared.now();
         if self.shared.closed_at(name) != 0 {
             return;
@@ -330,7 +341,9 @@ impl<'a> SimSockets<'a> {
     }
 
     // Returns the name of the client that is accepted next.
-    fn next_client(&mut self) -> Result<usize, AcceptFault> {
+    fn next_client(&mut self) -> Result<usize, AcceptFault>
+        ensures { self.new.events ≡ self.old.events }
+    {
         if self.taken >= self.connected {
             return Err(AcceptFault::NoneWaits);
         }
@@ -343,7 +356,9 @@ impl<'a> SimSockets<'a> {
     }
 
     // Records that a client was accepted.
-    fn note_accepted(&mut self, name: usize) {
+    fn note_accepted(&mut self, name: usize)
+        ensures { self.new.events ≡ self.old.events }
+    {
         let now = self.shared.now();
         if let Some(peer) = self.peers.get_mut(name) {
             peer.connection = Some(self.accepted);
@@ -354,7 +369,10 @@ impl<'a> SimSockets<'a> {
     }
 
     // Copies bytes of a client into a chunk.
-    fn fill(&mut self, name: usize, chunk: &mut [u8]) -> io::Result<usize> {
+    fn fill(&mut self, name: usize, chunk: &mut [u8]) -> io::Result<usize>
+        ensures bound { ReadsAtMost result chunk.new }
+        ensures events { self.new.events ≡ self.old.events }
+    {
         let (now, total) = (self.shared.now(), self.shared.total());
         let Some(peer) = self.peers.get_mut(name) else {
             return Err(reset());
@@ -370,7 +388,10 @@ impl<'a> SimSockets<'a> {
     }
 
     // Gives bytes to a client.
-    fn hand(&mut self, name: usize, bytes: &[u8]) -> io::Result<usize> {
+    fn hand(&mut self, name: usize, bytes: &[u8]) -> io::Result<usize>
+        ensures bound { WritesAtMost result bytes.now }
+        ensures events { self.new.events ≡ self.old.events }
+    {
         let now = self.shared.now();
         let Some(peer) = self.peers.get_mut(name) else {
             return Err(reset());
