@@ -1,5 +1,6 @@
 //! Sockets in memory, whose clients follow a drawn schedule.
-ghost use Rattle.std.specs.Prelude.{◌≡◌};
+ghost use Rattle.std.specs.Prelude.{◌≡◌, ◌++◌, ◌∷◌, [], map, OnErr, OnOk};
+ghost use Rattle.test_simulation.specs.Record.{event_of};
 ghost use Rattle.std.specs.Io.{ReadsAtMost, WritesAtMost};
 
 use crate::draws::Draws;
@@ -368,6 +369,17 @@ impl<'a> SimSockets<'a> {
         self.accepted = self.accepted.saturating_add(1);
     }
 
+    // Records an event.
+    #[tactic(auto, using(crate::proofs::Histories::noted_after))]
+    fn note(&mut self, event: Noted) -> io::Result<()>
+        ensures done { OnOk result (map event_of self.new.events.items
+            ≡ map event_of self.old.events.items ++ event_of event ∷ []) }
+        ensures same { OnErr result (self.new.events ≡ self.old.events) }
+    {
+        self.events.push(event)?;
+        Ok(())
+    }
+
     // Copies bytes of a client into a chunk.
     fn fill(&mut self, name: usize, chunk: &mut [u8]) -> io::Result<usize>
         ensures bound { ReadsAtMost result chunk.new }
@@ -428,7 +440,7 @@ impl<'a> Sockets for SimSockets<'a> {
         if !is_new(self.events.as_slice(), name) {
             return Err(AcceptFault::Gone);
         }
-        if self.events.push(Noted::Accepted(name)).is_err() {
+        if self.note(Noted::Accepted(name)).is_err() {
             return Err(AcceptFault::Full);
         }
         self.note_accepted(name);
@@ -441,14 +453,14 @@ impl<'a> Sockets for SimSockets<'a> {
     fn receive(&mut self, client: &mut SimClient<'a>, chunk: &mut [u8]) -> io::Result<usize> {
         let count = self.fill(client.name, chunk)?;
         let event = noted_read(self.alloc, client.name, &chunk[..count])?;
-        self.events.push(event)?;
+        self.note(event)?;
         Ok(count)
     }
 
     fn send(&mut self, client: &mut SimClient<'a>, bytes: &[u8]) -> io::Result<usize> {
         let count = self.hand(client.name, bytes)?;
         let event = noted_write(self.alloc, client.name, &bytes[..count])?;
-        self.events.push(event)?;
+        self.note(event)?;
         Ok(count)
     }
 

@@ -118,7 +118,7 @@ struct Times {
 }
 
 // Returns the summary of a client.
-fn summary(peer: &Peer, shared: &Shared, name: usize, expected: usize) -> Summary {
+fn summarize(peer: &Peer, shared: &Shared, name: usize, expected: usize) -> Summary {
     Summary {
         name,
         manner: peer.manner,
@@ -439,7 +439,7 @@ fn check_peers(
             };
             return Err(Failure {
                 flaw,
-                client: Some(summary(peer, shared, name, expected)),
+                client: Some(summarize(peer, shared, name, expected)),
             });
         }
     }
