@@ -1,0 +1,86 @@
+//! The log of a simulation.
+use crate::shared::Shared;
+use server_base::phase::Phase;
+use server_base::server_log::{AbortedConnection, LoggedRequest, ServerLog, TokenReloadFault};
+use std::alloc::Global;
+use wire_http::StreamFault;
+
+/// An answered request.
+#[derive(Clone, Copy, Debug)]
+pub(crate) struct Answered {
+    /// The index of its connection, from 0.
+    pub(crate) connection: usize,
+    /// The status of its response.
+    pub(crate) status: u16,
+    /// The time of day, and the index of the active token table.
+    pub(crate) moment: u64,
+    pub(crate) table: usize,
+    /// True if the operator had requested the stop.
+    pub(crate) is_stopping: bool,
+}
+
+/// A connection that was aborted.
+#[derive(Clone, Copy, Debug)]
+pub(crate) struct Aborted {
+    /// Its index, from 0.
+    pub(crate) connection: usize,
+    /// Why and in which phase.
+    pub(crate) fault: StreamFault,
+    pub(crate) phase: Phase,
+}
+
+/// A log that keeps all in memory. Lines are lost only if memory runs out.
+#[derive(Drop)]
+pub(crate) struct Journal<'a> {
+    shared: &'a Shared,
+    pub(crate) answers: Vec<Answered>,
+    pub(crate) aborted: Vec<Aborted>,
+    pub(crate) is_lossy: bool,
+}
+
+// Returns the index of a connection, given its number.
+fn index_of(number: u64) -> usize {
+    number.saturating_sub(1) as usize
+}
+
+impl<'a> Journal<'a> {
+    /// Creates an empty log.
+    pub(crate) fn new(alloc: Global, shared: &'a Shared) -> Journal<'a> {
+        Journal {
+            shared,
+            answers: Vec::new(alloc),
+            aborted: Vec::new(alloc),
+            is_lossy: false,
+        }
+    }
+}
+
+impl<'a> ServerLog for Journal<'a> {
+    fn connection_failed(&mut self, fault: StreamFault, aborted: AbortedConnection) {
+        let aborted = Aborted {
+            connection: index_of(aborted.connection),
+            fault,
+            phase: aborted.phase,
+        };
+        if self.aborted.push(aborted).is_err() {
+            self.is_lossy = true;
+        }
+    }
+
+    fn tokens_rejected(&mut self, _fault: TokenReloadFault, _checked: &[u8]) {}
+
+    fn request_answered(&mut self, request: &LoggedRequest<'_>) {
+        let connection = index_of(request.connection);
+        self.shared.count_answer(connection);
+        let answered = Answered {
+            connection,
+            status: request.status,
+            moment: self.shared.wall(),
+            table: self.shared.table(),
+            is_stopping: self.shared.is_stopping(),
+        };
+        if self.answers.push(answered).is_err() {
+            self.is_lossy = true;
+        }
+    }
+}

@@ -1,0 +1,201 @@
+//! One simulation: the service over a drawn schedule.
+use crate::clock::SimClock;
+use crate::draws::Draws;
+use crate::journal::Journal;
+use crate::plan::{Plan, draw_plan};
+use crate::reference::Reference;
+use crate::shared::Shared;
+use crate::sockets::{Operator, SimSockets};
+use crate::store::FailingStore;
+use crate::tokens::{FIRST, SimTokens};
+use crate::verdict::{Facts, Failure, Flaw, judge};
+use admin_http::backup::BackupResult;
+use admin_http::build::BuildInfo;
+use admin_http::web_page::OwnHosts;
+use dss_server::serve::serve_clients;
+use entity_core::salt::Salt;
+use server_base::backups::{MakeBackups, Progress};
+use server_watch::token_watch::TokenWatch;
+use service_calls::service::Service;
+use space_memory::to_memory::ToMemory;
+use space_mirror::mirrored::Mirrored;
+use space_sql::space::SqlSpace;
+use sqlite::MemStore;
+use std::alloc::Global;
+use std::io;
+use token_conf::token_table::TokenTable;
+use wire_route::routes::Routes;
+
+/// The space of a simulated service.
+pub(crate) type SimSpace = Mirrored<FailingStore<SqlSpace<MemStore>>>;
+
+// A maker of no backups.
+#[derive(Drop)]
+struct NoBackups;
+
+impl MakeBackups for NoBackups {
+    fn begin(&mut self, _name: &str) -> Progress {
+        Progress::Ended(BackupResult::NoDirectory)
+    }
+
+    fn go_on(&mut self) -> Progress {
+        Progress::Ended(BackupResult::NoDirectory)
+    }
+
+    fn abort(&mut self) {}
+}
+
+/// What all simulations share.
+#[derive(Drop)]
+pub(crate) struct Setting {
+    pub(crate) alloc: Global,
+    pub(crate) routes: Routes,
+    pub(crate) tokens: TokenTable,
+    pub(crate) salt: Salt,
+    pub(crate) hosts: OwnHosts,
+}
+
+impl Setting {
+    /// Creates it.
+    pub(crate) fn new(alloc: Global) -> Option<Setting> {
+        let tokens = TokenTable::read(alloc, FIRST).ok()?;
+        let salt = tokens.salt().clone().ok()?;
+        Some(Setting {
+            alloc,
+            routes: Routes::new(alloc).ok()?,
+            tokens,
+            salt,
+            hosts: OwnHosts::new(alloc, 80).ok()?,
+        })
+    }
+}
+
+// Returns an empty space whose store fails so often of a hundred changes.
+fn space_of(alloc: Global, draws: Draws, percent: u64) -> Option<SimSpace> {
+    let mut store = FailingStore::new(SqlSpace::create(alloc).ok()?, draws, percent);
+    let mirror = store.to_memory(alloc).ok()?;
+    Some(Mirrored::new(alloc, store, mirror))
+}
+
+// Serves the clients of a plan.
+fn serve<'a>(
+    setting: &Setting,
+    plan: &Plan,
+    service: &mut Service<SimSpace>,
+    watch: TokenWatch<SimTokens<'a>>,
+    clock: &mut SimClock<'a>,
+    sockets: &mut SimSockets<'a>,
+    journal: &mut Journal<'a>,
+) -> io::Result<()> {
+    let operated = match plan.course.operator {
+        Operator::Absent => None,
+        _ => Some(BuildInfo {
+            started: 0,
+            version: "0",
+            kit: "0",
+            hosts: &setting.hosts,
+        }),
+    };
+    let backups: Option<NoBackups> = None;
+    serve_clients(
+        setting.alloc,
+        &setting.routes,
+        &setting.tokens,
+        watch,
+        service,
+        clock,
+        sockets,
+        backups,
+        plan.limits,
+        plan.explaining,
+        None,
+        None,
+        operated,
+        journal,
+    )
+}
+
+// Takes the clients out of a plan.
+fn sockets_of<'a>(
+    alloc: Global,
+    plan: &mut Plan,
+    shared: &'a Shared,
+    draws: Draws,
+) -> SimSockets<'a> {
+    let peers = std::mem::replace(&mut plan.peers, Vec::new(alloc));
+    SimSockets {
+        alloc,
+        shared,
+        draws,
+        course: plan.course,
+        events: Vec::new(alloc),
+        peers,
+        connected: 0,
+        taken: 0,
+        accepted: 0,
+        ready: Vec::new(alloc),
+        next: 0,
+        waits: 0,
+        stopped_at: 0,
+    }
+}
+
+// Runs a drawn plan, and judges what happened.
+fn run_plan(
+    setting: &Setting,
+    mut plan: Plan,
+    draws: &mut Draws,
+) -> Option<Result<Facts, Failure>> {
+    let alloc = setting.alloc;
+    let clients = plan.peers.len();
+    let shared = Shared::new(alloc, clients).ok()?;
+    let space = space_of(alloc, draws.split(), plan.store_faults)?;
+    let mut service = Service::new(space, setting.salt.clone().ok()?);
+    let source = SimTokens {
+        alloc,
+        shared: &shared,
+        draws: draws.split(),
+        percent: plan.reloads,
+    };
+    let watch = TokenWatch::new(source, String::from_str(alloc, FIRST).ok()?);
+    let mut clock = SimClock::new(&shared, draws.split(), plan.clock_faults);
+    let mut journal = Journal::new(alloc, &shared);
+    let mut sockets = sockets_of(alloc, &mut plan, &shared, draws.split());
+    let ended = serve(
+        setting,
+        &plan,
+        &mut service,
+        watch,
+        &mut clock,
+        &mut sockets,
+        &mut journal,
+    );
+    let reference = Reference::new(
+        alloc,
+        &setting.routes,
+        &setting.salt,
+        plan.explaining,
+        clients,
+    )?;
+    Some(judge(
+        &plan,
+        &shared,
+        &sockets,
+        &journal,
+        service,
+        reference,
+        ended.is_ok(),
+    ))
+}
+
+/// Runs the simulation of that seed.
+pub(crate) fn simulate(setting: &Setting, seed: u64) -> Result<Facts, Failure> {
+    let mut draws = Draws::new(seed);
+    let Ok(plan) = draw_plan(setting.alloc, &setting.salt, &mut draws) else {
+        return Err(Failure::of(Flaw::Memory));
+    };
+    match run_plan(setting, plan, &mut draws) {
+        Some(judged) => judged,
+        None => Err(Failure::of(Flaw::Memory)),
+    }
+}

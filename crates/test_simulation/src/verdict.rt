@@ -1,0 +1,549 @@
+//! What must hold after a simulation.
+use crate::journal::Journal;
+use crate::peer::{Manner, Peer};
+use crate::plan::Plan;
+use crate::record::Noted;
+use crate::reference::Reference;
+use crate::shared::{SECOND, Shared};
+use crate::simulation::SimSpace;
+use crate::sockets::{Operator, SimSockets};
+use entity_core::entity::Entity;
+use entity_core::nature::Kind;
+use service_calls::service::Service;
+use space_core::space::Space;
+use wire_http::StreamFault;
+
+// The longest time that a client has to close, in nanoseconds: the service reads up to 64 chunks of
+// what it still sends, and waits 200 ms for each.
+const CLOSING: u64 = 15 * SECOND;
+
+// For how many requests of others one may wait: about those that are answered while its class is
+// charged for moving the bytes of a request, for the call and for the commit.
+const MOST_OTHERS: u64 = 30;
+
+/// What went wrong.
+#[derive(Clone, Copy, Debug, PartialEq, Eq)]
+pub(crate) enum Flaw {
+    /// Memory ran out, or the log lost a line.
+    Memory,
+    /// The service returned an error.
+    Ended,
+    /// A response in the log is not one that the plain policy can give.
+    Extra,
+    /// A client received other bytes than those of the plain policy.
+    Bytes,
+    /// A client that keeps all limits did not receive all its responses.
+    Unanswered,
+    /// A request was answered without the changes of a failed commit, or the other way round.
+    Commit,
+    /// The airspace at the end is not that of the plain policy.
+    Airspace,
+    /// A client was not closed.
+    Open,
+    /// A client was closed too early, or too late.
+    Early,
+    Late,
+    /// A request waited for too many others.
+    Unfair,
+    /// The history has not what the clients sent and took.
+    History,
+}
+
+impl Flaw {
+    /// Returns it in words.
+    pub(crate) fn text(self) -> &'static str {
+        match self {
+            Flaw::Memory => "memory ran out",
+            Flaw::Ended => "the service returned an error",
+            Flaw::Extra => "a response that the policy cannot give",
+            Flaw::Bytes => "a client received other bytes than those of the policy",
+            Flaw::Unanswered => "a client did not receive all its responses",
+            Flaw::Commit => "a failed commit and the faults do not match",
+            Flaw::Airspace => "the airspace at the end is not that of the policy",
+            Flaw::Open => "a client was not closed",
+            Flaw::Early => "a client was closed before its time limit",
+            Flaw::Late => "a client was closed after its time limit",
+            Flaw::Unfair => "a request waited for too many others",
+            Flaw::History => "the history differs from what the clients did",
+        }
+    }
+}
+
+/// A failed simulation: what went wrong, and with which client if it is known.
+#[derive(Clone, Copy, Debug)]
+pub(crate) struct Failure {
+    pub(crate) flaw: Flaw,
+    pub(crate) client: Option<Summary>,
+}
+
+impl Failure {
+    /// Creates a failure that concerns no client.
+    pub(crate) fn of(flaw: Flaw) -> Failure {
+        Failure { flaw, client: None }
+    }
+}
+
+/// What is known of a client with which something went wrong.
+#[derive(Clone, Copy, Debug)]
+pub(crate) struct Summary {
+    name: usize,
+    manner: Manner,
+    requests: usize,
+    whole: usize,
+    answers: u64,
+    sizes: Sizes,
+    times: Times,
+}
+
+// How many bytes arrived, were read, were read before the end, were taken, and were expected.
+#[derive(Clone, Copy, Debug)]
+struct Sizes {
+    arrived: usize,
+    read: usize,
+    used: usize,
+    taken: usize,
+    expected: usize,
+}
+
+// When things happened to a client, in nanoseconds.
+#[derive(Clone, Copy, Debug)]
+struct Times {
+    accepted: u64,
+    begun: u64,
+    sent: u64,
+    blocked: u64,
+    ended: u64,
+    shut: u64,
+    closed: u64,
+}
+
+// Returns the summary of a client.
+fn summarize(peer: &Peer, shared: &Shared, name: usize, expected: usize) -> Summary {
+    Summary {
+        name,
+        manner: peer.manner,
+        requests: peer.ends.len(),
+        whole: peer.ready.len(),
+        answers: match peer.connection {
+            Some(connection) => shared.answers_of(connection),
+            None => 0,
+        },
+        sizes: Sizes {
+            arrived: peer.arrived,
+            read: peer.read,
+            used: peer.used,
+            taken: peer.taken.len(),
+            expected,
+        },
+        times: Times {
+            accepted: peer.accepted_at,
+            begun: peer.begun_at,
+            sent: peer.sent_at,
+            blocked: peer.blocked_at,
+            ended: peer.ended_at,
+            shut: peer.shut_at,
+            closed: shared.closed_at(name),
+        },
+    }
+}
+
+/// What happened in a simulation that passed.
+#[derive(Clone, Copy, Debug)]
+pub(crate) struct Facts {
+    pub(crate) answers: usize,
+    pub(crate) faults: usize,
+    pub(crate) longest: u64,
+    pub(crate) aborted: usize,
+    pub(crate) waits: u64,
+}
+
+// Returns an error unless the condition holds.
+fn check(holds: bool, flaw: Flaw) -> Result<(), Flaw> {
+    if holds { Ok(()) } else { Err(flaw) }
+}
+
+// Returns true if bytes begin with others.
+fn begins_with(bytes: &[u8], front: &[u8]) -> bool {
+    match bytes.get(..front.len()) {
+        Some(part) => part == front,
+        None => false,
+    }
+}
+
+// Returns true if the clock failed for a connection.
+fn has_clock_fault(journal: &Journal<'_>, connection: usize) -> bool {
+    for aborted in &journal.aborted {
+        if aborted.connection == connection && aborted.fault == StreamFault::Clock {
+            return true;
+        }
+    }
+    false
+}
+
+// Makes all answered calls again.
+fn replay(
+    reference: &mut Reference<'_>,
+    journal: &Journal<'_>,
+    events: &[Noted],
+) -> Result<(), Flaw> {
+    if reference.take_all(events).is_none() {
+        return Err(Flaw::Extra);
+    }
+    for answered in &journal.answers {
+        if reference.answer(answered).is_none() {
+            return Err(Flaw::Extra);
+        }
+    }
+    Ok(())
+}
+
+// Returns the number of faults in the log.
+fn faults_in(journal: &Journal<'_>) -> usize {
+    let mut count = 0_usize;
+    for answered in &journal.answers {
+        if answered.status == 500 {
+            count = count.saturating_add(1);
+        }
+    }
+    count
+}
+
+// Returns true if the two lists have the same entities, at the same serials.
+fn are_same(one: &[Entity], other: &[Entity]) -> bool {
+    one.len() == other.len()
+        && one.iter().zip(other).all(|(e, f)| e.id == f.id
+            && e.serial == f.serial
+            && e.version == f.version)
+}
+
+// Returns true if both spaces have the same entities of a kind.
+fn have_same(space: &mut SimSpace, reference: &mut Reference<'_>, kind: Kind) -> Option<bool> {
+    let one = space.all(kind).ok()?;
+    let other = reference.space().all(kind).ok()?;
+    Some(are_same(one.as_slice(), other.as_slice()))
+}
+
+// Returns true if both spaces are the same.
+fn is_same_space(space: &mut SimSpace, reference: &mut Reference<'_>) -> Option<bool> {
+    let is_same = have_same(space, reference, Kind::Intent)?
+        && have_same(space, reference, Kind::Constraint)?;
+    let serials = (space.serial().ok()?, reference.space().serial().ok()?);
+    Some(is_same && serials.0 == serials.1)
+}
+
+// Checks what a client received.
+fn check_bytes(
+    peer: &Peer,
+    expected: &[u8],
+    answers: u64,
+    is_stopped: bool,
+    has_clock_fault: bool,
+) -> Result<(), Flaw> {
+    let taken = peer.taken.as_slice();
+    check(begins_with(expected, taken), Flaw::Bytes)?;
+    if !peer.is_faithful() || has_clock_fault {
+        return Ok(());
+    }
+    check(taken.len() == expected.len(), Flaw::Unanswered)?;
+    check(
+        is_stopped || answers == peer.ends.len() as u64,
+        Flaw::Unanswered,
+    )
+}
+
+// A time limit: when it began, and its least and greatest length in seconds.
+#[derive(Clone, Copy, Debug)]
+struct Span {
+    since: u64,
+    least: u64,
+    most: u64,
+}
+
+// Returns the time limit after which the service ends its side of a client that does no more.
+fn span_of(peer: &Peer, expected: usize, answers: u64) -> Span {
+    let last = peer.accepted_at.max(peer.sent_at);
+    if peer.taken.len() < expected {
+        return Span {
+            since: peer.blocked_at,
+            least: 29,
+            most: 33,
+        };
+    }
+    if peer.has_ended_first() {
+        return Span {
+            since: last.max(peer.ended_at).max(peer.begun_at),
+            least: 0,
+            most: 3,
+        };
+    }
+    if peer.is_last && answers >= peer.ends.len() as u64 {
+        return Span {
+            since: last,
+            least: 0,
+            most: 3,
+        };
+    }
+    if peer.used == 0 {
+        return Span {
+            since: peer.accepted_at,
+            least: 9,
+            most: 13,
+        };
+    }
+    if peer.used > peer.whole() {
+        let is_large = peer.used.saturating_sub(peer.whole()) > 60_000;
+        return Span {
+            since: last.max(peer.begun_at),
+            least: if is_large { 4 } else { 29 },
+            most: 33,
+        };
+    }
+    Span {
+        since: last,
+        least: 74,
+        most: 78,
+    }
+}
+
+// Checks when a client was closed.
+fn check_times(
+    peer: &Peer,
+    closed: u64,
+    expected: usize,
+    answers: u64,
+    has_clock_fault: bool,
+) -> Result<(), Flaw> {
+    check(closed != 0, Flaw::Open)?;
+    if peer.is_refused {
+        return Ok(());
+    }
+    let over = if peer.is_shut { peer.shut_at } else { closed };
+    check(closed <= over.saturating_add(CLOSING), Flaw::Late)?;
+    if peer.is_reset {
+        let last = peer.ended_at.max(peer.sent_at);
+        return check(over <= last.saturating_add(2 * SECOND), Flaw::Late);
+    }
+    if has_clock_fault {
+        return Ok(());
+    }
+    let Span { since, least, most } = span_of(peer, expected, answers);
+    check(
+        over >= since.saturating_add(least.saturating_mul(SECOND)),
+        Flaw::Early,
+    )?;
+    check(
+        over <= since.saturating_add(most.saturating_mul(SECOND)),
+        Flaw::Late,
+    )
+}
+
+// The events of one client in the history.
+#[derive(Clone, Copy)]
+struct Told {
+    accepted: usize,
+    read: usize,
+    sent: usize,
+}
+
+// Adds an event of a client. Returns `None` if it is not what the client sent or took.
+fn add(peer: &Peer, name: usize, event: &Noted, told: Told) -> Option<Told> {
+    let mut told = told;
+    match event {
+        Noted::Accepted(other) if *other == name => {
+            told.accepted = told.accepted.saturating_add(1);
+        }
+        Noted::Received(other, bytes) if *other == name => {
+            let rest = peer.script.get(told.read..)?;
+            if !begins_with(rest, bytes.as_slice()) {
+                return None;
+            }
+            told.read = told.read.saturating_add(bytes.len());
+        }
+        Noted::Sent(other, bytes) if *other == name => {
+            let rest = peer.taken.get(told.sent..)?;
+            if !begins_with(rest, bytes.as_slice()) {
+                return None;
+            }
+            told.sent = told.sent.saturating_add(bytes.len());
+        }
+        _ => {}
+    }
+    Some(told)
+}
+
+// Returns true if the history has exactly what a client sent and took.
+fn is_told(peer: &Peer, name: usize, events: &[Noted]) -> bool {
+    let mut told = Told {
+        accepted: 0,
+        read: 0,
+        sent: 0,
+    };
+    for event in events {
+        match add(peer, name, event, told) {
+            Some(more) => told = more,
+            None => return false,
+        }
+    }
+    let accepted = if peer.connection.is_some() { 1 } else { 0 };
+    told.accepted == accepted && told.read == peer.read && told.sent == peer.taken.len()
+}
+
+// Checks one client.
+fn check_peer(
+    plan: &Plan,
+    shared: &Shared,
+    sockets: &SimSockets<'_>,
+    journal: &Journal<'_>,
+    reference: &Reference<'_>,
+    name: usize,
+    peer: &Peer,
+) -> Result<(), Flaw> {
+    check(
+        is_told(peer, name, sockets.events.as_slice()),
+        Flaw::History,
+    )?;
+    let is_stopped = plan.course.operator != Operator::Absent;
+    let Some(connection) = peer.connection else {
+        return check(is_stopped, Flaw::Unanswered);
+    };
+    let Some(made) = reference.connections.get(name) else {
+        return Err(Flaw::Extra);
+    };
+    let faulty = has_clock_fault(journal, connection);
+    let expected = made.output();
+    let answers = shared.answers_of(connection);
+    check_bytes(peer, expected, answers, is_stopped, faulty)?;
+    let closed = shared.closed_at(name);
+    if is_stopped {
+        return check(
+            closed <= sockets.stopped_at.saturating_add(9 * SECOND),
+            Flaw::Late,
+        );
+    }
+    check_times(peer, closed, expected.len(), answers, faulty)
+}
+
+// Checks all clients.
+fn check_peers(
+    plan: &Plan,
+    shared: &Shared,
+    sockets: &SimSockets<'_>,
+    journal: &Journal<'_>,
+    reference: &Reference<'_>,
+) -> Result<(), Failure> {
+    for (name, peer) in sockets.peers.iter().enumerate() {
+        if let Err(flaw) = check_peer(plan, shared, sockets, journal, reference, name, peer) {
+            let expected = match reference.connections.get(name) {
+                Some(connection) => connection.output().len(),
+                None => 0,
+            };
+            return Err(Failure {
+                flaw,
+                client: Some(summarize(peer, shared, name, expected)),
+            });
+        }
+    }
+    Ok(())
+}
+
+// Returns for how many others the request at that place of the log waited.
+fn waited(peer: &Peer, nth: usize, place: u64, last: u64) -> u64 {
+    match peer.ready.get(nth) {
+        Some(ready) => place.saturating_sub((*ready).max(last)),
+        None => 0,
+    }
+}
+
+// Returns for how many others a request of a client waited at most.
+fn longest_of(peer: &Peer, connection: usize, journal: &Journal<'_>) -> u64 {
+    let mut longest = 0;
+    let mut last = 0;
+    let mut nth = 0_usize;
+    for (place, answered) in journal.answers.iter().enumerate() {
+        if answered.connection == connection {
+            let place = place as u64;
+            longest = waited(peer, nth, place, last).max(longest);
+            last = place.saturating_add(1);
+            nth = nth.saturating_add(1);
+        }
+    }
+    longest
+}
+
+// Returns for how many others a request of a client that takes all at once waited at most.
+fn longest_wait(sockets: &SimSockets<'_>, journal: &Journal<'_>) -> u64 {
+    let mut longest = 0;
+    for peer in &sockets.peers {
+        if let Some(connection) = peer.connection
+            && peer.is_faithful()
+            && peer.manner.gulp == usize::MAX
+        {
+            longest = longest_of(peer, connection, journal).max(longest);
+        }
+    }
+    longest
+}
+
+// Checks the airspace at the end, and that there were faults exactly if the store failed.
+fn check_space(space: SimSpace, reference: &mut Reference<'_>, faults: usize) -> Result<(), Flaw> {
+    let mut space = space;
+    match is_same_space(&mut space, reference) {
+        Some(is_same) => check(is_same, Flaw::Airspace)?,
+        None => return Err(Flaw::Memory),
+    }
+    let failed = space.into_store().failed();
+    check((faults > 0) == (failed > 0), Flaw::Commit)
+}
+
+// Checks all but single clients.
+fn check_rest(
+    service: Service<SimSpace>,
+    reference: &mut Reference<'_>,
+    sockets: &SimSockets<'_>,
+    journal: &Journal<'_>,
+) -> Result<Facts, Flaw> {
+    let faults = faults_in(journal);
+    check_space(service.into_space(), reference, faults)?;
+    let longest = longest_wait(sockets, journal);
+    check(longest <= MOST_OTHERS, Flaw::Unfair)?;
+    Ok(Facts {
+        answers: journal.answers.len(),
+        faults,
+        longest,
+        aborted: journal.aborted.len(),
+        waits: sockets.waits,
+    })
+}
+
+// Checks that the service ended well, and makes all answered calls again.
+fn check_begin(
+    reference: &mut Reference<'_>,
+    sockets: &SimSockets<'_>,
+    journal: &Journal<'_>,
+    has_ended: bool,
+) -> Result<(), Flaw> {
+    check(has_ended, Flaw::Ended)?;
+    check(!journal.is_lossy, Flaw::Memory)?;
+    replay(reference, journal, sockets.events.as_slice())
+}
+
+/// Judges what happened in a simulation.
+pub(crate) fn judge(
+    plan: &Plan,
+    shared: &Shared,
+    sockets: &SimSockets<'_>,
+    journal: &Journal<'_>,
+    service: Service<SimSpace>,
+    reference: Reference<'_>,
+    has_ended: bool,
+) -> Result<Facts, Failure> {
+    let mut reference = reference;
+    if let Err(flaw) = check_begin(&mut reference, sockets, journal, has_ended) {
+        return Err(Failure::of(flaw));
+    }
+    check_peers(plan, shared, sockets, journal, &reference)?;
+    match check_rest(service, &mut reference, sockets, journal) {
+        Ok(facts) => Ok(facts),
+        Err(flaw) => Err(Failure::of(flaw)),
+    }
+}
