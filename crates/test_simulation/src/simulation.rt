@@ -1,4 +1,8 @@
 //! One simulation: the service over a drawn schedule.
+ghost use Rattle.std.specs.Prelude.{◌≡◌, false};
+ghost use Rattle.entity_core.specs.Airspace.{empty_at};
+ghost use Rattle.space_core.specs.Space.{IsContent};
+
 use crate::clock::SimClock;
 use crate::draws::Draws;
 use crate::journal::Journal;
@@ -17,6 +21,7 @@ use entity_core::salt::Salt;
 use server_base::backups::{MakeBackups, Progress};
 use server_watch::token_watch::TokenWatch;
 use service_calls::service::Service;
+use space_core::batch::ApplyBatch;
 use space_memory::to_memory::ToMemory;
 use space_mirror::mirrored::Mirrored;
 use space_sql::space::SqlSpace;
@@ -70,11 +75,36 @@ impl Setting {
     }
 }
 
+// Returns a space over an empty store, with its mirror.
+fn with_mirror<S: ApplyBatch + ToMemory + Drop>(alloc: Global, mut store: S) -> Option<Mirrored<S>>
+    requires works { S.is_broken store ≡ false }
+    requires content { S.is_sound store → IsContent S.holds store (empty_at 0) }
+{
+    match store.to_memory(alloc) {
+        Ok(mirror) => Some(Mirrored::new(alloc, store, mirror)),
+        Err(_) => None,
+    }
+}
+
+// Returns a space over an empty store that fails so often of a hundred changes.
+fn failing<S: ApplyBatch + ToMemory + Drop>(
+    alloc: Global,
+    space: S,
+    draws: Draws,
+    percent: u64,
+) -> Option<Mirrored<FailingStore<S>>>
+    requires works { S.is_broken space ≡ false }
+    requires content { S.is_sound space → IsContent S.holds space (empty_at 0) }
+{
+    with_mirror(alloc, FailingStore::new(space, draws, percent))
+}
+
 // Returns an empty space whose store fails so often of a hundred changes.
 fn space_of(alloc: Global, draws: Draws, percent: u64) -> Option<SimSpace> {
-    let mut store = FailingStore::new(SqlSpace::create(alloc).ok()?, draws, percent);
-    let mirror = store.to_memory(alloc).ok()?;
-    Some(Mirrored::new(alloc, store, mirror))
+    match SqlSpace::create(alloc) {
+        Ok(space) => failing(alloc, space, draws, percent),
+        Err(_) => None,
+    }
 }
 
 // Serves the clients of a plan.

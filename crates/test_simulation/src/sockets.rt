@@ -227,6 +227,17 @@ fn step(peer: &mut Peer, draws: &mut Draws, answered: u64, now: u64, is_idle: bo
     happened
 }
 
+// Draws how many of so many clients connect.
+fn drawn(draws: &mut Draws, among: usize) -> usize {
+    let mut count = 0_usize;
+    for _ in 0..among {
+        if draws.chance(60) {
+            count = count.saturating_add(1);
+        }
+    }
+    count
+}
+
 impl<'a> SimSockets<'a> {
     // Returns how many requests of a client were answered.
     fn answers_of(&self, peer: &Peer) -> u64 {
@@ -285,18 +296,25 @@ impl<'a> SimSockets<'a> {
         let _ = self.ready.push(event);
     }
 
+    // Lets each client make a step.
+    fn step_peers(&mut self, is_idle: bool)
+        ensures { self.new.events ≡ self.old.events }
+    {
+        for name in 0..self.peers.len() {
+            self.step_peer(name, is_idle);
+        }
+    }
+
     // Lets clients connect.
     fn connect(&mut self)
         ensures { self.new.events ≡ self.old.events }
     {
-        let mut is_any = false;
-        for _ in self.connected..self.peers.len() {
-            if self.draws.chance(60) {
-                self.connected = self.connected.saturating_add(1);
-                is_any = true;
-            }
-        }
-        if is_any {
+        let more = drawn(
+            &mut self.draws,
+            self.peers.len().saturating_sub(self.connected),
+        );
+        self.connected = self.connected.saturating_add(more);
+        if more > 0 {
             self.report(event_of(EventSource::Port, true, false, (false, false)));
         }
     }
@@ -374,7 +392,7 @@ impl<'a> SimSockets<'a> {
     fn note(&mut self, event: Noted) -> io::Result<()>
         ensures done { OnOk result (map event_of self.new.events.items
             ≡ map event_of self.old.events.items ++ event_of event ∷ []) }
-        ensures same { OnErr result (self.new.events ≡ self.old.events) }
+        ensures same { OnErr result (self.new.events.items ≡ self.old.events.items) }
     {
         self.events.push(event)?;
         Ok(())
@@ -521,9 +539,7 @@ impl<'a> Sockets for SimSockets<'a> {
         };
         self.connect();
         self.operate();
-        for name in 0..self.peers.len() {
-            self.step_peer(name, is_idle);
-        }
+        self.step_peers(is_idle);
         Ok(())
     }
 
