@@ -219,7 +219,7 @@ def of_web_pages():
         for name, sent, wanted in table:
             found += difference(name, started.asked(sent), wanted)
         found += difference("its health", started.asked(HEALTH), said(200, SERVING))
-        found += difference("told to end", started.asked(asks("POST", "/stop", [f"Host: {hosts[0]}", "x-dss-admin: 1"],
+        found += difference("the stop", started.asked(asks("POST", "/stop", [f"Host: {hosts[0]}", "x-dss-admin: 1"],
                                                               confirmed=False)), said(200, b"stopping\n"))
         return found + difference("the service", started.ended(), (0, b"", started.listening))
 
@@ -295,7 +295,7 @@ def counts():
 
 
 def ends():
-    """A service that is told to stop answers a complete request of each client, closes its connections and exits. It
+    """After `POST /stop` the service answers a complete request of each client, closes its connections and exits. It
     accepts no new client."""
     found = []
     with AdminService() as started, contextlib.ExitStack() as stack:
@@ -305,9 +305,9 @@ def ends():
         found += difference("an answer", kept.recv(1 << 16), ANSWER)
         until_counted(started, "dss_connections_open", "3")
         began = time.monotonic()
-        # These bytes are in the socket when it is told to stop.
+        # These bytes are in the socket when the stop begins.
         kept.sendall(PUT)
-        found += difference("told to end", started.asked(STOP), said(200, b"stopping\n"))
+        found += difference("the stop", started.asked(STOP), said(200, b"stopping\n"))
         found += difference("a silent client", until_closed(silent), b"")
         found += difference("half a request", until_closed(half), b"")
         statuses = [it[9:12] for it in wire.answers_of(until_closed(kept))]
@@ -337,15 +337,15 @@ def filled(started, held, sent):
 
 
 def closes_after_its_stop():
-    """Once a service is told to stop, the response to the next request of a client has `Connection: close`, and is its
-    last. An idle connection is closed."""
+    """After `POST /stop` the next response on a connection has `Connection: close` and is the last one. An idle
+    connection is closed."""
     found = []
     with AdminService() as started, socket.socket() as held, started.connect() as idle:
         idle.sendall(ASKED)
         found += difference("an answer", idle.recv(1 << 16), ANSWER)
         # One request less than a connection may make, so that no response closes it for that reason.
         filled(started, held, QUERY * (wire.MAX_REQUESTS - 1))
-        found += difference("told to end", started.asked(STOP), said(200, b"stopping\n"))
+        found += difference("the stop", started.asked(STOP), said(200, b"stopping\n"))
         found += difference("an idle client", until_closed(idle), b"")
         answers = wire.answers_of(until_closed(held))
         closing = [b"\r\nConnection: close\r\n" in it.partition(b"\r\n\r\n")[0] + b"\r\n" for it in answers]
@@ -365,7 +365,7 @@ def ends_with_others():
         asking.sendall(HEALTH[:20])
         started.until_read(asking)
         began = time.monotonic()
-        found += difference("told to end", started.asked(STOP), said(200, b"stopping\n"))
+        found += difference("the stop", started.asked(STOP), said(200, b"stopping\n"))
         asking.sendall(HEALTH[20:])
         found += difference("its health", until_closed(asking), said(503, STOPPING))
         found += difference("one that waits", until_closed(waiting), b"")
@@ -392,7 +392,7 @@ def broken():
                     counted = started.counted()
                     found += difference("counted", counted['dss_requests_total{operation="set_availability",status="503"}'], "1")
                     found += difference("faults", counted["dss_store_failures_total"], "1")
-                    return found + difference("told to end", started.asked(STOP), said(200, b"stopping\n"))
+                    return found + difference("the stop", started.asked(STOP), said(200, b"stopping\n"))
                 health = said(503, FAILING) if answer == wire.answer(*FAULT, closes=True) else said(200, SERVING)
                 found += difference(f"{at}: its health", started.asked(HEALTH), health)
     return [*found, "no change stopped"]
@@ -506,7 +506,7 @@ def over_ipv6():
                     found += [f"{address}: 127.0.0.1 is listened on, too"]
             elif BOTH_VERSIONS.read_text() == "0\n":
                 found += difference(f"{address}, an IPv4 client", started.exchange(CLOSING), LAST)
-            found += difference(f"{address}, told to end", started.asked(STOP), said(200, b"stopping\n"))
+            found += difference(f"{address}, the stop", started.asked(STOP), said(200, b"stopping\n"))
             found += difference(f"{address}, the service", started.ended(), (0, b"", started.listening))
     return found
 
@@ -527,7 +527,7 @@ def several():
             found += ["the admin port is on 127.0.0.1, too"]
         words = started.command()
         found += difference("in use", run([it.replace("dss.db", "other.db") for it in words]), (1, b"", SOCKET))
-        found += difference("told to end", started.asked(STOP), said(200, b"stopping\n"))
+        found += difference("the stop", started.asked(STOP), said(200, b"stopping\n"))
         return found + difference("the service", started.ended(), (0, b"", started.listening))
 
 
