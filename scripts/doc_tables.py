@@ -123,9 +123,10 @@ def table_of_bodies(parts):
 
 def schema_in_sql(_parts):
     """Returns the statements that create the tables, a column or a constraint on a line."""
-    texts = [text for file in SQL for text in re.findall(r'"(CREATE (?:[^"\\]|\\\n)*)"', file.read_text())]
-    lines = []
-    for text in (re.sub(r"\\\n\s*", "", it) for it in texts):
+    found = [text for file in SQL for text in re.findall(r'"(CREATE (?:[^"\\]|\\\n)*)"', file.read_text())]
+    # The index of format 1 is also one of format 2. Those of format 2 follow all tables.
+    texts, lines = dict.fromkeys(re.sub(r"\\\n\s*", "", it) for it in found), []
+    for text in sorted(texts, key=lambda it: it.startswith("CREATE INDEX")):
         head, body, end = re.fullmatch(r"(CREATE TABLE \w+) \((.*)\)( STRICT)?|CREATE INDEX .*", text).groups()
         items = re.findall(r"(?:[^,(]|\((?:[^()]|\([^()]*\))*\))+", body.strip()) if head else []
         lines += [f"{head} (", *(f"    {it.strip()}," for it in items[:-1]), f"    {items[-1].strip()}", f"){end};"] if head else [f"{text};"]

@@ -18,8 +18,9 @@ LAYERS = {
     "space in SQL": (("space_sql", "space_rows"), "#e0f2f4", "#23808c"),
     "space in memory": (("space_",), "#fbe6ea", "#b23a55"),
     "admin": (("admin_",), "#f3efd8", "#8f7f1d"),
+    "pool": (("pool_",), "#e9ecf0", "#566273"),
 }
-COLUMNS = "program", "wire", "service and policy", "entities and cells", "space in memory", "space in SQL", "admin"
+COLUMNS = "pool", "program", "wire", "service and policy", "entities and cells", "space in memory", "space in SQL", "admin"
 # a box, what lies between columns and between rows, the margin, and the line of titles
 WIDE, HIGH, BETWEEN, BELOW, MARGIN, TITLE = 122, 26, 46, 20, 28, 30
 # how often each crate is moved nearer its lines

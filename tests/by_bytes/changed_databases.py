@@ -179,16 +179,17 @@ OF_LATER = [
 
 
 class Filled(Room):
-    """A room whose database has the rows of a filled one, in a given format."""
+    """A room whose database has the rows of a filled one, in a given format, made by other statements if they are
+    given."""
 
-    def __init__(self, number):
-        self.number = number
+    def __init__(self, number, text=None):
+        self.number, self.text = number, text
 
     def __enter__(self):
         super().__enter__()
         names = tables.tables_of(tables.FORMATS[self.number])
         rows = {it: ROWS[it] for it in names} | {"meta": [(1, self.number, 8)]}
-        tables.make(self.database, self.number, rows)
+        tables.make(self.database, self.number, rows, self.text)
         self.saved = self.database.read_bytes()
         return self
 
@@ -211,10 +212,11 @@ class Filled(Room):
 
 
 def done_to_it():
-    """Each changed database gives the expected fault and stays as it was. If no fault is expected, it can be read."""
+    """Each changed database gives the expected fault and stays as it was, also in the old order. If no fault is expected,
+    it can be read."""
     found = []
-    for number, done in (1, OF_BOTH), (2, OF_BOTH + OF_LATER):
-        with Filled(number) as room:
+    for number, order, done in (1, None, OF_BOTH), (2, None, OF_BOTH + OF_LATER), (2, tables.OLD_ORDER, OF_BOTH + OF_LATER):
+        with Filled(number, order) as room:
             for text, fault in done:
                 found += room.opened_after(text.split("; "), fault)
     return found

@@ -206,7 +206,7 @@ def of_move(name, fill, told):
 
 def moves():
     """The same for old databases: filled ones, empty ones, one of a killed service, with its log, and what SQLite's
-    `VACUUM` makes of filled ones; with what `upgrade` prints for each."""
+    `VACUUM` makes of filled ones; with what `upgrade` prints for each. Those of format 2 have the old order."""
 
     def first(folder, *rewrites):
         with Filled(1) as room:
@@ -215,13 +215,13 @@ def moves():
             shutil.copy(room.database, folder / "dss.db")
 
     def second(folder, *rewrites):
-        with Filled(2) as room:
-            for rewrite in (tables.without_index, *rewrites):
+        with Filled(2, tables.OLD_ORDER) as room:
+            for rewrite in rewrites:
                 rewrite(room.database)
             shutil.copy(room.database, folder / "dss.db")
 
     def second_of_nothing(folder):
-        tables.make(folder / "dss.db", 2)
+        tables.make(folder / "dss.db", 2, text=tables.OLD_ORDER)
         tables.without_index(folder / "dss.db")
 
     return {
@@ -229,9 +229,10 @@ def moves():
         "a move of nothing": (lambda folder: tables.make(folder / "dss.db", 1), MOVED),
         "a move of what was killed": (lambda folder: unpacked(folder, "killed"), MOVED),
         "a move after VACUUM": (lambda folder: first(folder, vacuumed), MOVED),
-        "an index": (second, HELD),
-        "an index of nothing": (second_of_nothing, HELD),
-        "an index after VACUUM": (lambda folder: second(folder, vacuumed), HELD),
+        "an order": (second, HELD),
+        "an order without the index": (lambda folder: second(folder, tables.without_index), HELD),
+        "an order of nothing": (second_of_nothing, HELD),
+        "an index after VACUUM": (lambda folder: second(folder, tables.without_index, vacuumed), HELD),
     }
 
 

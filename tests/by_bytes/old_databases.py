@@ -1,5 +1,5 @@
 """Databases of format 1 are upgraded to format 2 when they are opened. Those of format 2 that lack its index get it.
-Their contents stay, and nothing else is added.
+Those in the old order get the order of a new one. Their contents stay, and nothing else is added.
 
 The last release that knew no other format made those of tests/data/format_1 from its calls.json: `closed.db` when it
 exited, `killed.db` with its log when it was killed after the last response."""
@@ -22,6 +22,7 @@ from serving import Service
 FOLDER = TOP / "tests" / "data" / "format_1"
 MADE = ("closed", "killed")
 MOVED, HELD = (0, b"format 2, was 1\n", b""), (0, b"format 2\n", b"")
+NOTHING = b"purged 0 intents, 0 constraints, 0 subscriptions\n"
 # Calls that are drawn after an upgrade, subscriptions included.
 MORE, SEED = 60, 5
 
@@ -101,16 +102,22 @@ def moved_wrong(name, before, file):
     return found + ([f"{name}: {sorted(rows)}"] if sorted(rows) != sorted(wanted) else [])
 
 
-def schema_made():
-    """Returns the schema of a database that the program makes."""
+def made_anew():
+    """Returns the schema of a database that the program makes, and the order of its tables and indexes."""
     with Room() as room:
         room.command("report")
-        return tables.schema_in(room.database)
+        return tables.schema_in(room.database), tables.order_in(room.database)
+
+
+def has_mirror(database):
+    """Returns true if the program can mirror a database, without which it purges nothing."""
+    return run([BUILT, "purge", "--db", str(database), "--until", "1"]) == (0, NOTHING, b"")
 
 
 def as_released():
-    """`upgrade` upgrades the release's databases to the schema of a new database. They can be used afterwards."""
-    found, made = [], schema_made()
+    """`upgrade` upgrades the release's databases to the schema and the order of a new database. They have a mirror, and
+    can be used afterwards."""
+    found, (made, order) = [], made_anew()
     for name in MADE:
         with Room() as room:
             unpacked(room.folder.name, name)
@@ -126,6 +133,9 @@ def as_released():
             found += moved_wrong(name, before, room.database)
             schema = tables.schema_in(room.database)
             found += [f"{name}: {schema}, not {made}"] if schema != made else []
+            after = tables.order_in(room.database)
+            found += [f"{name}: {after}, not {order}"] if after != order else []
+            found += [] if has_mirror(room.database) else [f"{name}: no mirror"]
             found += went_on(name, room)
     return found
 
@@ -237,28 +247,89 @@ def of_sqlite():
     return found
 
 
+# A database of each history: its format, whether it lacks the index on naming, and the statements that made it.
+HISTORIES = {
+    "format 1": (1, False, tables.FIRST),
+    "format 2 without the index": (2, True, tables.OLD_ORDER),
+    "format 2 in the old order": (2, False, tables.OLD_ORDER),
+    "format 1 after VACUUM, upgraded by an earlier version": (2, False, tables.MIXED_ORDER),
+    "a new one": (2, False, tables.FORMATS[2]),
+    "a new one without the index": (2, True, tables.FORMATS[2]),
+}
+
+
+def of_history(name, rewrite, made):
+    """Returns what is wrong with a database of a history that SQLite rewrote, or left, when the program opens it. Only
+    a dump keeps it from the order of a new one, since it has the tables by their names."""
+    number, lacks, text = HISTORIES[name]
+    with Filled(number, text) as room:
+        if lacks:
+            tables.without_index(room.database)
+        rewrite(room.database)
+        before, saved = tables.rows_in(room.database), room.database.read_bytes()
+        is_ready = number == 2 and not lacks and (rewrite is not left or name == "a new one")
+        report = room.command("report")
+        found = [f"{report}"] if report[0] else []
+        found += moved_wrong(name, before, room.database) + tables.wrong_in(room.database)
+        schema, order = tables.schema_in(room.database), tables.order_in(room.database)
+        found += [f"{schema}, not {made[0]}"] if schema != made[0] else []
+        found += [f"in order: {order}"] if (order == made[1]) != (rewrite is not dumped) else []
+        found += ["the file was written"] if is_ready and room.database.read_bytes() != saved else []
+        saved = room.database.read_bytes()
+        found += [f"{it}" for it in [room.command("upgrade")] if it != HELD]
+        found += ["the file was written again"] if room.database.read_bytes() != saved else []
+        found += ["another report"] if room.command("report") != report else []
+        found += ["a mirror"] if has_mirror(room.database) != (rewrite is not dumped) else []
+        return found + (of_vacuum(room, made[1], report) if rewrite is not dumped else [])
+
+
+def left(file):
+    """Leaves a file as it is."""
+
+
+def of_vacuum(room, order, report):
+    """Returns what is wrong with a database that SQLite's `VACUUM` rewrote."""
+    vacuumed(room.database)
+    after = tables.order_in(room.database)
+    found = [f"VACUUM: {after}, not {order}"] if after != order else []
+    found += [] if has_mirror(room.database) else ["VACUUM: no mirror"]
+    return found + (["VACUUM: another report"] if room.command("report") != report else [])
+
+
 def of_each_history():
-    """A database without the index of format 2 gets it at its first opening, whichever command that is, and the one of
-    a new database if SQLite did not rewrite it. One that has it is not written. The contents stay."""
-    found, made = [], schema_made()
-    rewrites = {"as it was": lambda file: None, "VACUUM": vacuumed, "dump": dumped}
-    for word, rewrite in rewrites.items():
-        for number, lacks in (1, True), (2, True), (2, False):
-            with Filled(number) as room:
-                if number == 2 and lacks:
-                    tables.without_index(room.database)
-                rewrite(room.database)
-                before, saved = tables.rows_in(room.database), room.database.read_bytes()
-                report = room.command("report")
-                name = f"format {number}, {'without' if lacks else 'with'} the index, {word}"
-                found += [f"{name}: {report}"] if report[0] else []
-                found += moved_wrong(name, before, room.database) + tables.wrong_in(room.database)
-                schema = tables.schema_in(room.database)
-                found += [f"{name}: {schema}, not {made}"] if schema != made else []
-                if not lacks:
-                    found += [] if room.database.read_bytes() == saved else [f"{name}: the file was written"]
-                found += [f"{name}: {it}" for it in [room.command("upgrade")] if it != HELD]
-                found += [f"{name}: another report"] if room.command("report") != report else []
+    """A database without the index of format 2 gets it at its first opening, whichever command that is, and one in the
+    old order that of a new one. Any other is not written. The contents stay. Each has a mirror then, and `VACUUM` keeps
+    the order. What Python dumps is by name: it keeps its order and has no mirror."""
+    found, made = [], made_anew()
+    for name in HISTORIES:
+        for word, rewrite in {"as it was": left, "VACUUM": vacuumed, "dump": dumped}.items():
+            found += [f"{name}, {word}: {it}" for it in of_history(name, rewrite, made)]
+    return found
+
+
+# Statements that add something to tables in the old order: with it, they cannot get the new one.
+BESIDE = (
+    "CREATE TABLE another (number INTEGER) STRICT",
+    "CREATE INDEX another ON entity (serial)",
+    "CREATE VIEW another AS SELECT num FROM entity",
+    "ALTER TABLE availability ADD COLUMN note TEXT",
+)
+
+
+def beside_others():
+    """Tables in the old order keep it beside anything else, and nothing of it is lost. They are accepted without a
+    mirror."""
+    found = []
+    for text in BESIDE:
+        with Filled(2, tables.OLD_ORDER) as room:
+            with tables.opened(room.database) as database:
+                database.execute(text)
+            before, order = tables.rows_in(room.database), tables.order_in(room.database)
+            got = room.command("upgrade")
+            found += [f"{text}: {got}"] if got != HELD else []
+            found += [f"{text}: the rows"] if tables.rows_in(room.database) != before else []
+            found += [f"{text}: the order"] if tables.order_in(room.database) != order else []
+            found += [f"{text}: a mirror"] if has_mirror(room.database) else []
     return found
 
 
@@ -296,6 +367,7 @@ CASES = {
     "old-databases-keep-their-serial": serials,
     "old-databases-that-sqlite-wrote-anew": of_sqlite,
     "old-databases-of-each-history": of_each_history,
+    "old-databases-beside-others": beside_others,
     "old-databases-without-space": without_space,
     "upgrade-of-others": of_others,
 }

@@ -362,9 +362,9 @@ def many(ended=ENDED, staying=STAYING):
     return dict(rows)
 
 
-def made_of(file, rows):
-    """Makes a database with these rows, as the program closes it; returns its rows."""
-    tables.make(file, 2, {it: all_ for it, all_ in rows.items() if it != "meta"})
+def made_of(file, rows, text=None):
+    """Makes a database with these rows, as the program closes it, or from other statements; returns its rows."""
+    tables.make(file, 2, {it: all_ for it, all_ in rows.items() if it != "meta"}, text)
     with tables.opened(file) as database:
         database.execute(f"UPDATE meta SET serial = {rows['meta'][0][2]}")
     run([BUILT, "report", "--db", str(file)])
@@ -518,36 +518,43 @@ def older():
 
 
 def small_file():
-    """The commands of docs/OPERATE.md make a smaller file with the same rows and report, which gets a mirror. One that
-    `VACUUM` made is accepted without a mirror."""
-    text = (TOP / "docs" / "OPERATE.md").read_text().partition("### Shrinking the database file\n")[2]
-    block = re.search(r"(?m)^    \(umask(?:.*\n(?=    ))*.*$", text)[0].replace("./dss", BUILT)
+    """The command of docs/OPERATE.md makes the file smaller, with the same rows and report. It has a mirror, also if an
+    older version made the file. One with another table is accepted without a mirror."""
+    page = (TOP / "docs" / "OPERATE.md").read_text().partition("### Shrinking the database file\n")[2]
+    command = re.search(r"(?m)^    (sqlite3 .*)$", page)[1]
     found = []
-    with PurgeRoom() as room:
-        made_of(room.database, many(4 * ENDED))
-        found += difference("a purge", room.purge(UNTIL)[0], 0)
-        small = room.database.with_name("small.db")
-        found += difference("the commands", run(["bash", "-e", "-c", block], folder=room.folder.name)[::2], (0, b""))
-        found += difference("rows", tables.rows_in(small) == tables.rows_in(room.database), True) + tables.wrong_in(small)
-        reports = [run([BUILT, "report", "--db", str(it)]) for it in (small, room.database)]
-        found += difference("reports", reports[0] == reports[1], True)
-        sizes = [it.stat().st_size for it in (small, room.database)]
-        found += [] if 3 * sizes[0] < sizes[1] else [f"sizes: {sizes}"]
-        found += difference("for others", small.stat().st_mode & 0o077, 0)
-        with tables.opened(room.database) as database:
-            database.execute("VACUUM")
-        found += difference("VACUUM", run([BUILT, "report", "--db", str(room.database)]), reports[0])
-        # This one gets no mirror, without which it does not know what has ended.
-        found += difference("a purge of it", room.purge(UNTIL), (1, b"", NOT_CLOSED))
-        for file, copy in (small, "1"), (room.database, "0"):
-            with AdminService() as started:
-                started.kill()
-                for end in "", "-wal":
-                    started.folder.joinpath(f"dss.db{end}").unlink(missing_ok=True)
-                started.folder.joinpath("dss.db").write_bytes(file.read_bytes())
-                started.start()
-                found += difference(f"a copy of {file.name}", started.counted()["dss_mirror_up"], copy)
+    for text in None, tables.OLD_ORDER:
+        with PurgeRoom() as room:
+            made_of(room.database, many(4 * ENDED), text)
+            found += difference("a purge", room.purge(UNTIL)[0], 0)
+            before = tables.rows_in(room.database), run([BUILT, "report", "--db", str(room.database)])
+            mode, sizes = room.database.stat().st_mode, [room.database.stat().st_size]
+            found += difference("the command", run(["bash", "-e", "-c", command], folder=room.folder.name)[::2], (0, b""))
+            sizes.append(room.database.stat().st_size)
+            after = tables.rows_in(room.database), run([BUILT, "report", "--db", str(room.database)])
+            found += difference("rows and report", after == before, True) + tables.wrong_in(room.database)
+            found += [] if 3 * sizes[1] < sizes[0] else [f"sizes: {sizes}"]
+            found += difference("mode", room.database.stat().st_mode, mode)
+            found += mirrored(room.database, "1")
+            found += difference("a purge after it", room.purge(UNTIL)[::2], (0, b""))
+            with tables.opened(room.database) as database:
+                database.execute("CREATE TABLE another (number INTEGER) STRICT")
+            found += difference("another table", run([BUILT, "report", "--db", str(room.database)])[0], 0)
+            # This one gets no mirror, without which it does not know what has ended.
+            found += difference("a purge of it", room.purge(UNTIL), (1, b"", NOT_CLOSED))
+            found += mirrored(room.database, "0")
     return found
+
+
+def mirrored(file, is_up):
+    """Returns what is wrong if a service over a copy of the file does not tell this of its mirror."""
+    with AdminService() as started:
+        started.kill()
+        for end in "", "-wal":
+            started.folder.joinpath(f"dss.db{end}").unlink(missing_ok=True)
+        started.folder.joinpath("dss.db").write_bytes(file.read_bytes())
+        started.start()
+        return difference(f"a mirror of {file.name}", started.counted()["dss_mirror_up"], is_up)
 
 
 CASES = {

@@ -34,7 +34,7 @@ def at_the_start():
                 given = [*words, option, f"{name}"] if option != "--tokens" else [f"{name}" if it.endswith("tokens.toml") else it for it in words]
                 found += difference(f"{option} {name}", run(given), (1, b"", line))
                 before = FullAndVerbose.preface if option == "--access-log" else b""
-                told = before + cause(name, "not a regular file") + line
+                told = before + line + cause(name, "not a regular file")
                 found += difference(f"{option} {name}, in words", run([*given, "--verbose"]), (1, b"", told))
         text = wire.token_file().encode()
         (folder / "tokens.toml").write_bytes(text + b"#" * (MEBIBYTE - len(text)))

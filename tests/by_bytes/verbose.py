@@ -1,6 +1,5 @@
-"""`serve --verbose` prints more lines before those printed without it.
-
-These are the lines of `tokens --check` about the token file, the limits, and causes."""
+"""`serve --verbose` prints more lines than `serve`: those of `tokens --check` about the token file and the limits before the
+others, and the cause of a fault after its line."""
 import errno
 import fcntl
 import os
@@ -50,7 +49,7 @@ class PortInUse:
 
     def told(self):
         """Returns the lines about that port, with the option."""
-        return cause(f"127.0.0.1:{self.there.getsockname()[1]}", system(errno.EADDRINUSE)) + IN_USE
+        return IN_USE + cause(f"127.0.0.1:{self.there.getsockname()[1]}", system(errno.EADDRINUSE))
 
     def serve(self, text, *options, port=None):
         """Returns the status, the output and the lines of standard error of `serve` with this text of a token file."""
@@ -83,7 +82,7 @@ def cause_of_ipv6_port():
     with PortInUse() as it, socket.create_server(("::1", 0), family=socket.AF_INET6) as taken:
         port = taken.getsockname()[1]
         told = it.serve(wire.token_file(salt="f0" * 32), "--verbose", "--listen", "::1", port=port)
-        wanted = limits() + cause(f"[::1]:{port}", system(errno.EADDRINUSE)) + IN_USE
+        wanted = limits() + IN_USE + cause(f"[::1]:{port}", system(errno.EADDRINUSE))
         return difference("[::1]", told, (1, b"", wanted))
 
 
@@ -112,8 +111,7 @@ def held(path):
 
 
 def causes():
-    """Before the line of a fault at the start, a line says where it occurred, and why. Without the option there is
-    none."""
+    """After the line of a fault at the start, a line says where it occurred, and why. Without the option there is none."""
     text = wire.token_file(salt="f0" * 32)
     found = []
     with tempfile.TemporaryDirectory() as room:
@@ -141,7 +139,7 @@ def causes():
             status, output, error = run(words)
             found += difference(f"{words}", (status, output, error.decode()), (1, b"", last))
             status, output, error = run([*words, "--verbose"])
-            found += difference(f"{words}, --verbose", (status, output, error.decode()), (1, b"", before + told + last))
+            found += difference(f"{words}, --verbose", (status, output, error.decode()), (1, b"", before + last + told))
         os.close(descriptor)
     return found
 
@@ -164,10 +162,10 @@ def start_without_memory():
             for megabytes in TOO_LITTLE:
                 limited = ["prlimit", f"--as={megabytes << 20}", *words]
                 found += difference(f"{megabytes} MB", run(limited), (1, b"", OF_STORE.encode()))
-                wanted = (1, b"", (limits() + told + OF_STORE).encode())
+                wanted = (1, b"", (limits() + OF_STORE + told).encode())
                 found += difference(f"{megabytes} MB, --verbose", run([*limited, "--verbose"]), wanted)
             found += difference("the file", database.read_bytes() == before, True)
-            in_use = cause(f"127.0.0.1:{port}", system(errno.EADDRINUSE)) + IN_USE
+            in_use = IN_USE + cause(f"127.0.0.1:{port}", system(errno.EADDRINUSE))
             enough = run([*words, "--verbose"])
             return found + difference("enough", enough, (1, b"", (limits() + in_use).encode()))
 

@@ -4,7 +4,7 @@ import re
 import sqlite3
 
 # The tables of format 1, those that format 2 added, and the index of a later version of format 2, in the order in which
-# the program makes them.
+# versions before 0.7.0 made them: each index follows its table.
 FIRST = """
 CREATE TABLE meta (one INTEGER PRIMARY KEY NOT NULL CHECK (one = 1), format INTEGER NOT NULL,
   serial INTEGER NOT NULL CHECK (serial >= 0)) STRICT;
@@ -54,9 +54,18 @@ def tables_of(text):
     return [name for name, it in named(text).items() if it.startswith("CREATE TABLE")]
 
 
+def indexes_last(text):
+    """Returns the same statements, those that make indexes last. `VACUUM` leaves this order."""
+    return "".join(f"{it};\n" for it in sorted(statements(text), key=lambda it: it.startswith("CREATE INDEX")))
+
+
 FIRST_TABLES, LATER_TABLES = tables_of(FIRST), tables_of(LATER)
 TABLES = FIRST_TABLES + LATER_TABLES
-FORMATS = {1: FIRST, 2: FIRST + LATER + INDEX}
+# Format 2 as versions before 0.7.0 made it, and as they made it of format 1 after `VACUUM`; and both formats as they are
+# made.
+OLD_ORDER = FIRST + LATER + INDEX
+MIXED_ORDER = indexes_last(FIRST) + LATER + INDEX
+FORMATS = {1: FIRST, 2: indexes_last(OLD_ORDER)}
 
 
 @contextlib.contextmanager
@@ -80,12 +89,12 @@ def unguarded(file):
         yield database
 
 
-def make(file, number, rows=None):
+def make(file, number, rows=None, text=None):
     """Makes a file with the tables of a format, and with rows by table in addition to that of meta; with a log, as the
-    program makes it."""
+    program makes it, or from other statements."""
     with opened(file) as database:
         database.execute("PRAGMA journal_mode = WAL")
-        for statement in statements(FORMATS[number]):
+        for statement in statements(text or FORMATS[number]):
             database.execute(statement)
         for table, all_ in ({"meta": [(1, number, 0)]} | (rows or {})).items():
             for row in all_:
@@ -119,6 +128,12 @@ def schema_in(file):
     """Returns SQLite's statements for tables and indexes, without blanks, by the names."""
     with opened(file) as database:
         return {name: "".join(text.split()) for name, text in database.execute("SELECT name, sql FROM sqlite_schema WHERE sql NOT NULL")}
+
+
+def order_in(file):
+    """Returns the names of tables and indexes, those of keys too, with their rowids, on which their order depends."""
+    with opened(file) as database:
+        return database.execute("SELECT rowid, name FROM sqlite_schema ORDER BY rowid").fetchall()
 
 
 def wrong_in(file):

@@ -1,6 +1,6 @@
 //! The command `serve`: connections to a port of this machine, many at once.
 use crate::backups::PortBackups;
-use crate::causes::Causes;
+use crate::cause::Cause;
 use crate::clock::SystemClock;
 use crate::descriptors::max_clients;
 use crate::log_file::SystemLog;
@@ -47,14 +47,14 @@ fn limits_of(rt: &HostRuntime, given: &ServeArgs<'_>) -> Limits {
     }
 }
 
-// The ports of this system, its log, the maker of backups, and the printer of causes.
+// The ports of this system, its log, the maker of backups, and the record of a cause.
 #[derive(Drop)]
 struct Ports<'a> {
     rt: &'a HostRuntime,
     log: Option<SystemLog<'a>>,
     backups: Option<PortBackups<'a>>,
     database: &'a str,
-    causes: Causes<'a>,
+    cause: &'a mut Cause,
 }
 
 impl<'a> Listen for Ports<'a> {
@@ -82,9 +82,9 @@ impl<'a> Listen for Ports<'a> {
             log: _,
             backups: _,
             database,
-            causes,
+            cause,
         } = self;
-        PortSockets::listen(rt, addresses, operators, database, causes)
+        PortSockets::listen(rt, addresses, operators, database, cause)
     }
 }
 
@@ -102,16 +102,16 @@ fn operated(rt: &HostRuntime, given: &ServeArgs<'_>) -> Option<AdminListener> {
 fn backups_of<'a>(
     rt: &'a HostRuntime,
     given: &ServeArgs<'_>,
-    causes: Causes<'_>,
+    cause: &mut Cause,
 ) -> Result<Option<PortBackups<'a>>, Fault> {
     let Some(folder) = given.backup_dir else {
         return Ok(None);
     };
     match BackupDir::new(rt, given.database, folder) {
         Ok(folder) => Ok(Some(PortBackups { folder })),
-        Err(cause) => {
-            causes.print_cause(folder, &cause);
-            Err(io_fault(&cause, Fault::Copy(BackupFault::Write)))
+        Err(error) => {
+            cause.record_file(folder, &error);
+            Err(io_fault(&error, Fault::Copy(BackupFault::Write)))
         }
     }
 }
@@ -140,14 +140,14 @@ fn last_change(rt: &HostRuntime, database: &str) -> Option<u64> {
 fn tokens_of<E: Write>(
     rt: &HostRuntime,
     given: &ServeArgs<'_>,
-    causes: Causes<'_>,
+    cause: &mut Cause,
     error: &mut E,
 ) -> Result<(String, TokenTable), Fault> {
     let text = match served_token_text(rt, given.tokens) {
         Ok(text) => text,
-        Err(cause) => {
-            causes.print_cause(given.tokens, &cause);
-            return Err(io_fault(&cause, Fault::TokensUnread));
+        Err(error) => {
+            cause.record_file(given.tokens, &error);
+            return Err(io_fault(&error, Fault::TokensUnread));
         }
     };
     if given.verbose {
@@ -164,16 +164,16 @@ fn tokens_of<E: Write>(
 fn log_of<'a>(
     rt: &'a HostRuntime,
     given: &ServeArgs<'a>,
-    causes: Causes<'_>,
+    cause: &mut Cause,
 ) -> Result<Option<SystemLog<'a>>, Fault> {
     let Some(name) = given.access_log else {
         return Ok(None);
     };
     match SystemLog::open(rt, name) {
         Ok(log) => Ok(Some(log)),
-        Err(cause) => {
-            causes.print_cause(name, &cause);
-            Err(io_fault(&cause, Fault::Output))
+        Err(error) => {
+            cause.record_file(name, &error);
+            Err(io_fault(&error, Fault::Output))
         }
     }
 }
@@ -183,12 +183,15 @@ pub(crate) fn serve<F: Start, E: Write>(
     rt: &HostRuntime,
     given: &ServeArgs<'_>,
     start: F,
+    cause: &mut Cause,
     error: &mut E,
 ) -> Result<(), Fault> {
-    let causes = Causes::new(rt, given.verbose);
-    let (text, tokens) = tokens_of(rt, given, causes, error)?;
+    if given.verbose {
+        cause.request();
+    }
+    let (text, tokens) = tokens_of(rt, given, cause, error)?;
     let salt = salt_of(&tokens)?;
-    let log = log_of(rt, given, causes)?;
+    let log = log_of(rt, given, cause)?;
     let changed = last_change(rt, given.database);
     let (space, listed) = match open_database(rt, given.database, start) {
         Ok(taken) => taken,
@@ -196,11 +199,11 @@ pub(crate) fn serve<F: Start, E: Write>(
             // Drops the files first. Otherwise `dss` would report their locks as those of another
             // process.
             let fault = Fault::from(failure);
-            causes.print_database_cause(given.database, &fault);
+            cause.record_database(rt, given.database, &fault);
             return Err(fault);
         }
     };
-    let backups = match backups_of(rt, given, causes) {
+    let backups = match backups_of(rt, given, cause) {
         Ok(backups) => backups,
         Err(fault) => {
             let _files = close_database(Err(fault), space)?;
@@ -228,7 +231,7 @@ pub(crate) fn serve<F: Start, E: Write>(
         log,
         backups,
         database: given.database,
-        causes,
+        cause,
     };
     let _files = files::serve(
         rt.alloc(),

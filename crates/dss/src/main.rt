@@ -3,7 +3,7 @@
 
 mod backup;
 mod backups;
-mod causes;
+mod cause;
 mod clock;
 mod connections;
 mod copying;
@@ -20,6 +20,7 @@ mod sockets;
 mod tokens;
 mod tokens_command;
 
+use crate::cause::Cause;
 use crate::program::Program;
 use dss_command::line::run_line;
 use sqlite::Unknown;
@@ -37,15 +38,22 @@ fn run_args(rt: &HostRuntime) -> io::Result<u8> {
     for word in &owned {
         words.push(word.as_str())?;
     }
-    let program = Program { rt, start: Unknown };
-    Ok(run_line(
+    let mut cause = Cause::new(rt.alloc());
+    let program = Program {
+        rt,
+        start: Unknown,
+        cause: &mut cause,
+    };
+    let status = run_line(
         rt.alloc(),
         words.as_slice(),
         program,
         &mut Counted::new(rt.reader()),
         &mut Counted::new(io::writer(rt)),
         &mut rt.stderr(),
-    ))
+    );
+    cause.print(rt);
+    Ok(status)
 }
 
 // Prints one line that says why the command line cannot be read, and returns the exit status.

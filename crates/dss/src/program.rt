@@ -1,4 +1,5 @@
 //! The commands on this system.
+use crate::cause::Cause;
 use crate::loopback::{self, SelfArgs};
 use crate::run::{self, RunArgs};
 use crate::{backup, connections, live, purge, tokens_command};
@@ -10,11 +11,13 @@ use sqlite::{Start, Wary};
 use std::io::{Read, Write};
 use wire_http::Counted;
 
-/// The system, and the representation of any contents of a database's file and log.
+/// The system, the representation of any contents of a database's file and log, and the record of
+/// the cause of a fault.
 #[derive(Drop)]
 pub(crate) struct Program<'a, F: Start> {
     pub(crate) rt: &'a HostRuntime,
     pub(crate) start: F,
+    pub(crate) cause: &'a mut Cause,
 }
 
 impl<'a, F: Start> Commands for Program<'a, F> {
@@ -30,7 +33,7 @@ impl<'a, F: Start> Commands for Program<'a, F> {
         input: &mut Counted<R>,
         output: &mut Counted<W>,
     ) -> Result<(), Fault> {
-        let Program { rt, start } = self;
+        let Program { rt, start, .. } = self;
         let given = RunArgs {
             tokens,
             now,
@@ -41,11 +44,11 @@ impl<'a, F: Start> Commands for Program<'a, F> {
     }
 
     fn serve<E: Write>(self, given: ServeArgs<'_>, error: &mut E) -> Result<(), Fault> {
-        let Program { rt, start } = self;
+        let Program { rt, start, cause } = self;
         if given.double_sync {
-            return connections::serve(rt, &given, Wary, error);
+            return connections::serve(rt, &given, Wary, cause, error);
         }
-        connections::serve(rt, &given, start, error)
+        connections::serve(rt, &given, start, cause, error)
     }
 
     fn loop_back<R: Read, W: Write>(
@@ -65,13 +68,13 @@ impl<'a, F: Start> Commands for Program<'a, F> {
     }
 
     fn report<W: Write>(self, database: &str, places: bool, output: &mut W) -> Result<(), Fault> {
-        let Program { rt, start } = self;
+        let Program { rt, start, .. } = self;
         let _files = files::report(rt, database, start, places, output)?;
         Ok(())
     }
 
     fn backup(self, database: &str, to: &str, live: bool) -> Result<(), Fault> {
-        let Program { rt, start } = self;
+        let Program { rt, start, .. } = self;
         if live {
             return live::back_up(rt, database, to);
         }
@@ -83,7 +86,7 @@ impl<'a, F: Start> Commands for Program<'a, F> {
     }
 
     fn upgrade<W: Write>(self, database: &str, output: &mut W) -> Result<(), Fault> {
-        let Program { rt, start } = self;
+        let Program { rt, start, .. } = self;
         let _files = files::upgrade(rt, database, start, output)?;
         Ok(())
     }
@@ -95,7 +98,7 @@ impl<'a, F: Start> Commands for Program<'a, F> {
         now: Option<u64>,
         output: &mut W,
     ) -> Result<(), Fault> {
-        let Program { rt, start } = self;
+        let Program { rt, start, .. } = self;
         purge::purge(rt, database, until, now, start, output)
     }
 

@@ -1,5 +1,5 @@
 //! The sockets of the system, watched together.
-use crate::causes::Causes;
+use crate::cause::Cause;
 use crate::machine::machine_metrics;
 use admin_http::machine::MachineMetrics;
 use mio::event::Event;
@@ -86,6 +86,7 @@ pub(crate) struct PortSockets<'a> {
     taken: usize,
     // The name of the database file.
     database: &'a str,
+    cause: &'a mut Cause,
 }
 
 // Returns the source of events with that token.
@@ -108,19 +109,19 @@ fn token_of(which: EventSource) -> usize {
     }
 }
 
-// Opens a watched listener on a port of an address. Prints the system's error if that fails.
+// Opens a watched listener on a port of an address. Records the system's error if that fails.
 fn listener_on(
     rt: &HostRuntime,
     poll: &Poll,
     address: SocketAddr,
     which: EventSource,
-    causes: Causes<'_>,
+    cause: &mut Cause,
 ) -> io::Result<TcpListener> {
     let mut listener = match TcpListener::bind(rt, address) {
         Ok(listener) => listener,
-        Err(cause) => {
-            causes.print_port_cause(address, &cause);
-            return Err(cause);
+        Err(error) => {
+            cause.record_port(address, &error);
+            return Err(error);
         }
     };
     let token = Token(token_of(which));
@@ -129,14 +130,25 @@ fn listener_on(
     Ok(listener)
 }
 
-// Accepts the next connection of a listener.
-fn accept_stream(listener: &TcpListener) -> Result<(TcpStream, SocketAddr), AcceptFault> {
+// Accepts the next connection of a listener. Records the system's error if `serve` ends with it.
+fn accept_stream(
+    listener: &TcpListener,
+    cause: &mut Cause,
+) -> Result<(TcpStream, SocketAddr), AcceptFault> {
     match listener.accept() {
         Ok((stream, address)) => {
             let _ = stream.set_nodelay(true);
             Ok((stream, address))
         }
-        Err(cause) => Err(accept_fault(cause)),
+        Err(error) => {
+            let fault = accept_fault(error);
+            if let AcceptFault::Failed(error) = &fault
+                && let Ok(address) = listener.local_addr()
+            {
+                cause.record_port(address, error);
+            }
+            Err(fault)
+        }
     }
 }
 
@@ -171,16 +183,16 @@ impl<'a> PortSockets<'a> {
         addresses: &[SocketAddr],
         operators: Option<SocketAddr>,
         database: &'a str,
-        causes: Causes<'a>,
+        cause: &'a mut Cause,
     ) -> io::Result<PortSockets<'a>> {
         let poll = Poll::new(rt)?;
         let mut listeners = Vec::with_capacity(rt.alloc(), addresses.len())?;
         for address in addresses {
-            let listener = listener_on(rt, &poll, *address, EventSource::Port, causes)?;
+            let listener = listener_on(rt, &poll, *address, EventSource::Port, cause)?;
             listeners.push(listener)?;
         }
         let operators = match operators {
-            Some(address) => Some(listener_on(rt, &poll, address, EventSource::AdminPort, causes)?),
+            Some(address) => Some(listener_on(rt, &poll, address, EventSource::AdminPort, cause)?),
             None => None,
         };
         Ok(PortSockets {
@@ -194,6 +206,7 @@ impl<'a> PortSockets<'a> {
             ready: Vec::with_capacity(rt.alloc(), EVENTS)?,
             taken: 0,
             database,
+            cause,
         })
     }
 }
@@ -206,7 +219,7 @@ impl<'a> PortSockets<'a> {
         self.turn = if next < self.listeners.len() { next } else { 0 };
         match self.listeners.get(turn) {
             Some(listener) => {
-                let (stream, address) = accept_stream(listener)?;
+                let (stream, address) = accept_stream(listener, self.cause)?;
                 Ok(Client { stream, address })
             }
             None => Err(AcceptFault::NoneWaits),
@@ -261,7 +274,7 @@ impl<'a> Sockets for PortSockets<'a> {
     fn accept_admin(&mut self) -> Result<Admin, AcceptFault> {
         match &self.operators {
             Some(listener) => {
-                let (stream, _) = accept_stream(listener)?;
+                let (stream, _) = accept_stream(listener, self.cause)?;
                 Ok(Admin { stream })
             }
             None => Err(AcceptFault::NoneWaits),

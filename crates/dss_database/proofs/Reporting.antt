@@ -1,6 +1,6 @@
 -- Properties of a space are properties of the files from which it was opened.
-use Rattle.std.proofs.Common.{◌≡◌, ℕ, Bool, true, false, List, Option, refl, sym, subst, inl, inr, ◌∙◌}
-use Rattle.std.specs.Prelude.{◌↔◌, ◌⊎◌, IsTrue, IfErr, IfOk, IsErrAnd, OnOk, Result, Ok, Err, codes, if◌then◌else◌}
+use Rattle.std.proofs.Common.{◌≡◌, ℕ, Bool, true, false, List, Option, refl, sym, ap, subst, inl, inr, ◌∙◌}
+use Rattle.std.specs.Prelude.{◌⊎◌, IfErr, IfOk, IsErrAnd, OnOk, Result, Ok, Err, codes, if◌then◌else◌}
 use Rattle.std.proofs.Math.Logic.{∥∥₁_map}
 use Rattle.std.specs.Io.KnownBytes.{Appends}
 use Rattle.sqlite_disk.specs.declared.Disk as disk
@@ -13,12 +13,13 @@ use Rattle.service_recovery.specs.Life.{StandFor}
 use Rattle.service_recovery.proofs.Lives.{content_found}
 use Rattle.space_core.specs.declared.space.Space as spaces
 use Rattle.space_sql.specs.Found.{FilesSpell, FindsSpelt}
+use Rattle.space_sql.specs.OpenResult.{is_first}
 use Rattle.space_sql.specs.Holding.{SqlSpaceModel, holds_of, is_sound_of, is_whole_of}
 use Rattle.space_sql.specs.Restart.{ClosesFiles, without_log}
 use Rattle.space_sql.specs.declared.left_files.LeftFiles.{LeftFiles}
 use Rattle.space_sql.specs.declared.left_files.LeftFiles.TheVariants.{Nothing, Closed, Unclosed}
 use Rattle.space_sql_schema.specs.declared.format.Format.{Format}
-use Rattle.space_sql_schema.specs.declared.format.Format.TheVariants.{One, TwoUnindexed, Two}
+use Rattle.space_sql_schema.specs.declared.format.Format.TheVariants.{One, TwoUnindexed, Two, OldOne, OldTwoUnindexed, OldTwo}
 use Rattle.dss_command.specs.Print.{WritesReport}
 use Rattle.dss_command.specs.declared.fault.Fault.{Fault}
 use Rattle.dss_command.specs.declared.fault.Fault.TheVariants.{DatabaseFailed, Memory, Output}
@@ -92,14 +93,14 @@ stand_only space P over k (Unclosed last) keeps known = λ clean.
     )
 
 -- The line that says if a space had format 1 is the line of the format.
-line_told : (upgraded : Bool) (format : Format) → (IsTrue upgraded ↔ (format ≡ One))
+line_told : (upgraded : Bool) (format : Format) → upgraded ≡ is_first format
     → (if upgraded then codes "format 2, was 1\n" else codes "format 2\n") ≡ format_line format
-line_told true One tells = refl
-line_told true TwoUnindexed tells = let wrong : TwoUnindexed ≡ One = tells.0 refl in cc
-line_told true Two tells = let wrong : Two ≡ One = tells.0 refl in cc
-line_told false One tells = let wrong : false ≡ true = tells.1 refl in cc
-line_told false TwoUnindexed tells = refl
-line_told false Two tells = refl
+line_told upgraded One tells = ap (λ (b : Bool). if b then codes "format 2, was 1\n" else codes "format 2\n") tells
+line_told upgraded TwoUnindexed tells = ap (λ (b : Bool). if b then codes "format 2, was 1\n" else codes "format 2\n") tells
+line_told upgraded Two tells = ap (λ (b : Bool). if b then codes "format 2, was 1\n" else codes "format 2\n") tells
+line_told upgraded OldOne tells = ap (λ (b : Bool). if b then codes "format 2, was 1\n" else codes "format 2\n") tells
+line_told upgraded OldTwoUnindexed tells = ap (λ (b : Bool). if b then codes "format 2, was 1\n" else codes "format 2\n") tells
+line_told upgraded OldTwo tells = ap (λ (b : Bool). if b then codes "format 2, was 1\n" else codes "format 2\n") tells
 
 module _ {D : Type 0} {g : disk.Ghosts D} (space : spaces.Ghosts (SqlSpaceModel (FileStore D g))) (image : Image) (before after : Option (List ℕ)) where
   -- Closed files represent the only airspace that the space may hold.
@@ -148,7 +149,7 @@ module _ {D : Type 0} {g : disk.Ghosts D} (space : spaces.Ghosts (SqlSpaceModel 
       → Appends before after (if upgraded then codes "format 2, was 1\n" else codes "format 2\n") → IsOver space → UpgradesFiles g image before after files
   upgrade_told k files upgraded same finds closes told over = record {
     told = λ clean format a spelt.
-        let tells : IsTrue upgraded ↔ (format ≡ One) = subst (λ (b : Bool). IsTrue b ↔ (format ≡ One)) (sym same) (finds.upgraded (over.sound k (closes.sound clean)) format a spelt) in
+        let tells : upgraded ≡ is_first format = same ∙ (finds.upgraded (over.sound k (closes.sound clean)) format a spelt) in
         subst (λ (line : List ℕ). Appends before after line) (line_told upgraded format tells) told;
     made = λ clean none.
         let no : upgraded ≡ false = same ∙ finds.made (over.sound k (closes.sound clean)) none in

@@ -31,7 +31,7 @@ use Rattle.space_sql.specs.declared.failed_open.FailedOpen.{FailedOpen}
 use Rattle.space_sql.specs.declared.left_files.LeftFiles.{LeftFiles}
 use Rattle.space_sql.specs.declared.left_files.LeftFiles.TheVariants.{Nothing, Closed, Unclosed}
 use Rattle.space_sql_schema.specs.declared.format.Format.{Format}
-use Rattle.space_sql_schema.specs.declared.format.Format.TheVariants.{One, TwoUnindexed, Two}
+use Rattle.space_sql_schema.specs.declared.format.Format.TheVariants.{One, TwoUnindexed, Two, OldOne, OldTwoUnindexed, OldTwo}
 use Rattle.token_conf.specs.TokenFile.{TokenFile}
 use Rattle.wire_http.specs.declared.moments.Moments as moments
 use Rattle.dss_command.specs.Print.{WritesReport, purged_line}
@@ -49,6 +49,9 @@ abbrev pub format_line : Format → List ℕ
 format_line One = codes "format 2, was 1\n"
 format_line TwoUnindexed = codes "format 2\n"
 format_line Two = codes "format 2\n"
+format_line OldOne = codes "format 2, was 1\n"
+format_line OldTwoUnindexed = codes "format 2\n"
+format_line OldTwo = codes "format 2\n"
 
 -- Holds if the database could not be opened.
 abbrev pub IsRefusal : Fault → Type 0

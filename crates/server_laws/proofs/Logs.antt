@@ -29,7 +29,7 @@ use Rattle.server_client.specs.ClientState.{Aborts, ClientState, ClientStep, Dis
 use Rattle.server_client.specs.CommitRecord.{number_of, outcome_of}
 use Rattle.server_client.proofs.Accounts as accounts
 use Rattle.server_client.proofs.CallOrders as orders
-use Rattle.server_laws.specs.Clients.{ClientResponse, HasEnded, HasOutcome, IsDeferred, IsDropped, IsReleased, IsTold, IsToldBy, LastResponse, ReleasedResponse, deferred_text, is_to, last_text, ordered_by, ordered_by_step, outcome_by, outcomes_in, received_by, received_by_step, released_text, responses_to, sent_by, sent_by_step, text_of, text_of_released, unreleased}
+use Rattle.server_laws.specs.Clients.{ClientResponse, HasEnded, HasOutcome, IsDeferred, IsDropped, IsReleased, IsReleasedAfterCommit, HasOutcomeIfDeferred, LastResponse, ReleasedResponse, deferred_text, is_to, last_text, ordered_by, ordered_by_step, outcome_by, outcomes_in, received_by, received_by_step, released_text, responses_to, sent_by, sent_by_step, text_of, text_of_released, unreleased}
 use Rattle.server_laws.specs.Acts.{Act, Answers, EndsBatch, PurgesUpTo, acts_of_client, acts_of_clients}
 
 abbrev pub Outcome : Type 0
@@ -74,7 +74,7 @@ pub record HasLog (name base : ℕ) (outcomes : List Outcome) (log : Log) (l : C
   pub order : IsInOrder log.received log.ordered l
   pub last_is : IsLastOf base outcomes log.last l
   pub responses_are : log.responses ≡ map response_of log.released ++ unreleased log.last
-  pub told : AllByRecursion (IsTold outcomes) log.released
+  pub in_time : AllByRecursion (IsReleasedAfterCommit outcomes) log.released
 
 -- Holds if this is the record after commits with these outcomes.
 pub record IsRecordOf (base : ℕ) (outcomes : List Outcome) (commit : CommitRecord) : Type 0 where
@@ -154,9 +154,9 @@ last_alike base outcomes (HasEnded end) l l' slot batch done h = (slot ∙ h.0, 
 last_alike base outcomes (IsDropped r) l l' slot batch done h = (slot ∙ h.0, done h.1)
 
 -- A commit changes nothing of a client without a deferred response.
-nothing_told : (outcome : Outcome) (l : ClientState) (a : Account) → l.slot ≡ None → a.deferred ≡ [] → after_outcome outcome l a ≡ a
-nothing_told (Ok x) l a none empty = λ i. record { sent = a.sent; released = (ap (λ v. a.released ++ v) empty ∙ append-nil a.released) i; deferred = sym empty i }
-nothing_told (Err fault) l a none empty = λ i. record {
+no_deferred_outcome : (outcome : Outcome) (l : ClientState) (a : Account) → l.slot ≡ None → a.deferred ≡ [] → after_outcome outcome l a ≡ a
+no_deferred_outcome (Ok x) l a none empty = λ i. record { sent = a.sent; released = (ap (λ v. a.released ++ v) empty ∙ append-nil a.released) i; deferred = sym empty i }
+no_deferred_outcome (Err fault) l a none empty = λ i. record {
   sent = a.sent;
   released = (ap (λ v. a.released ++ text_at v (reply_of (halts.Space fault))) none ∙ append-nil a.released) i;
   deferred = sym empty i;
@@ -166,15 +166,15 @@ nothing_told (Err fault) l a none empty = λ i. record {
 text_is : (r : ClientResponse) (outcome : Outcome) → r.call.waits ≡ true → released_text r.call true outcome ≡ text_of_released (record { response = r; outcome = outcome })
 text_is r outcome waits = ap (λ b. released_text r.call b outcome) (sym waits)
 
-response_told : (outcome : Outcome) (l : ClientState) (sent : List ℕ) (released : List ReleasedResponse) (r : ClientResponse) → l.slot ≡ Some (slot_for r.call.asked) → r.call.waits ≡ true
+response_outcome : (outcome : Outcome) (l : ClientState) (sent : List ℕ) (released : List ReleasedResponse) (r : ClientResponse) → l.slot ≡ Some (slot_for r.call.asked) → r.call.waits ≡ true
     → after_outcome outcome l (record { sent = sent; released = flat_map text_of_released released ++ []; deferred = text_of r.call })
     ≡ record { sent = sent; released = flat_map text_of_released (released ++ record { response = r; outcome = outcome } ∷ []) ++ []; deferred = [] }
-response_told (Ok x) l sent released r slot waits = λ i. record {
+response_outcome (Ok x) l sent released r slot waits = λ i. record {
   sent = sent;
   released = (ap (λ v. (flat_map text_of_released released ++ []) ++ v) (text_is r (Ok x) waits) ∙ texts_then released (record { response = r; outcome = Ok x })) i;
   deferred = [];
 }
-response_told (Err fault) l sent released r slot waits = λ i. record {
+response_outcome (Err fault) l sent released r slot waits = λ i. record {
   sent = sent;
   released = (ap (λ v. (flat_map text_of_released released ++ []) ++ text_at v (reply_of (halts.Space fault))) slot
       ∙ ap (λ v. (flat_map text_of_released released ++ []) ++ v) (text_is r (Err fault) waits) ∙ texts_then released (record { response = r; outcome = Err fault })) i;
@@ -203,11 +203,11 @@ module _ (name base : ℕ) (outcomes : List Outcome) (commit : CommitRecord) (is
       → Grows name base outcomes (record { sent = sent; received = received; ordered = ordered; responses = responses; released = released; last = last }) [] [] [] [] l'
   releases IsReleased sent received ordered responses released l l' p h = grows_still (record { sent = sent; received = received; ordered = ordered; responses = responses; released = released; last = IsReleased }) l' (record {
     name_is = ap (λ v. v.name) h.2 ∙ name_after (outcome_of commit) l ∙ p.name_is;
-    account = subst (λ (a : Account). IsAccountOf a l') (nothing_told (outcome_of commit) l _ p.last_is refl) (accounts.step commit Releases l l' _ p.account h);
+    account = subst (λ (a : Account). IsAccountOf a l') (no_deferred_outcome (outcome_of commit) l _ p.last_is refl) (accounts.step commit Releases l l' _ p.account h);
     order = orders.step commit Releases l l' received ordered p.order h;
     last_is = ap (λ v. v.slot) h.2 ∙ slot_after (outcome_of commit) l;
     responses_are = p.responses_are;
-    told = p.told;
+    in_time = p.in_time;
   })
   releases (IsDeferred r) sent received ordered responses released l l' p h =
       let outcome = outcome_of commit in
@@ -216,12 +216,12 @@ module _ (name base : ℕ) (outcomes : List Outcome) (commit : CommitRecord) (is
         log' = record { sent = sent; received = received; ordered = ordered; responses = responses; released = released ++ now ∷ []; last = IsReleased };
         has = record {
           name_is = ap (λ v. v.name) h.2 ∙ name_after outcome l ∙ p.name_is;
-          account = subst (λ (a : Account). IsAccountOf a l') (response_told outcome l sent released r p.last_is.0 p.last_is.3) (accounts.step commit Releases l l' _ p.account h);
+          account = subst (λ (a : Account). IsAccountOf a l') (response_outcome outcome l sent released r p.last_is.0 p.last_is.3) (accounts.step commit Releases l l' _ p.account h);
           order = orders.step commit Releases l l' received ordered p.order h;
           last_is = ap (λ v. v.slot) h.2 ∙ slot_after outcome l;
           responses_are = responses_then responses released now r p.responses_are refl;
-          told = all_then (IsTold outcomes) released now p.told
-              (subst (λ (b : Bool). IsToldBy outcomes r.commits b outcome) (sym p.last_is.3) (outcome_is base outcomes commit l.batch r.commits is h.1 p.last_is.1 h.0));
+          in_time = all_then (IsReleasedAfterCommit outcomes) released now p.in_time
+              (subst (λ (b : Bool). HasOutcomeIfDeferred outcomes r.commits b outcome) (sym p.last_is.3) (outcome_is base outcomes commit l.batch r.commits is h.1 p.last_is.1 h.0));
         };
         sent_is = sym (append-nil sent);
         received_is = sym (append-nil received);
@@ -230,19 +230,19 @@ module _ (name base : ℕ) (outcomes : List Outcome) (commit : CommitRecord) (is
       }
   releases (HasEnded end) sent received ordered responses released l l' p h = grows_still (record { sent = sent; received = received; ordered = ordered; responses = responses; released = released; last = HasEnded end }) l' (record {
     name_is = ap (λ v. v.name) h.2 ∙ name_after (outcome_of commit) l ∙ p.name_is;
-    account = subst (λ (a : Account). IsAccountOf a l') (nothing_told (outcome_of commit) l _ p.last_is.0 refl) (accounts.step commit Releases l l' _ p.account h);
+    account = subst (λ (a : Account). IsAccountOf a l') (no_deferred_outcome (outcome_of commit) l _ p.last_is.0 refl) (accounts.step commit Releases l l' _ p.account h);
     order = orders.step commit Releases l l' received ordered p.order h;
     last_is = (ap (λ v. v.slot) h.2 ∙ slot_after (outcome_of commit) l, ap (λ v. v.done) h.2 ∙ done_after (outcome_of commit) l ∙ p.last_is.1);
     responses_are = p.responses_are;
-    told = p.told;
+    in_time = p.in_time;
   })
   releases (IsDropped r) sent received ordered responses released l l' p h = grows_still (record { sent = sent; received = received; ordered = ordered; responses = responses; released = released; last = IsDropped r }) l' (record {
     name_is = ap (λ v. v.name) h.2 ∙ name_after (outcome_of commit) l ∙ p.name_is;
-    account = subst (λ (a : Account). IsAccountOf a l') (nothing_told (outcome_of commit) l _ p.last_is.0 refl) (accounts.step commit Releases l l' _ p.account h);
+    account = subst (λ (a : Account). IsAccountOf a l') (no_deferred_outcome (outcome_of commit) l _ p.last_is.0 refl) (accounts.step commit Releases l l' _ p.account h);
     order = orders.step commit Releases l l' received ordered p.order h;
     last_is = (ap (λ v. v.slot) h.2 ∙ slot_after (outcome_of commit) l, ap (λ v. v.done) h.2 ∙ done_after (outcome_of commit) l ∙ p.last_is.1);
     responses_are = p.responses_are;
-    told = p.told;
+    in_time = p.in_time;
   })
 
   drops : (last : LastResponse) (sent received : List ℕ) (ordered : List OrderedEvent) (responses : List ClientResponse) (released : List ReleasedResponse) (l l' : ClientState)
@@ -254,7 +254,7 @@ module _ (name base : ℕ) (outcomes : List Outcome) (commit : CommitRecord) (is
     order = orders.step commit Drops l l' received ordered p.order h;
     last_is = ap (λ v. v.slot) h;
     responses_are = p.responses_are;
-    told = p.told;
+    in_time = p.in_time;
   })
   drops (IsDeferred r) sent received ordered responses released l l' p h = record {
     log' = record { sent = sent; received = received; ordered = ordered; responses = responses; released = released; last = IsDropped r };
@@ -264,7 +264,7 @@ module _ (name base : ℕ) (outcomes : List Outcome) (commit : CommitRecord) (is
       order = orders.step commit Drops l l' received ordered p.order h;
       last_is = (ap (λ v. v.slot) h, ap (λ v. v.done) h);
       responses_are = p.responses_are;
-      told = p.told;
+      in_time = p.in_time;
     };
     sent_is = sym (append-nil sent);
     received_is = sym (append-nil received);
@@ -277,7 +277,7 @@ module _ (name base : ℕ) (outcomes : List Outcome) (commit : CommitRecord) (is
     order = orders.step commit Drops l l' received ordered p.order h;
     last_is = (ap (λ v. v.slot) h, ap (λ v. v.done) h);
     responses_are = p.responses_are;
-    told = p.told;
+    in_time = p.in_time;
   })
   drops (IsDropped r) sent received ordered responses released l l' p h = grows_still (record { sent = sent; received = received; ordered = ordered; responses = responses; released = released; last = IsDropped r }) l' (record {
     name_is = ap (λ v. v.name) h ∙ p.name_is;
@@ -285,7 +285,7 @@ module _ (name base : ℕ) (outcomes : List Outcome) (commit : CommitRecord) (is
     order = orders.step commit Drops l l' received ordered p.order h;
     last_is = (ap (λ v. v.slot) h, ap (λ v. v.done) h);
     responses_are = p.responses_are;
-    told = p.told;
+    in_time = p.in_time;
   })
 
   step_grows : (step : ClientStep) (log : Log) (l l' : ClientState) → HasLog name base outcomes log l → StepsTo commit step l l'
@@ -298,7 +298,7 @@ module _ (name base : ℕ) (outcomes : List Outcome) (commit : CommitRecord) (is
       order = orders.step commit (Receives bytes) l l' log.received log.ordered p.order h;
       last_is = last_alike base outcomes log.last l l' (ap (λ v. v.slot) h) (ap (λ v. v.batch) h) (λ d. ap (λ v. v.done) h ∙ d) p.last_is;
       responses_are = p.responses_are;
-      told = p.told;
+      in_time = p.in_time;
     };
     sent_is = sym (append-nil log.sent);
     received_is = refl;
@@ -311,7 +311,7 @@ module _ (name base : ℕ) (outcomes : List Outcome) (commit : CommitRecord) (is
     order = orders.step commit ReceivesEnd l l' log.received log.ordered p.order h;
     last_is = last_alike base outcomes log.last l l' (ap (λ v. v.slot) h) (ap (λ v. v.batch) h) (λ d. ap (λ v. v.done) h ∙ d) p.last_is;
     responses_are = p.responses_are;
-    told = p.told;
+    in_time = p.in_time;
   })
   step_grows (Discards bytes) log l l' p h = grows_still log l' (subst (λ (v : ClientState). HasLog name base outcomes log v) (sym h.1) p)
   step_grows (Sends bytes) log l l' p h = record {
@@ -322,7 +322,7 @@ module _ (name base : ℕ) (outcomes : List Outcome) (commit : CommitRecord) (is
       order = orders.step commit (Sends bytes) l l' log.received log.ordered p.order h;
       last_is = last_alike base outcomes log.last l l' (ap (λ v. v.slot) h.3) (ap (λ v. v.batch) h.3) (λ d. ap (λ v. v.done) h.3 ∙ d) p.last_is;
       responses_are = p.responses_are;
-      told = p.told;
+      in_time = p.in_time;
     };
     sent_is = refl;
     received_is = sym (append-nil log.received);
@@ -339,7 +339,7 @@ module _ (name base : ℕ) (outcomes : List Outcome) (commit : CommitRecord) (is
       order = orders.step commit Limits l l' log.received log.ordered p.order h;
       last_is = last_alike base outcomes log.last l l' (ap (λ v. v.slot) h) (ap (λ v. v.batch) h) (λ d. ap (λ v. v.done) h ∙ d) p.last_is;
       responses_are = p.responses_are;
-      told = p.told;
+      in_time = p.in_time;
     };
     sent_is = sym (append-nil log.sent);
     received_is = sym (append-nil log.received);
@@ -352,7 +352,7 @@ module _ (name base : ℕ) (outcomes : List Outcome) (commit : CommitRecord) (is
     order = orders.step commit Aborts l l' log.received log.ordered p.order h;
     last_is = last_alike base outcomes log.last l l' (ap (λ v. v.slot) h) (ap (λ v. v.batch) h) (λ d. ap (λ v. v.done) h) p.last_is;
     responses_are = p.responses_are;
-    told = p.told;
+    in_time = p.in_time;
   })
 
 -- ---- responses in acts
@@ -444,7 +444,7 @@ module _ (name base : ℕ) (outcomes : List Outcome) (commit : CommitRecord) (is
           order = orders.call callers asked reply notes rest true (number_of commit) l received ordered p.order some closing asks;
           last_is = (refl, is.number, omega arith, refl);
           responses_are = ap (λ v. v ++ r ∷ []) (p.responses_are ∙ append-nil (map response_of released));
-          told = p.told;
+          in_time = p.in_time;
         };
         sent_is = sym (append-nil sent);
         received_is = sym (append-nil received);
@@ -463,7 +463,7 @@ module _ (name base : ℕ) (outcomes : List Outcome) (commit : CommitRecord) (is
           order = orders.call callers asked reply notes rest false (number_of commit) l received ordered p.order some closing asks;
           last_is = refl;
           responses_are = responses_then (responses ++ r ∷ []) released now r (ap (λ v. v ++ r ∷ []) (p.responses_are ∙ append-nil (map response_of released))) refl;
-          told = all_then (IsTold outcomes) released now p.told tt;
+          in_time = all_then (IsReleasedAfterCommit outcomes) released now p.in_time tt;
         };
         sent_is = sym (append-nil sent);
         received_is = sym (append-nil received);
@@ -485,7 +485,7 @@ module _ (name base : ℕ) (outcomes : List Outcome) (commit : CommitRecord) (is
       order = p.order;
       last_is = (none, refl);
       responses_are = p.responses_are;
-      told = p.told;
+      in_time = p.in_time;
     };
     sent_is = sym (append-nil sent);
     received_is = sym (append-nil received);
@@ -551,5 +551,5 @@ new_log name base = record {
   order = orders.start name;
   last_is = refl;
   responses_are = refl;
-  told = tt;
+  in_time = tt;
 }

@@ -23,18 +23,18 @@ use Rattle.dss_server.specs.ClientSet.{Accepts, Closes, Refuses, TakesSteps, wit
 use Rattle.dss_server.specs.ServeEvents.{FollowAll, Follows, Looks, Purges, Runs, ServeEvent, ServeState}
 use Rattle.dss_server.specs.ServiceEvents.{Changes, Commits, Serves}
 use Rattle.server_laws.specs.Acts.{Act, acts_of, acts_of_clients, acts_of_event, acts_of_purge}
-use Rattle.server_laws.specs.Clients.{ClientResponse, EachClientIsServed, HasEnded, IsDeferred, IsDropped, IsReleased, IsTold, IsToldBy, LastResponse, ReleasedResponse, closes, events_for, ordered_by, ordered_of, outcome_by, outcomes_in, received_by, received_from, responses_to, sent_by, sent_to, table_after}
+use Rattle.server_laws.specs.Clients.{ClientResponse, EachClientIsServed, HasEnded, IsDeferred, IsDropped, IsReleased, IsReleasedAfterCommit, HasOutcomeIfDeferred, LastResponse, ReleasedResponse, closes, events_for, ordered_by, ordered_of, outcome_by, outcomes_in, received_by, received_from, responses_to, sent_by, sent_to, table_after}
 use Rattle.server_laws.proofs.Logs.{Grows, HasLog, IsLastOf, IsRecordOf, Log, Outcome, clients_settle_none, events_grow, grows_still, grows_then, new_log, no_log, others_get_none, responses_then_acts, steps_call_none, steps_occur}
 
 -- ---- more commits
 
-told_more : (outcomes more : List Outcome) (n : ℕ) (waits : Bool) (outcome : Outcome) → IsToldBy outcomes n waits outcome → IsToldBy (outcomes ++ more) n waits outcome
-told_more outcomes more n true outcome h = (h.0, h.1 ++ more, ap (λ v. v ++ more) h.2 ∙ append_assoc h.0 (outcome ∷ h.1) more, h.3)
-told_more outcomes more n false outcome h = tt
+outcome_more : (outcomes more : List Outcome) (n : ℕ) (waits : Bool) (outcome : Outcome) → HasOutcomeIfDeferred outcomes n waits outcome → HasOutcomeIfDeferred (outcomes ++ more) n waits outcome
+outcome_more outcomes more n true outcome h = (h.0, h.1 ++ more, ap (λ v. v ++ more) h.2 ∙ append_assoc h.0 (outcome ∷ h.1) more, h.3)
+outcome_more outcomes more n false outcome h = tt
 
-all_told : (outcomes more : List Outcome) (xs : List ReleasedResponse) → AllByRecursion (IsTold outcomes) xs → AllByRecursion (IsTold (outcomes ++ more)) xs
-all_told outcomes more [] h = tt
-all_told outcomes more (x ∷ xs) h = (told_more outcomes more x.response.commits x.response.call.waits x.outcome h.0, all_told outcomes more xs h.1)
+all_after_commit : (outcomes more : List Outcome) (xs : List ReleasedResponse) → AllByRecursion (IsReleasedAfterCommit outcomes) xs → AllByRecursion (IsReleasedAfterCommit (outcomes ++ more)) xs
+all_after_commit outcomes more [] h = tt
+all_after_commit outcomes more (x ∷ xs) h = (outcome_more outcomes more x.response.commits x.response.call.waits x.outcome h.0, all_after_commit outcomes more xs h.1)
 
 last_more : (base : ℕ) (outcomes more : List Outcome) (last : LastResponse) (l : ClientState) → IsLastOf base outcomes last l → IsLastOf base (outcomes ++ more) last l
 last_more base outcomes more IsReleased l h = h
@@ -51,7 +51,7 @@ log_more name base outcomes more log l p = record {
   order = p.order;
   last_is = last_more base outcomes more log.last l p.last_is;
   responses_are = p.responses_are;
-  told = all_told outcomes more log.released p.told;
+  in_time = all_after_commit outcomes more log.released p.in_time;
 }
 
 number_more : (base n n' number next top : ℕ) → (number ≡ base + n) ⊎ (top ≤ number) → next ≡ min (number + 1) top → n' ≡ n + 1 → (next ≡ base + n') ⊎ (top ≤ next)
@@ -265,7 +265,7 @@ module _ {S M T : Type 0} (g : spaces.Ghosts S) (k : commits.Ghosts S) (m : mome
           released = log.released;
           last = log.last;
           responses = sym p.grows.responses_is ∙ has.responses_are;
-          told = has.told;
+          in_time = has.in_time;
           sent = ap (λ v. v ++ p.l.ready) (sym p.grows.sent_is) ∙ has.account.released;
           unsent = has.account.deferred;
           in_order = subst (λ (v : List OrderedEvent). IsInOrder (received_from key events) v p.l) p.grows.ordered_is

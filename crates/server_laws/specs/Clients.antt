@@ -212,15 +212,16 @@ HasOutcome outcomes n outcome = (before : List (Result (Unit {0}) SpaceFault))
     × (after : List (Result (Unit {0}) SpaceFault))
     × (outcomes ≡ before ++ outcome ∷ after) × (length before ≡ n)
 
+-- Holds if this is the outcome of the first commit after a call whose response was deferred.
+abbrev pub HasOutcomeIfDeferred : List (Result (Unit {0}) SpaceFault) → (commits : ℕ) → (waits : Bool)
+    → Result (Unit {0}) SpaceFault → Type 0
+HasOutcomeIfDeferred outcomes commits true outcome = HasOutcome outcomes commits outcome
+HasOutcomeIfDeferred outcomes commits false outcome = Unit {0}
+
 -- Holds if a deferred response was released after the first commit that followed its call, with the
 -- outcome of that commit.
-abbrev pub IsToldBy : List (Result (Unit {0}) SpaceFault) → (commits : ℕ) → (waits : Bool)
-    → Result (Unit {0}) SpaceFault → Type 0
-IsToldBy outcomes commits true outcome = HasOutcome outcomes commits outcome
-IsToldBy outcomes commits false outcome = Unit {0}
-
-abbrev pub IsTold : List (Result (Unit {0}) SpaceFault) → ReleasedResponse → Type 0
-IsTold outcomes released = IsToldBy outcomes released.response.commits
+abbrev pub IsReleasedAfterCommit : List (Result (Unit {0}) SpaceFault) → ReleasedResponse → Type 0
+IsReleasedAfterCommit outcomes released = HasOutcomeIfDeferred outcomes released.response.commits
     released.response.call.waits released.outcome
 
 -- ---- the law
@@ -235,7 +236,7 @@ pub record ServedFor (key name : ℕ) (table : TokenFile) (events : List ServeEv
   pub responses : responses_to key 0 acts
       ≡ map (λ each. each.response) released ++ unreleased last
   -- No deferred response was released before its commit.
-  pub told : AllByRecursion (IsTold (outcomes_in acts)) released
+  pub in_time : AllByRecursion (IsReleasedAfterCommit (outcomes_in acts)) released
   -- The sent bytes, and those that may be sent, are the released responses, in order.
   pub sent : sent_to key events ++ l.ready ≡ flat_map text_of_released released ++ last_text last
   pub unsent : l.output ≡ l.ready ++ deferred_text last

@@ -12,7 +12,7 @@ use Rattle.sqlite.specs.State.{State, IsLive}
 use Rattle.entity_core.specs.Airspace.{Airspace}
 use Rattle.space_sql_select.specs.Meta.{IsOtherFormat}
 use Rattle.space_sql_schema.specs.declared.format.Format.{Format}
-use Rattle.space_sql_schema.specs.declared.format.Format.TheVariants.{One, TwoUnindexed, Two}
+use Rattle.space_sql_schema.specs.declared.format.Format.TheVariants.{One, TwoUnindexed, Two, OldOne, OldTwoUnindexed, OldTwo}
 use Rattle.space_sql_schema.specs.Spelling.{Spells, SpellsAs}
 use Rattle.space_sql_schema.specs.Tables.{dss_schema, schema_of}
 use Rattle.space_sql_schema.proofs.OneAirspace.{one_airspace}
@@ -56,6 +56,9 @@ unfolding format_in
 not_other One db a p other = other.not_one (ap format_in (sym other.only ∙ p.meta))
 not_other TwoUnindexed db a p other = other.not_two (ap format_in (sym other.only ∙ p.meta))
 not_other Two db a p other = other.not_two (ap format_in (sym other.only ∙ p.meta))
+not_other OldOne db a p other = other.not_one (ap format_in (sym other.only ∙ p.meta))
+not_other OldTwoUnindexed db a p other = other.not_two (ap format_in (sym other.only ∙ p.meta))
+not_other OldTwo db a p other = other.not_two (ap format_in (sym other.only ∙ p.meta))
 
 pub not_refused : (format : Format) (db : Database) (a : Airspace) (fault : OpenFault) → SpellsAs format db a → Refuses format db fault → (fault ≡ Store → ⊥) → ⊥
 not_refused format db a NotADss p r other = r.0 a p

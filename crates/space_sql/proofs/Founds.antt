@@ -1,6 +1,6 @@
 -- Proofs that relate the content of files to the opened space.
-use Rattle.std.specs.Prelude.{◌≡◌, ◌≢◌, ◌⊎◌, ◌↔◌, ◌<◌, [], length, Bool, true, false, IsTrue, IfErr, IfOk, Result, Ok, Err, refl}
-use Rattle.std.proofs.Common.{inl, inr, sym, ap, subst, ◌∙◌, arith}
+use Rattle.std.specs.Prelude.{◌≡◌, ◌≢◌, ◌⊎◌, ◌<◌, [], length, Bool, IsTrue, IfErr, IfOk, Result, Ok, Err, refl}
+use Rattle.std.proofs.Common.{false, inl, inr, sym, ap, subst, ◌∙◌, arith}
 use Rattle.sqlite_trees.specs.Tree.{Trees}
 use Rattle.sqlite_trees.specs.declared.store.Store as stores
 use Rattle.sqlite.specs.Held.{Held, state}
@@ -17,7 +17,7 @@ use Rattle.space_sql_schema.specs.Presence.{presence_in}
 use Rattle.space_sql_schema.specs.Spelling.{SpellsAs, Spells}
 use Rattle.space_sql_schema.specs.Tables.{no_schema, schema_of}
 use Rattle.space_sql_schema.specs.declared.format.Format.{Format}
-use Rattle.space_sql_schema.specs.declared.format.Format.TheVariants.{One, TwoUnindexed, Two}
+use Rattle.space_sql_schema.specs.declared.format.Format.TheVariants.{One, TwoUnindexed, Two, OldOne, OldTwoUnindexed, OldTwo}
 use Rattle.space_sql_schema.specs.declared.presence.Presence.{Presence}
 use Rattle.space_sql_schema.specs.declared.presence.Presence.TheVariants.{Missing, Whole}
 use Rattle.space_sql_schema.proofs.OneAirspace.{one_airspace_of}
@@ -29,7 +29,7 @@ use Rattle.space_sql_open.specs.declared.open_fault.OpenFault.{OpenFault}
 use Rattle.space_sql_open.specs.declared.open_fault.OpenFault.TheVariants.{Store}
 use Rattle.space_sql.specs.Found.{AreUnmade, FilesSpell, FindsSpelt, HasTables, IsOpenedOver, KeepsAs, RefusesFound, tables_of}
 use Rattle.space_sql.specs.Holding.{SqlSpaceModel, Rests}
-use Rattle.space_sql.specs.OpenResult.{HoldsSpelt, IsDueFault, IsFresh, MayBeOpened, CommittedIfFound}
+use Rattle.space_sql.specs.OpenResult.{HoldsSpelt, IsDueFault, IsFresh, MayBeOpened, CommittedIfFound, finds_first, is_first}
 use Rattle.space_sql.proofs.Openings.{stands_as}
 use Rattle.space_sql.proofs.Outcomes.{one_schema}
 
@@ -49,12 +49,6 @@ new_found image none db (inr it) = it.1
 
 pub new_is_unmade : (image : Image) → image.db ≡ [] → AreUnmade image
 new_is_unmade image none = inl (inl (inl (ap length none)), new_found image none)
-
--- The presence of a format determines it.
-same_format : (format : Format) → Whole format ≡ Whole One → format ≡ One
-same_format One e = refl
-same_format TwoUnindexed e = cc
-same_format Two e = cc
 
 module _ (image : Image) (s : State) (it : IsOpenedOver image s) where
   found_trees : (db : Trees) → HoldsDatabase image db → s.now.trees ≡ db
@@ -85,10 +79,8 @@ module _ (image : Image) (s : State) (it : IsOpenedOver image s) where
       let own = holds format sound (found_schema format h.0 (h.1, h.2.0)) in
       subst (λ b. IsContent space.holds k b) (one_airspace_of format s.now s.now own.0 a refl own.1 (found_spelt format a h)) own.2
 
-  told_found : (upgraded : Type 0) → (upgraded ↔ (presence_in s.now.schema ≡ Whole One)) → (format : Format) (a : Airspace) → FilesSpell format image a → (upgraded ↔ (format ≡ One))
-  told_found upgraded told format a h =
-      let stands = stands_as format s.now.schema (found_schema format h.0 (h.1, h.2.0)) in
-      ((λ yes. same_format format (sym stands ∙ told.0 yes)), (λ one. told.1 (stands ∙ ap Whole one)))
+  told_found : (upgraded : Bool) → upgraded ≡ finds_first (presence_in s.now.schema) → (format : Format) (a : Airspace) → FilesSpell format image a → upgraded ≡ is_first format
+  told_found upgraded told format a h = told ∙ ap finds_first (stands_as format s.now.schema (found_schema format h.0 (h.1, h.2.0)))
 
   due_found : (fault : OpenFault) → ((format : Format) → s.now.schema ≡ schema_of format → Refuses format s.now fault) → (format : Format) (db : Trees) → HasTables format image db → Refuses format (tables_of format db) fault
   due_found fault due format db has =
@@ -109,6 +101,9 @@ module _ (image : Image) (s : State) (it : IsOpenedOver image s) where
   taken_found One a h db may = moved_found old_format.One a h db may
   taken_found TwoUnindexed a h db may = moved_found old_format.TwoUnindexed a h db may
   taken_found Two a h db may = absurd may
+  taken_found OldOne a h db may = moved_found old_format.OldOne a h db may
+  taken_found OldTwoUnindexed a h db may = moved_found old_format.OldTwoUnindexed a h db may
+  taken_found OldTwo a h db may = moved_found old_format.OldTwo a h db may
 
   left_found : (back : State) (fault : OpenFault) → Rests s → Survives s back (MayBeOpened s fault) → HasCleanDisk back → (format : Format) (a : Airspace) → FilesSpell format image a → (db : Trees) → back.may_leave db → KeepsAs format db a ⊎ KeepsAs Two db a
   left_found back fault rests went clean format a h db may = elim (went.crash clean db may) [
@@ -135,22 +130,17 @@ module _ (image : Image) (s : State) (it : IsOpenedOver image s) where
     | inr taken ↦ absurd (other taken.0)
   ]
 
--- A space whose tables are not of format 1 was not upgraded.
-not_upgraded : (upgraded : Bool) (presence : Presence) → (IsTrue upgraded ↔ (presence ≡ Whole One)) → presence ≡ Missing → upgraded ≡ false
-not_upgraded false presence told missing = refl
-not_upgraded true presence told missing = absurd (let whole = told.0 refl in cc)
-
 -- Proves `FindsSpelt` for an adopted space.
 pub finds : {S : Type 0} (image : Image) (s : State) (space : Ghosts (SqlSpaceModel S)) (k : SqlSpaceModel S) → (space.is_sound k → IsOpenedOver image s) → HoldsSpelt space s k → (space.is_sound k → s.now.schema ≡ no_schema → IsContent space.holds k (empty_at 0))
-    → (space.is_sound k → (a : Airspace) → space.holds k a → space.is_whole k) → (IsTrue k.upgraded ↔ (presence_in s.now.schema ≡ Whole One)) → FindsSpelt image space k
+    → (space.is_sound k → (a : Airspace) → space.holds k a → space.is_whole k) → k.upgraded ≡ finds_first (presence_in s.now.schema) → FindsSpelt image space k
 finds image s space k opened holds made whole told = record {
   spelt = λ sound. held_found image s (opened sound) space k holds sound;
   new = λ sound none. made sound (found_none image s (opened sound) none);
   whole = whole;
-  upgraded = λ sound. told_found image s (opened sound) _ told;
+  upgraded = λ sound. told_found image s (opened sound) k.upgraded told;
   made = λ sound none.
       let schema = found_none image s (opened sound) none in
-      not_upgraded k.upgraded _ told (ap presence_in schema ∙ none_stands);
+      told ∙ ap finds_first (ap presence_in schema ∙ none_stands);
 }
 
 -- Proves `RefusesFound` after a fault.
@@ -169,7 +159,7 @@ module _ {S L : Type 0} (g : stores.Ghosts S) (image : Image) (s : State) (opene
   -- Proves the result of a successful opening.
   pub finds_ok : (space : Ghosts (SqlSpaceModel S)) (clean : (k : SqlSpaceModel S) → space.is_sound k → HasCleanDisk (state g k.conn)) (certain : (k : SqlSpaceModel S) (a : Airspace) → space.is_sound k → space.is_broken k ≡ false → space.holds k a → space.is_whole k)
       → (r : Result (SqlSpaceModel S × L) (OpenFault × Held S)) → IfOk r (λ t. IsFresh g space t.0) → IfOk r (λ t. HasCleanDisk (state g t.0.conn) → HasCleanDisk s) → IfOk r (λ t. HoldsSpelt space s t.0)
-      → IfOk r (λ t. space.is_sound t.0 → s.now.schema ≡ no_schema → IsContent space.holds t.0 (empty_at 0)) → IfOk r (λ t. IsTrue t.0.upgraded ↔ (presence_in s.now.schema ≡ Whole One)) → IfOk r (λ t. FindsSpelt image space t.0)
+      → IfOk r (λ t. space.is_sound t.0 → s.now.schema ≡ no_schema → IsContent space.holds t.0 (empty_at 0)) → IfOk r (λ t. t.0.upgraded ≡ finds_first (presence_in s.now.schema)) → IfOk r (λ t. FindsSpelt image space t.0)
   finds_ok space clean certain (Ok t) fresh before holds made told = finds image s space t.0 (λ sound. opened (before (clean t.0 sound))) holds made (λ sound a. certain t.0 a sound fresh.works) told
   finds_ok space clean certain (Err e) fresh before holds made told = tt
 

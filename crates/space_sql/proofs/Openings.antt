@@ -1,5 +1,5 @@
 -- Proofs about the result and the effects of opening, by the presence of the tables.
-use Rattle.std.specs.Prelude.{◌≡◌, ◌≢◌, ◌↔◌, Bool, false, true, IsTrue, Result, Ok, Err, IfErr, refl}
+use Rattle.std.specs.Prelude.{◌≡◌, ◌≢◌, Bool, Result, Ok, Err, IfErr, refl}
 use Rattle.std.proofs.Common.{ap, subst, sym, ◌∙◌}
 use Rattle.sqlite_trees.specs.Tree.{Trees}
 use Rattle.sqlite_schema.specs.declared.schema.Schema.{Schema}
@@ -12,14 +12,14 @@ use Rattle.space_sql_schema.specs.Presence.{presence_in}
 use Rattle.space_sql_schema.specs.Spelling.{SpellsAs}
 use Rattle.space_sql_schema.specs.Tables.{schema_of}
 use Rattle.space_sql_schema.specs.declared.format.Format.{Format}
-use Rattle.space_sql_schema.specs.declared.format.Format.TheVariants.{One, TwoUnindexed, Two}
+use Rattle.space_sql_schema.specs.declared.format.Format.TheVariants.{One, TwoUnindexed, Two, OldOne, OldTwoUnindexed, OldTwo}
 use Rattle.space_sql_schema.specs.declared.presence.Presence.{Presence}
 use Rattle.space_sql_schema.specs.declared.presence.Presence.TheVariants.{Missing, Whole}
 use Rattle.space_sql_schema.proofs.OneAirspace.{one_airspace_of}
-use Rattle.space_sql_schema.proofs.Presences.{first_stands, unindexed_stands, second_stands}
+use Rattle.space_sql_schema.proofs.Presences.{first_stands, unindexed_stands, second_stands, old_first_stands, old_unindexed_stands, old_second_stands}
 use Rattle.space_sql_open.specs.declared.open_fault.OpenFault.{OpenFault}
 use Rattle.space_sql_open.specs.declared.open_fault.OpenFault.TheVariants.{Store}
-use Rattle.space_sql.specs.OpenResult.{MayBeOpened, CommittedIfFound}
+use Rattle.space_sql.specs.OpenResult.{MayBeOpened, CommittedIfFound, finds_first}
 
 pub ok_is_no_fault : {X : Type 0} (x : X) (fault : OpenFault) → ◌≢◌ {A = Result X OpenFault} (Ok x) (Err fault)
 ok_is_no_fault x fault = λ e. cc
@@ -34,6 +34,9 @@ pub stands_as : (format : Format) (schema : Schema) → schema ≡ schema_of for
 stands_as One schema e = ap presence_in e ∙ first_stands
 stands_as TwoUnindexed schema e = ap presence_in e ∙ unindexed_stands
 stands_as Two schema e = ap presence_in e ∙ second_stands
+stands_as OldOne schema e = ap presence_in e ∙ old_first_stands
+stands_as OldTwoUnindexed schema e = ap presence_in e ∙ old_unindexed_stands
+stands_as OldTwo schema e = ap presence_in e ∙ old_second_stands
 
 -- If P holds for the format that the tables are found to have, it holds for each format that they
 -- have.
@@ -45,11 +48,8 @@ of_format schema P own stands f format e =
 
 -- ---- whether an opening upgraded the database
 
-pub tells_first : (upgraded : Bool) (presence : Presence) → upgraded ≡ true → presence ≡ Whole One → (IsTrue upgraded ↔ (presence ≡ Whole One))
-tells_first upgraded presence is stands = ((λ yes. stands), (λ one. is))
-
-pub tells_unindexed : (upgraded : Bool) (presence : Presence) → upgraded ≡ false → presence ≡ Whole TwoUnindexed → (IsTrue upgraded ↔ (presence ≡ Whole One))
-tells_unindexed upgraded presence is stands = ((λ yes. let wrong : false ≡ true = sym is ∙ yes in cc), (λ one. let wrong : Whole TwoUnindexed ≡ Whole One = sym stands ∙ one in cc))
+pub tells_found : (upgraded : Bool) (presence found : Presence) → upgraded ≡ finds_first found → presence ≡ found → upgraded ≡ finds_first presence
+tells_found upgraded presence found is stands = is ∙ sym (ap finds_first stands)
 
 -- ---- effects of a crash
 

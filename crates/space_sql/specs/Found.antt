@@ -1,5 +1,5 @@
 -- Definitions of what an opening finds, by the content of the log and of the database file.
-use Rattle.std.specs.Prelude.{◌≡◌, ◌≢◌, ◌⊎◌, ◌↔◌, [], IsTrue, false}
+use Rattle.std.specs.Prelude.{◌≡◌, ◌≢◌, ◌⊎◌, [], IsTrue, false}
 use Rattle.sqlite_trees.specs.Tree.{Trees}
 use Rattle.sqlite.specs.Recovery.{Image}
 use Rattle.sqlite.specs.Effect.{Database, IsDatabase}
@@ -12,11 +12,12 @@ use Rattle.space_core.specs.declared.space.Space.{Ghosts}
 use Rattle.space_sql_schema.specs.Spelling.{SpellsAs}
 use Rattle.space_sql_schema.specs.Tables.{schema_of}
 use Rattle.space_sql_schema.specs.declared.format.Format.{Format}
-use Rattle.space_sql_schema.specs.declared.format.Format.TheVariants.{One, Two}
+use Rattle.space_sql_schema.specs.declared.format.Format.TheVariants.{Two}
 use Rattle.space_sql_open.specs.Opening.{Refuses}
 use Rattle.space_sql_open.specs.declared.open_fault.OpenFault.{OpenFault}
 use Rattle.space_sql_open.specs.declared.open_fault.OpenFault.TheVariants.{Store}
 use Rattle.space_sql.specs.Holding.{SqlSpaceModel}
+use Rattle.space_sql.specs.OpenResult.{is_first}
 
 -- The tables of a format, with these rows.
 abbrev pub tables_of : Format → Trees → Database
@@ -69,7 +70,7 @@ pub record FindsSpelt {S : Type 0} (image : Image) (space : Ghosts (SqlSpaceMode
   pub new : space.is_sound k → AreUnmade image → IsContent space.holds k (empty_at 0)
   pub whole : space.is_sound k → (a : Airspace) → space.holds k a → space.is_whole k
   pub upgraded : space.is_sound k → (format : Format) (a : Airspace)
-      → FilesSpell format image a → (IsTrue k.upgraded ↔ (format ≡ One))
+      → FilesSpell format image a → k.upgraded ≡ is_first format
   pub made : space.is_sound k → AreUnmade image → k.upgraded ≡ false
 
 -- Holds if the fault is right for a connection over files with this content. Whatever a crash

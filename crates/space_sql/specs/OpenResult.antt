@@ -11,13 +11,13 @@ use Rattle.space_core.specs.declared.space.Space.{Ghosts}
 use Rattle.space_sql_schema.specs.Spelling.{SpellsAs}
 use Rattle.space_sql_schema.specs.Tables.{no_schema, schema_of}
 use Rattle.space_sql_schema.specs.declared.format.Format.{Format}
-use Rattle.space_sql_schema.specs.declared.format.Format.TheVariants.{One, TwoUnindexed, Two}
+use Rattle.space_sql_schema.specs.declared.format.Format.TheVariants.{One, TwoUnindexed, Two, OldOne, OldTwoUnindexed, OldTwo}
 use Rattle.space_sql_schema.specs.declared.presence.Presence.{Presence}
 use Rattle.space_sql_schema.specs.declared.presence.Presence.TheVariants.{Missing, Partial, Whole}
 use Rattle.space_sql_schema.specs.Making.{EmptyIfNoTable}
 use Rattle.space_sql_schema.specs.Presence.{presence_in}
 use Rattle.space_sql_select.specs.Reading.{IsAsFound}
-use Rattle.space_sql_open.specs.Opening.{MayHaveUpgraded, Refuses}
+use Rattle.space_sql_open.specs.Opening.{MayHaveUpgraded, Refuses, format_before}
 use Rattle.space_sql_open.specs.declared.old_format.OldFormat.{OldFormat}
 use Rattle.space_sql_open.specs.declared.old_format.OldFormat.TheVariants as old_format
 use Rattle.space_sql_open.specs.declared.open_fault.OpenFault.{OpenFault}
@@ -56,7 +56,7 @@ IsUnwrittenAs format opened back fault =
     HasCleanDisk back → opened.now.schema ≡ schema_of format → fault ≢ Store
     → IsAsFound opened back
 
--- ---- tables of either format
+-- ---- tables of any format
 
 abbrev pub HoldsSpelt : {S : Type 0} → Ghosts (SqlSpaceModel S) → State → SqlSpaceModel S → Type 0
 HoldsSpelt space opened s = (format : Format) → HoldsSpeltAs format space opened s
@@ -67,22 +67,41 @@ IsDueFault opened back fault = (format : Format) → IsDueFaultAs format opened 
 abbrev pub IsUnwritten : State → State → OpenFault → Type 0
 IsUnwritten opened back fault = (format : Format) → IsUnwrittenAs format opened back fault
 
+-- Returns true for format 1, in either order.
+abbrev pub is_first : Format → Bool
+is_first One = true
+is_first TwoUnindexed = false
+is_first Two = false
+is_first OldOne = true
+is_first OldTwoUnindexed = false
+is_first OldTwo = false
+
+-- Returns true if the tables that were found are those of format 1.
+abbrev pub finds_first : (found : Presence) → Bool
+finds_first Missing = false
+finds_first Partial = false
+finds_first (Whole format) = is_first format
+
 -- True if the tables that were upgraded were those of format 1.
 abbrev pub is_format_1 : OldFormat → Bool
-is_format_1 old_format.One = true
-is_format_1 old_format.TwoUnindexed = false
+is_format_1 from = is_first (format_before from)
 
 -- ---- effects of a crash
 
 -- Holds if opening can have committed these trees, given which tables it found. If it found none,
--- they are those of an empty airspace. If it found format 1, or format 2 without the index on
--- `naming`, they are those of format 2 with the same airspace. Otherwise it committed nothing.
+-- they are those of an empty airspace. If it found format 1, format 2 without the index on
+-- `naming`, or tables in the old order, they are those of format 2 with the same airspace.
+-- Otherwise it committed nothing.
 abbrev pub CommittedIfFound : (found : Presence) → State → Trees → Type 0
 CommittedIfFound Missing s trees = EmptyIfNoTable s trees
 CommittedIfFound Partial s trees = ⊥
 CommittedIfFound (Whole One) s trees = MayHaveUpgraded old_format.One s trees
 CommittedIfFound (Whole TwoUnindexed) s trees = MayHaveUpgraded old_format.TwoUnindexed s trees
 CommittedIfFound (Whole Two) s trees = ⊥
+CommittedIfFound (Whole OldOne) s trees = MayHaveUpgraded old_format.OldOne s trees
+CommittedIfFound (Whole OldTwoUnindexed) s trees =
+    MayHaveUpgraded old_format.OldTwoUnindexed s trees
+CommittedIfFound (Whole OldTwo) s trees = MayHaveUpgraded old_format.OldTwo s trees
 
 -- Holds if opening may have committed the trees before it failed. After `NotADss` and `Version`,
 -- there are none.

@@ -1,5 +1,5 @@
 //! Creation, adoption, opening and closing of a space over tables.
-ghost use Rattle.std.specs.Prelude.{◌≡◌, ◌≢◌, ◌↔◌, codes, false, IfErr, IfOk, IfSome, IsErrAnd, IsTrue};
+ghost use Rattle.std.specs.Prelude.{◌≡◌, ◌≢◌, codes, false, IfErr, IfOk, IfSome, IsErrAnd, IsTrue};
 ghost use Rattle.sqlite.specs.Files.{file_state, over_files};
 ghost use Rattle.sqlite.specs.Recovery.{Image};
 ghost use Rattle.sqlite.specs.WalFiles.{image_at};
@@ -15,14 +15,13 @@ ghost use Rattle.space_sql_schema.specs.Spelling.{Spells};
 ghost use Rattle.space_sql_schema.specs.Presence.{presence_in};
 ghost use Rattle.space_sql_schema.specs.Tables.{dss_schema, no_schema};
 ghost use Rattle.space_sql_schema.specs.declared.format.Format.{Format};
-ghost use Rattle.space_sql_schema.specs.declared.format.Format.TheVariants.{One, Two};
-ghost use Rattle.space_sql_schema.specs.declared.presence.Presence.TheVariants.{Whole};
+ghost use Rattle.space_sql_schema.specs.declared.format.Format.TheVariants.{Two};
 ghost use Rattle.space_sql_open.specs.Opening.{MayHaveUpgraded, format_before};
 ghost use Rattle.space_sql_open.specs.declared.open_fault.OpenFault.TheVariants.{Store, Version};
 ghost use Rattle.space_sql.specs.Found.{FindsSpelt, IsOver, RefusesFound};
 ghost use Rattle.space_sql.specs.FailedOpen.{RefusesOpening};
 ghost use Rattle.space_sql.specs.Load.{IsAllOf};
-ghost use Rattle.space_sql.specs.OpenResult.{HoldsEmpty, HoldsSpelt, HoldsSpeltAs, IsDueFault, IsDueFaultAs, IsFresh, IsUnwritten, IsUnwrittenAs, MayBeOpened, is_format_1};
+ghost use Rattle.space_sql.specs.OpenResult.{HoldsEmpty, HoldsSpelt, HoldsSpeltAs, IsDueFault, IsDueFaultAs, IsFresh, IsUnwritten, IsUnwrittenAs, MayBeOpened, finds_first, is_format_1};
 ghost use Rattle.space_sql.specs.Closing.{KeepsFiles};
 ghost use Rattle.space_sql.specs.Restart.{ClosesFiles};
 
@@ -121,8 +120,8 @@ fn is_format_1(from: OldFormat) -> bool
     ensures { result ≡ is_format_1 from }
 {
     match from {
-        OldFormat::One => true,
-        OldFormat::TwoUnindexed => false,
+        OldFormat::One | OldFormat::OldOne => true,
+        OldFormat::TwoUnindexed | OldFormat::OldTwoUnindexed | OldFormat::OldTwo => false,
     }
 }
 
@@ -167,9 +166,10 @@ impl<S: Alter> SqlSpace<S> {
     ///
     /// If it has none of the tables, they are created. Tables of format 1 are upgraded to format 2,
     /// in one transaction, with the same airspace. Tables of format 2 that lack the index on
-    /// `naming` get it in the same way. If the tables were complete and of format 2, the loaded
-    /// airspace is returned with the space. The contract says that it is all that the space
-    /// holds only if the tables are exactly as `make_tables` creates them.
+    /// `naming` get it in the same way, and tables in the old order are created anew. If the tables
+    /// were complete, of format 2 and in the new order, the loaded airspace is returned with the
+    /// space. The contract says that it is all that the space holds only if the tables are exactly
+    /// as `make_tables` creates them.
     ///
     /// Returns `Version` if `meta` has one row, of a format that is neither 1 nor 2. Otherwise
     /// returns `NotADss` if only some of the tables exist or their rows represent no airspace.
@@ -184,8 +184,8 @@ impl<S: Alter> SqlSpace<S> {
             (λ t. HoldsEmpty ⟦<SqlSpace<S> as Space>⟧ (state S.Store conn) t.0) }
         ensures taken { IfOk result
             (λ t. HoldsSpelt ⟦<SqlSpace<S> as Space>⟧ (state S.Store conn) t.0) }
-        ensures upgraded { IfOk result (λ t. IsTrue t.0.upgraded
-            ↔ (presence_in (state S.Store conn).now.schema ≡ Whole One)) }
+        ensures upgraded { IfOk result (λ t.
+            t.0.upgraded ≡ finds_first (presence_in (state S.Store conn).now.schema)) }
         ensures all { IfOk result (λ t. (state S.Store conn).now.schema ≡ dss_schema
             → IfSome t.1 (IsAllOf S.Store t.0)) }
         ensures new { IfErr result (λ e. (state S.Store conn).now.schema ≡ no_schema
@@ -205,6 +205,11 @@ impl<S: Alter> SqlSpace<S> {
                 adopt_old(alloc, conn, OldFormat::TwoUnindexed)
             }
             Presence::Whole(Format::Two) => adopt_format_2(alloc, conn),
+            Presence::Whole(Format::OldOne) => adopt_old(alloc, conn, OldFormat::OldOne),
+            Presence::Whole(Format::OldTwoUnindexed) => {
+                adopt_old(alloc, conn, OldFormat::OldTwoUnindexed)
+            }
+            Presence::Whole(Format::OldTwo) => adopt_old(alloc, conn, OldFormat::OldTwo),
             Presence::Partial => Err(refused(conn)),
         }
     }

@@ -53,7 +53,7 @@ settles_from (s ∷ ss) m all each same =
     )
 
 -- The rows of a list in another order are those of the reordered list.
-swapped_back : {X : Type 0} (f : X → Row) (g : Row → X) → ((x : X) → g (f x) ≡ x) → (xs : List X) (ys : List Row) → IsPermutation (map f xs) ys → (ys ≡ map f (map g ys)) × IsPermutation xs (map g ys)
+pub swapped_back : {X : Type 0} (f : X → Row) (g : Row → X) → ((x : X) → g (f x) ≡ x) → (xs : List X) (ys : List Row) → IsPermutation (map f xs) ys → (ys ≡ map f (map g ys)) × IsPermutation xs (map g ys)
 swapped_back f g back xs ys same =
     let all = recursion_from_All (λ y. y ≡ f (g y)) ys (All-permutation (λ y. y ≡ f (g y)) (map f xs) ys same (All-from_recursion (λ y. y ≡ f (g y)) (map f xs) (each xs))) in
     (whole ys all, subst (λ l. IsPermutation l (map g ys)) (map_back f g back xs) (IsPermutation-map g _ _ same))
@@ -105,8 +105,8 @@ module _ (db : Database) (t : Tables) (a : Airspace) (has : db.schema ≡ dss_sc
         subs = q.groups;
         subs_rising = q.rising;
         each_sub = q.each;
-        sub_rows = IsPermutation-sym _ _ (subst (IsPermutation (map sub_columns (db.trees 10))) (l.subscriptions.rows_are ∙ (ap (map sub_values) (sym q.rows_are) ∙ map-map sub_values (λ (x : SubGroup). x.row) q.groups)) r.subscriptions.subscriptions.all);
-        sub_cells = IsPermutation-sym _ _ (subst (IsPermutation (map five_columns (db.trees 12))) (l.subscriptions.cells_are ∙ (ap (map sub_cell_values) (sym q.cells_are) ∙ map-flat_map sub_cell_values (λ (x : SubGroup). x.cells) q.groups)) r.subscriptions.cells.all);
+        sub_rows = IsPermutation-sym _ _ (subst (IsPermutation (map sub_columns (db.trees 9))) (l.subscriptions.rows_are ∙ (ap (map sub_values) (sym q.rows_are) ∙ map-map sub_values (λ (x : SubGroup). x.row) q.groups)) r.subscriptions.subscriptions.all);
+        sub_cells = IsPermutation-sym _ _ (subst (IsPermutation (map five_columns (db.trees 11))) (l.subscriptions.cells_are ∙ (ap (map sub_cell_values) (sym q.cells_are) ∙ map-flat_map sub_cell_values (λ (x : SubGroup). x.cells) q.groups)) r.subscriptions.cells.all);
         subs_kept = subst (λ k. IsPermutation k (entries a.subscriptions)) (append-nil (map sub_pair_of q.groups)) qs;
         groups = g.groups;
         rising = g.rising;
@@ -114,11 +114,11 @@ module _ (db : Database) (t : Tables) (a : Airspace) (has : db.schema ≡ dss_sc
         entities = IsPermutation-sym _ _ (subst (IsPermutation (map entity_columns (db.trees 1))) (l.entities.rows_are ∙ (ap (map entity_values) (sym g.rows_are) ∙ map-map entity_values (λ (x : Group). x.row) g.groups)) r.entities.entities.all);
         volumes = IsPermutation-sym _ _ (subst (IsPermutation (map six_columns (db.trees 3))) (l.entities.volumes_are ∙ (ap (λ (p : Parts). map volume_values p.volumes) (sym g.parts_are) ∙ map-flat_map volume_values (λ (x : Group). x.volumes) g.groups)) r.entities.volumes.all);
         cells = IsPermutation-sym _ _ (subst (IsPermutation (map six_columns (db.trees 5))) (l.entities.cells_are ∙ (ap (λ (p : Parts). map cell_values p.cells) (sym g.parts_are) ∙ map-flat_map cell_values (λ (x : Group). x.cells) g.groups)) r.entities.cells.all);
-        namings = IsPermutation-sym _ _ (subst (IsPermutation (map two_columns (db.trees 15))) (l.entities.namings_are ∙ (ap (λ (p : Parts). map values_of_naming p.namings) (sym g.parts_are) ∙ sym (namings_as_rows g.groups))) r.entities.namings.all);
+        namings = IsPermutation-sym _ _ (subst (IsPermutation (map two_columns (db.trees 13))) (l.entities.namings_are ∙ (ap (λ (p : Parts). map values_of_naming p.namings) (sym g.parts_are) ∙ sym (namings_as_rows g.groups))) r.entities.namings.all);
         kept = subst (λ k. IsPermutation k (entries a.entities)) (append-nil (map pair_of g.groups)) es;
-        availabilities = IsPermutation-sym _ _ (IsPermutation-trans _ _ _ (subst (IsPermutation (map three_columns (db.trees 8))) s.1 r.settings) (IsPermutation-map availability_values _ _ stated));
+        availabilities = IsPermutation-sym _ _ (IsPermutation-trans _ _ _ (subst (IsPermutation (map three_columns (db.trees 7))) s.1 r.settings) (IsPermutation-map availability_values _ _ stated));
         stated = all_stated s.0 (entries a.availabilities) stated s.2;
-        apart = (apart_from 3 db t.rowids.volumes.items r.rowids.volumes l.rising.0, apart_from 5 db t.rowids.cells.items r.rowids.cells l.rising.1, apart_from 8 db t.rowids.settings.items r.rowids.settings l.rising.2, apart_from 12 db t.rowids.sub_cells.items r.rowids.sub_cells l.rising.3);
+        apart = (apart_from 3 db t.rowids.volumes.items r.rowids.volumes l.rising.0, apart_from 5 db t.rowids.cells.items r.rowids.cells l.rising.1, apart_from 7 db t.rowids.settings.items r.rowids.settings l.rising.2, apart_from 11 db t.rowids.sub_cells.items r.rowids.sub_cells l.rising.3);
       }
 
   subs_above_zero : (gs : List SubGroup) → AllByRecursion (IsSubGroup a.serial) gs → AllByRecursion (λ (g : SubGroup). int_cmp (pos 0) g.row.num ≡ Less) gs
@@ -135,9 +135,9 @@ module _ (db : Database) (t : Tables) (a : Airspace) (has : db.schema ≡ dss_sc
         rows = rows;
         cells = cells;
         rows_are = r.subscriptions.subscriptions.rising rows (ascending-map (λ x y. sub_order x y ≡ Less) (λ (g : SubGroup). g.row) p.subs p.subs_rising)
-            (subst (λ l. IsPermutation l (map sub_columns (db.trees 10))) (sym (map-map sub_values (λ (g : SubGroup). g.row) p.subs)) p.sub_rows);
+            (subst (λ l. IsPermutation l (map sub_columns (db.trees 9))) (sym (map-map sub_values (λ (g : SubGroup). g.row) p.subs)) p.sub_rows);
         cells_are = r.subscriptions.cells.rising cells (all_sub_cells_rise a.serial p.subs p.each_sub p.subs_rising)
-            (subst (λ l. IsPermutation l (map five_columns (db.trees 12))) (sym (map-flat_map sub_cell_values (λ (g : SubGroup). g.cells) p.subs)) p.sub_cells);
+            (subst (λ l. IsPermutation l (map five_columns (db.trees 11))) (sym (map-flat_map sub_cell_values (λ (g : SubGroup). g.cells) p.subs)) p.sub_cells);
         gathered = gathers_subs_from a.serial (pos 0) p.subs (empty, []) (a.subscriptions, numbers_of p.subs) p.each_sub p.subs_rising (subs_above_zero p.subs p.each_sub)
             (subst (λ m. IsPermutation (map sub_pair_of p.subs ++ m) (entries a.subscriptions)) (sym (no_entries nat_cmp)) (subst (λ k. IsPermutation k (entries a.subscriptions)) (sym (append-nil (map sub_pair_of p.subs))) p.subs_kept)) refl;
       }
@@ -155,7 +155,7 @@ module _ (db : Database) (t : Tables) (a : Airspace) (has : db.schema ≡ dss_sc
         cells_are = r.entities.cells.rising (flat_map (λ (g : Group). g.cells) p.groups) (all_cells_rise a.serial p.subs p.groups p.each p.rising)
             (subst (λ l. IsPermutation l (map six_columns (db.trees 5))) (sym (map-flat_map cell_values (λ (g : Group). g.cells) p.groups)) p.cells);
         namings_are = r.entities.namings.rising (flat_map naming_list_of p.groups) (namings_rise p.groups p.rising)
-            (subst (λ l. IsPermutation l (map two_columns (db.trees 15))) (namings_as_rows p.groups) p.namings);
+            (subst (λ l. IsPermutation l (map two_columns (db.trees 13))) (namings_as_rows p.groups) p.namings);
         gathered = gathers_from a.serial p.subs p.subs_rising (pos 0) p.groups empty a.entities p.each p.rising (above_zero p.subs p.groups p.each)
             (subst (λ m. IsPermutation (map pair_of p.groups ++ m) (entries a.entities)) (sym (no_entries key_cmp)) (subst (λ k. IsPermutation k (entries a.entities)) (sym (append-nil (map pair_of p.groups))) p.kept));
       }
@@ -172,5 +172,5 @@ module _ (db : Database) (t : Tables) (a : Airspace) (has : db.schema ≡ dss_sc
         subscriptions = listed_subs p;
         entities = listed_entities p;
         availabilities = subst (λ rs. ReadsAvailabilities rs empty a.availabilities) (sym back.0) settled;
-        rising = (rising_from 3 db t.rowids.volumes.items r.rowids.volumes p.apart.0, rising_from 5 db t.rowids.cells.items r.rowids.cells p.apart.1, rising_from 8 db t.rowids.settings.items r.rowids.settings p.apart.2, rising_from 12 db t.rowids.sub_cells.items r.rowids.sub_cells p.apart.3);
+        rising = (rising_from 3 db t.rowids.volumes.items r.rowids.volumes p.apart.0, rising_from 5 db t.rowids.cells.items r.rowids.cells p.apart.1, rising_from 7 db t.rowids.settings.items r.rowids.settings p.apart.2, rising_from 11 db t.rowids.sub_cells.items r.rowids.sub_cells p.apart.3);
       }

@@ -34,7 +34,7 @@ module _ (old new : State) (rows : List Row) (has : old.now.schema ≡ dss_schem
   }
 
   pub settings_shown : Shown settings_read [] old new rows → ShowsSettings old.now rows
-  settings_shown h = lists_all settings_read 8 _ _ settings_list old new rows has h refl
+  settings_shown h = lists_all settings_read 7 _ _ settings_list old new rows has h refl
 
   pub volume_ids_shown : Shown volume_ids_read [] old new rows → ShowsIds 3 old.now rows
   volume_ids_shown h = record {
@@ -48,33 +48,33 @@ module _ (old new : State) (rows : List Row) (has : old.now.schema ≡ dss_schem
     rising = lists_one cell_ids_read 5 _ _ cell_ids_list old new rows has h refl number_values rowid_column (λ c. (column c 0 ∷ [], c)) int_cmp (λ r. refl) (λ c. refl) (λ x y e. rw (value_cmp-Int x y, e));
   }
 
-  pub setting_ids_shown : Shown setting_ids_read [] old new rows → ShowsIds 8 old.now rows
+  pub setting_ids_shown : Shown setting_ids_read [] old new rows → ShowsIds 7 old.now rows
   setting_ids_shown h = record {
-    all = lists_all setting_ids_read 8 _ _ setting_ids_list old new rows has h refl;
-    rising = lists_one setting_ids_read 8 _ _ setting_ids_list old new rows has h refl number_values rowid_column (λ c. (column c 0 ∷ [], c)) int_cmp (λ r. refl) (λ c. refl) (λ x y e. rw (value_cmp-Int x y, e));
+    all = lists_all setting_ids_read 7 _ _ setting_ids_list old new rows has h refl;
+    rising = lists_one setting_ids_read 7 _ _ setting_ids_list old new rows has h refl number_values rowid_column (λ c. (column c 0 ∷ [], c)) int_cmp (λ r. refl) (λ c. refl) (λ x y e. rw (value_cmp-Int x y, e));
   }
 
   pub subs_shown : Shown subs_read [] old new rows → ShowsSubs old.now rows
   subs_shown h = record {
-    all = lists_all subs_read 10 _ _ subs_list old new rows has h refl;
-    rising = lists_one subs_read 10 _ _ subs_list old new rows has h refl sub_values sub_columns (λ c. (column c 0 ∷ [], c)) sub_order (λ r. refl) (λ c. refl) (λ x y e. rw (value_cmp-Int x.num y.num, e));
+    all = lists_all subs_read 9 _ _ subs_list old new rows has h refl;
+    rising = lists_one subs_read 9 _ _ subs_list old new rows has h refl sub_values sub_columns (λ c. (column c 0 ∷ [], c)) sub_order (λ r. refl) (λ c. refl) (λ x y e. rw (value_cmp-Int x.num y.num, e));
   }
 
   pub sub_cells_shown : Shown sub_cells_read [] old new rows → ShowsSubCells old.now rows
   sub_cells_shown h = record {
-    all = lists_all sub_cells_read 12 _ _ sub_cells_list old new rows has h refl;
-    rising = lists_one sub_cells_read 12 _ _ sub_cells_list old new rows has h refl sub_cell_values five_columns (λ c. (column c 0 ∷ column c 1 ∷ [], c)) sub_cell_order (λ r. refl) (λ c. refl)
+    all = lists_all sub_cells_read 11 _ _ sub_cells_list old new rows has h refl;
+    rising = lists_one sub_cells_read 11 _ _ sub_cells_list old new rows has h refl sub_cell_values five_columns (λ c. (column c 0 ∷ column c 1 ∷ [], c)) sub_cell_order (λ r. refl) (λ c. refl)
         (λ x y e. rw (value_cmp-Int x.subscription y.subscription, value_cmp-Int x.place y.place, then_equal (int_cmp x.place y.place)) e);
   }
 
   pub namings_shown : Shown namings_read [] old new rows → ShowsNamings old.now rows
   namings_shown h = record {
-    all = lists_all namings_read 15 _ _ namings_list old new rows has h refl;
-    rising = lists_one namings_read 15 _ _ namings_list old new rows has h refl values_of_naming two_columns (λ c. (column c 0 ∷ [], c)) naming_order (λ r. refl) (λ c. refl) (λ x y e. rw (value_cmp-Int x.entity y.entity, e));
+    all = lists_all namings_read 13 _ _ namings_list old new rows has h refl;
+    rising = lists_one namings_read 13 _ _ namings_list old new rows has h refl values_of_naming two_columns (λ c. (column c 0 ∷ [], c)) naming_order (λ r. refl) (λ c. refl) (λ x y e. rw (value_cmp-Int x.entity y.entity, e));
   }
 
-  pub sub_cell_ids_shown : Shown sub_cell_ids_read [] old new rows → ShowsIds 12 old.now rows
+  pub sub_cell_ids_shown : Shown sub_cell_ids_read [] old new rows → ShowsIds 11 old.now rows
   sub_cell_ids_shown h = record {
-    all = lists_all sub_cell_ids_read 12 _ _ sub_cell_ids_list old new rows has h refl;
-    rising = lists_one sub_cell_ids_read 12 _ _ sub_cell_ids_list old new rows has h refl number_values rowid_column (λ c. (column c 0 ∷ [], c)) int_cmp (λ r. refl) (λ c. refl) (λ x y e. rw (value_cmp-Int x y, e));
+    all = lists_all sub_cell_ids_read 11 _ _ sub_cell_ids_list old new rows has h refl;
+    rising = lists_one sub_cell_ids_read 11 _ _ sub_cell_ids_list old new rows has h refl number_values rowid_column (λ c. (column c 0 ∷ [], c)) int_cmp (λ r. refl) (λ c. refl) (λ x y e. rw (value_cmp-Int x y, e));
   }

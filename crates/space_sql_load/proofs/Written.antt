@@ -55,7 +55,7 @@ gathered_written serial numbers last (row ∷ rows) parts m n g =
 
 -- ---- subscriptions
 
-sub_written : (row : SubRow) (cells : List SubCellRow) (s : Sub) → SpellsSub row cells s → IsWrittenSub row
+pub sub_written : (row : SubRow) (cells : List SubCellRow) (s : Sub) → SpellsSub row cells s → IsWrittenSub row
 sub_written row cells s p = record {
   id = subst IsUtf8 (sym p.sub.id) (id_utf8 s.id);
   manager = subst IsUtf8 (sym p.sub.manager) (name_utf8 s.manager p.kept.manager);
@@ -63,7 +63,7 @@ sub_written row cells s p = record {
   url = subst IsUtf8 (sym p.sub.url) (visible_utf8 1 255 s.url p.kept.url);
 }
 
-sub_cells_written : (num : ℤ) (cells : List SubCellRow) (placed : List (ℕ × Cell)) → AllZip (IsSubCellRow num) cells placed → AllByRecursion IsWrittenSubCell cells
+pub sub_cells_written : (num : ℤ) (cells : List SubCellRow) (placed : List (ℕ × Cell)) → AllZip (IsSubCellRow num) cells placed → AllByRecursion IsWrittenSubCell cells
 sub_cells_written num [] placed zip = tt
 sub_cells_written num (c ∷ cells) [] zip = absurd zip
 sub_cells_written num (c ∷ cells) (p ∷ placed) zip = (IsUtf8-from_ascii c.token (ascii_all is_lower_digit lower_is_ascii c.token zip.0.token.lower), sub_cells_written num cells placed zip.1)

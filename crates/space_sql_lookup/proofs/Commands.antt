@@ -33,7 +33,7 @@ pub naming_select : IsSelect naming_read
 unfolding understood everything
 naming_select = record { plain = (refl, refl); unlisted = refl }
 
-pub naming_is : command_of naming_read ≡ Select (record { lets = []; body = listing 15 by_key (2 ∷ []) [] }) (codes "subscription" ∷ [])
+pub naming_is : command_of naming_read ≡ Select (record { lets = []; body = listing 13 by_key (2 ∷ []) [] }) (codes "subscription" ∷ [])
 unfolding understood everything
 naming_is = refl
 
@@ -41,7 +41,7 @@ pub sub_id_select : IsSelect sub_id_read
 unfolding understood everything
 sub_id_select = record { plain = (refl, refl); unlisted = refl }
 
-pub sub_id_is : command_of sub_id_read ≡ Select (record { lets = []; body = listing 10 by_key (2 ∷ []) [] }) (codes "id" ∷ [])
+pub sub_id_is : command_of sub_id_read ≡ Select (record { lets = []; body = listing 9 by_key (2 ∷ []) [] }) (codes "id" ∷ [])
 unfolding understood everything
 sub_id_is = refl
 
@@ -49,7 +49,7 @@ pub sub_select : IsSelect sub_read
 unfolding understood everything
 sub_select = record { plain = (refl, refl); unlisted = refl }
 
-pub sub_is : command_of sub_read ≡ Select (record { lets = []; body = listing 10 by_second (0 ∷ 2 ∷ 3 ∷ 4 ∷ 5 ∷ 6 ∷ 7 ∷ 8 ∷ 9 ∷ 10 ∷ 11 ∷ 12 ∷ 13 ∷ []) [] })
+pub sub_is : command_of sub_read ≡ Select (record { lets = []; body = listing 9 by_second (0 ∷ 2 ∷ 3 ∷ 4 ∷ 5 ∷ 6 ∷ 7 ∷ 8 ∷ 9 ∷ 10 ∷ 11 ∷ 12 ∷ 13 ∷ []) [] })
     (codes "num" ∷ codes "id" ∷ codes "manager" ∷ codes "serial" ∷ codes "version" ∷ codes "notes" ∷ codes "url" ∷ codes "for_intents" ∷ codes "for_constraints" ∷ codes "alt_lower" ∷ codes "alt_upper" ∷ codes "time_start" ∷ codes "time_end" ∷ [])
 unfolding understood everything
 sub_is = refl
@@ -58,7 +58,7 @@ pub sub_numbered_select : IsSelect sub_numbered_read
 unfolding understood everything
 sub_numbered_select = record { plain = (refl, refl); unlisted = refl }
 
-pub sub_numbered_is : command_of sub_numbered_read ≡ Select (record { lets = []; body = listing 10 by_key (0 ∷ 2 ∷ 3 ∷ 4 ∷ 5 ∷ 6 ∷ 7 ∷ 8 ∷ 9 ∷ 10 ∷ 11 ∷ 12 ∷ 13 ∷ []) [] })
+pub sub_numbered_is : command_of sub_numbered_read ≡ Select (record { lets = []; body = listing 9 by_key (0 ∷ 2 ∷ 3 ∷ 4 ∷ 5 ∷ 6 ∷ 7 ∷ 8 ∷ 9 ∷ 10 ∷ 11 ∷ 12 ∷ 13 ∷ []) [] })
     (codes "num" ∷ codes "id" ∷ codes "manager" ∷ codes "serial" ∷ codes "version" ∷ codes "notes" ∷ codes "url" ∷ codes "for_intents" ∷ codes "for_constraints" ∷ codes "alt_lower" ∷ codes "alt_upper" ∷ codes "time_start" ∷ codes "time_end" ∷ [])
 unfolding understood everything
 sub_numbered_is = refl
@@ -67,7 +67,7 @@ pub own_sub_cells_select : IsSelect own_sub_cells_read
 unfolding understood everything
 own_sub_cells_select = record { plain = (refl, refl); unlisted = refl }
 
-pub own_sub_cells_is : command_of own_sub_cells_read ≡ Select (record { lets = []; body = listing 12 by_first (1 ∷ 2 ∷ 3 ∷ 4 ∷ 5 ∷ []) (1 ∷ 2 ∷ []) }) (codes "subscription" ∷ codes "place" ∷ codes "token" ∷ codes "lo" ∷ codes "hi" ∷ [])
+pub own_sub_cells_is : command_of own_sub_cells_read ≡ Select (record { lets = []; body = listing 11 by_first (1 ∷ 2 ∷ 3 ∷ 4 ∷ 5 ∷ []) (1 ∷ 2 ∷ []) }) (codes "subscription" ∷ codes "place" ∷ codes "token" ∷ codes "lo" ∷ codes "hi" ∷ [])
 unfolding understood everything
 own_sub_cells_is = refl
 
@@ -75,7 +75,7 @@ pub sub_num_select : IsSelect sub_num_read
 unfolding understood everything
 sub_num_select = record { plain = (refl, refl); unlisted = refl }
 
-pub sub_num_is : command_of sub_num_read ≡ Select (record { lets = []; body = listing 10 by_second (0 ∷ []) [] }) (codes "num" ∷ [])
+pub sub_num_is : command_of sub_num_read ≡ Select (record { lets = []; body = listing 9 by_second (0 ∷ []) [] }) (codes "num" ∷ [])
 unfolding understood everything
 sub_num_is = refl
 
@@ -83,7 +83,7 @@ pub namers_select : IsSelect namers_read
 unfolding understood everything
 namers_select = record { plain = (refl, refl); unlisted = refl }
 
-pub namers_is : command_of namers_read ≡ Select (record { lets = []; body = listing 15 by_second (0 ∷ []) [] }) (codes "entity" ∷ [])
+pub namers_is : command_of namers_read ≡ Select (record { lets = []; body = listing 13 by_second (0 ∷ []) [] }) (codes "entity" ∷ [])
 unfolding understood everything
 namers_is = refl
 

@@ -63,7 +63,7 @@ pub availability_select : IsSelect availability_read
 unfolding understood everything
 availability_select = record { plain = (refl, refl); unlisted = refl }
 
-availability_is : command_of availability_read ≡ Select (record { lets = []; body = listing 8 (same (col 1 1) (col 0 0) ∷ []) (1 ∷ 2 ∷ 3 ∷ []) [] }) (codes "uss" ∷ codes "state" ∷ codes "version" ∷ [])
+availability_is : command_of availability_read ≡ Select (record { lets = []; body = listing 7 (same (col 1 1) (col 0 0) ∷ []) (1 ∷ 2 ∷ 3 ∷ []) [] }) (codes "uss" ∷ codes "state" ∷ codes "version" ∷ [])
 unfolding understood everything
 availability_is = refl
 
@@ -83,11 +83,11 @@ pub availability_shown : (db : Database) (a : Airspace) (uss : List ℕ) (rows :
 availability_shown db a uss rows s h =
     let read = subst (λ k. Reads k db (Text uss ∷ []) rows) availability_is h in
     let tests = same (col 1 1) (col 0 0) ∷ [] in
-    let all = selects_all 8 tests (1 ∷ 2 ∷ 3 ∷ []) [] db.trees (Text uss ∷ []) rows refl (read.answer Null) in
-    let mine = sym (filter-map (is_of uss) three_columns (db.trees 8)) in
+    let all = selects_all 7 tests (1 ∷ 2 ∷ 3 ∷ []) [] db.trees (Text uss ∷ []) rows refl (read.answer Null) in
+    let mine = sym (filter-map (is_of uss) three_columns (db.trees 7)) in
     let stored = IsPermutation-filter (is_of uss) _ _ s.availabilities in
     let theirs = filter-map (is_of uss) availability_values (entries a.availabilities) ∙ ap (map availability_values) (filter_same (λ e. is_of uss (availability_values e)) (hits text_cmp nat_list_cmp_total uss) (is_of_same uss) (entries a.availabilities) ∙ found_in text_cmp nat_list_cmp_total text_exact a.availabilities uss) in
-    rows_of_entry uss (get a.availabilities uss) rows (IsPermutation-trans _ _ _ (subst (λ l. IsPermutation l (filter (is_of uss) (map three_columns (db.trees 8)))) theirs stored) (subst (λ l. IsPermutation l rows) mine all))
+    rows_of_entry uss (get a.availabilities uss) rows (IsPermutation-trans _ _ _ (subst (λ l. IsPermutation l (filter (is_of uss) (map three_columns (db.trees 7)))) theirs stored) (subst (λ l. IsPermutation l rows) mine all))
 
 pub availability_told : (db : Database) (uss text : List ℕ) (p : Row) (r : Result (Option VersionedAvailability) Error) (rows sliced : List Row) → p ≡ Text text ∷ [] → text ≡ uss → sliced ≡ rows → IfOk r (λ o. (stated : Option VersionedAvailability) → sliced ≡ rows_of_setting uss stated → o ≡ stated)
     → (db.schema ≡ dss_schema → Answers availability_read p db rows) → IfOk r (λ o. (a : Airspace) → Spells db a → o ≡ get a.availabilities uss)

@@ -85,15 +85,15 @@ second_shown num None rows p = nothing_left rows p
 second_shown num (Some sub) rows p = one_permutation (number_values sub) rows p
 
 module _ (db : Database) (a : Airspace) (s : Spells db a) where
-  stored : IsPermutation (map pair_values (flat_map pairs_of s.groups)) (map two_columns (db.trees 15))
-  stored = subst (λ (l : List Row). IsPermutation l (map two_columns (db.trees 15))) (namings_are s.groups) s.namings
+  stored : IsPermutation (map pair_values (flat_map pairs_of s.groups)) (map two_columns (db.trees 13))
+  stored = subst (λ (l : List Row). IsPermutation l (map two_columns (db.trees 13))) (namings_are s.groups) s.namings
 
   pub naming_shown : (g : Group) → Has s.groups g → (rows : List Row) → AnswersNaming g.row.num db rows → rows ≡ numbers_in g.naming
   naming_shown g there rows h =
       let num = g.row.num in
       let params = Int num ∷ [] in
       let read = subst (λ c. Reads c db params rows) naming_is h in
-      let all = selects_from 15 by_key (2 ∷ []) db.trees params rows refl (read.answer Null) pair_values two_columns (λ c. list_all (holds (params ∷ c ∷ [])) by_key) (λ c. column c 1 ∷ []) (λ (p : ℤ × ℤ). int_eq p.0 num)
+      let all = selects_from 13 by_key (2 ∷ []) db.trees params rows refl (read.answer Null) pair_values two_columns (λ c. list_all (holds (params ∷ c ∷ [])) by_key) (λ c. column c 1 ∷ []) (λ (p : ℤ × ℤ). int_eq p.0 num)
       (λ r. refl) (λ r. refl) (λ p. last_term (at_ints false Eq p.0 num)) (flat_map pairs_of s.groups) stored in
       let own = own_of (λ (p : ℤ × ℤ). p.0) (λ (g : Group). g.row.num) pairs_of s.groups g (pairs_borne s.groups) (numbers_differ s.groups s.rising) there in
       second_shown num g.naming rows (subst (λ (l : List (ℤ × ℤ)). IsPermutation (map (λ (p : ℤ × ℤ). number_values p.1) l) rows) own all)
@@ -103,7 +103,7 @@ module _ (db : Database) (a : Airspace) (s : Spells db a) where
   sub_id_shown num rows h =
       let params = Int num ∷ [] in
       let read = subst (λ c. Reads c db params rows) sub_id_is h in
-      let all = selects_from 10 by_key (2 ∷ []) db.trees params rows refl (read.answer Null) (λ (t : SubGroup). sub_values t.row) sub_columns (λ c. list_all (holds (params ∷ c ∷ [])) by_key) (λ c. column c 1 ∷ []) (λ (t : SubGroup). int_eq t.row.num num)
+      let all = selects_from 9 by_key (2 ∷ []) db.trees params rows refl (read.answer Null) (λ (t : SubGroup). sub_values t.row) sub_columns (λ c. list_all (holds (params ∷ c ∷ [])) by_key) (λ c. column c 1 ∷ []) (λ (t : SubGroup). int_eq t.row.num num)
       (λ r. refl) (λ r. refl) (λ t. last_term (at_ints false Eq t.row.num num)) s.subs s.sub_rows in
       one_shown (λ (t : SubGroup). t.row.num) num (λ t. Text t.row.id ∷ []) s.subs rows all (sub_numbers_differ s.subs s.subs_rising)
 
@@ -114,7 +114,7 @@ module _ (db : Database) (a : Airspace) (s : Spells db a) where
       let params = Int sub ∷ [] in
       let read = subst (λ c. Reads c db params rows) namers_is h in
       let own = filter (λ (p : ℤ × ℤ). int_eq p.1 sub) (flat_map pairs_of s.groups) in
-      let all = selects_from 15 by_second (0 ∷ []) db.trees params rows refl (read.answer Null) pair_values two_columns (λ c. list_all (holds (params ∷ (column c 0 ∷ Null ∷ column c 1 ∷ []) ∷ [])) by_second) (λ c. column c 0 ∷ []) (λ (p : ℤ × ℤ). int_eq p.1 sub)
+      let all = selects_from 13 by_second (0 ∷ []) db.trees params rows refl (read.answer Null) pair_values two_columns (λ c. list_all (holds (params ∷ (column c 0 ∷ Null ∷ column c 1 ∷ []) ∷ [])) by_second) (λ c. column c 0 ∷ []) (λ (p : ℤ × ℤ). int_eq p.1 sub)
       (λ r. refl) (λ r. refl) (λ p. last_term (at_ints false Eq p.1 sub)) (flat_map pairs_of s.groups) stored in
       subst (λ (l : List Row). IsPermutation l rows) (sym (map-map number_values (λ (p : ℤ × ℤ). p.0) own) ∙ ap (map number_values) (namers_are sub s.groups)) all
 

@@ -50,13 +50,13 @@ own_sub_cells_shown db a s t there rows h =
     let read = subst (λ k. Reads k db (Int num ∷ []) rows) own_sub_cells_is h in
     let rises = subst (IsAscending (λ x y. sub_cell_cmp x y ≡ Less)) (append-nil t.cells) (all_sub_cells_rise a.serial (t ∷ []) (own, tt) (tt, tt)) in
     let stored = IsPermutation-filter (is_own num) _ _ s.sub_cells in
-    let mine = filter-map (is_own num) five_columns (db.trees 12) in
+    let mine = filter-map (is_own num) five_columns (db.trees 11) in
     let theirs = ap (filter (is_own num)) (sym (map-flat_map sub_cell_values (λ (t : SubGroup). t.cells) s.subs)) ∙ (filter-map (is_own num) sub_cell_values (flat_map (λ (t : SubGroup). t.cells) s.subs)
     ∙ ap (map sub_cell_values) (filter_same (λ c. is_own num (sub_cell_values c)) (λ (c : SubCellRow). int_eq c.subscription num) (λ c. last_term (at_ints false Eq c.subscription num)) (flat_map (λ (t : SubGroup). t.cells) s.subs)
     ∙ own_of (λ (c : SubCellRow). c.subscription) (λ (t : SubGroup). t.row.num) (λ (t : SubGroup). t.cells) s.subs t (cells_borne a.serial s.subs s.each_sub) (sub_numbers_differ s.subs s.subs_rising) there)) in
-    selects_one 12 by_first (1 ∷ 2 ∷ 3 ∷ 4 ∷ 5 ∷ []) (1 ∷ 2 ∷ []) db.trees (Int num ∷ []) rows refl (read.answer Null) sub_cell_values five_columns (λ c. (column c 0 ∷ column c 1 ∷ [], c)) sub_cell_cmp (λ r. refl) (λ c. refl)
+    selects_one 11 by_first (1 ∷ 2 ∷ 3 ∷ 4 ∷ 5 ∷ []) (1 ∷ 2 ∷ []) db.trees (Int num ∷ []) rows refl (read.answer Null) sub_cell_values five_columns (λ c. (column c 0 ∷ column c 1 ∷ [], c)) sub_cell_cmp (λ r. refl) (λ c. refl)
     (λ x y e. rw (value_cmp-Int x.subscription y.subscription, value_cmp-Int x.place y.place, then_equal (int_cmp x.place y.place)) e) t.cells rises
-    (subst (λ l. IsPermutation (map sub_cell_values t.cells) l) mine (subst (λ l. IsPermutation l (filter (is_own num) (map five_columns (db.trees 12)))) theirs stored))
+    (subst (λ l. IsPermutation (map sub_cell_values t.cells) l) mine (subst (λ l. IsPermutation l (filter (is_own num) (map five_columns (db.trees 11)))) theirs stored))
 
 -- ---- at most one row
 
@@ -94,7 +94,7 @@ module _ (db : Database) (a : Airspace) (s : Spells db a) (num : ℤ) (rows : Li
   shown =
       let params = Int num ∷ [] in
       let read = subst (λ c. Reads c db params rows) sub_numbered_is h in
-      selects_from 10 by_key (0 ∷ 2 ∷ 3 ∷ 4 ∷ 5 ∷ 6 ∷ 7 ∷ 8 ∷ 9 ∷ 10 ∷ 11 ∷ 12 ∷ 13 ∷ []) db.trees params rows refl (read.answer Null) (λ (t : SubGroup). sub_values t.row) sub_columns (λ c. list_all (holds (params ∷ c ∷ [])) by_key) (λ c. c) (λ (t : SubGroup). int_eq t.row.num num)
+      selects_from 9 by_key (0 ∷ 2 ∷ 3 ∷ 4 ∷ 5 ∷ 6 ∷ 7 ∷ 8 ∷ 9 ∷ 10 ∷ 11 ∷ 12 ∷ 13 ∷ []) db.trees params rows refl (read.answer Null) (λ (t : SubGroup). sub_values t.row) sub_columns (λ c. list_all (holds (params ∷ c ∷ [])) by_key) (λ c. c) (λ (t : SubGroup). int_eq t.row.num num)
       (λ r. refl) (λ r. refl) (λ t. last_term (at_ints false Eq t.row.num num)) s.subs s.sub_rows
 
   sub_row_shown : (t : SubGroup) → Has s.subs t → t.row.num ≡ num → rows ≡ sub_values t.row ∷ []

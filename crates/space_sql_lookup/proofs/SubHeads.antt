@@ -96,7 +96,7 @@ module _ (db : Database) (a : Airspace) (s : Spells db a) (id : ℕ) (fits : id 
       let params = Text (printed id) ∷ [] in
       let read = subst (λ c. Reads c db params rows) sub_is h in
       shows (λ t. sub_values t.row) rows
-      (selects_from 10 by_second (0 ∷ 2 ∷ 3 ∷ 4 ∷ 5 ∷ 6 ∷ 7 ∷ 8 ∷ 9 ∷ 10 ∷ 11 ∷ 12 ∷ 13 ∷ []) db.trees params rows refl (read.answer Null) (λ (t : SubGroup). sub_values t.row) sub_columns (is_id id) (λ c. c) (λ (t : SubGroup). is_id id (sub_values t.row))
+      (selects_from 9 by_second (0 ∷ 2 ∷ 3 ∷ 4 ∷ 5 ∷ 6 ∷ 7 ∷ 8 ∷ 9 ∷ 10 ∷ 11 ∷ 12 ∷ 13 ∷ []) db.trees params rows refl (read.answer Null) (λ (t : SubGroup). sub_values t.row) sub_columns (is_id id) (λ c. c) (λ (t : SubGroup). is_id id (sub_values t.row))
       (λ r. refl) (λ r. refl) (λ t. refl) s.subs s.sub_rows)
 
   pub sub_num_shown : (rows : List Row) → AnswersSubNum id db rows → ShowsSub a s.subs (λ t. number_values t.row.num) id rows
@@ -104,5 +104,5 @@ module _ (db : Database) (a : Airspace) (s : Spells db a) (id : ℕ) (fits : id 
       let params = Text (printed id) ∷ [] in
       let read = subst (λ c. Reads c db params rows) sub_num_is h in
       shows (λ t. number_values t.row.num) rows
-      (selects_from 10 by_second (0 ∷ []) db.trees params rows refl (read.answer Null) (λ (t : SubGroup). sub_values t.row) sub_columns (is_id id) (λ c. column c 0 ∷ []) (λ (t : SubGroup). is_id id (sub_values t.row))
+      (selects_from 9 by_second (0 ∷ []) db.trees params rows refl (read.answer Null) (λ (t : SubGroup). sub_values t.row) sub_columns (is_id id) (λ c. column c 0 ∷ []) (λ (t : SubGroup). is_id id (sub_values t.row))
       (λ r. refl) (λ r. refl) (λ t. refl) s.subs s.sub_rows)

@@ -1,4 +1,9 @@
 pub mod Insides
+pub mod OldMeans
+pub mod OldReads
 pub mod FirstMetas
+pub mod Reinserts
+pub mod Relays
 pub mod Moves
+pub mod Layings
 pub mod CheckedTables

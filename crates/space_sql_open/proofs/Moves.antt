@@ -35,20 +35,20 @@ abbrev pub HasMovedOk : Database → Database → Result (Unit {0}) OpenFault �
 HasMovedOk old new r = HasMoved old new
 
 -- After reading `meta`, the tables are unchanged.
-pub same_schema : (old new : Database) → SaysMeta old new (Ok tt) → old.schema ≡ first_schema → new.schema ≡ first_schema
+pub same_schema : (old new : Database) → SaysMeta 1 One old new (Ok tt) → old.schema ≡ first_schema → new.schema ≡ first_schema
 same_schema old new said has = ap (λ (d : Database). d.schema) said.1 ∙ has
 
-pub has_moved : (old mid new : Database) (x y : Unit {0}) → old.schema ≡ first_schema → SaysMeta old mid (Ok x) → Rewrites mid new (Ok y) → HasMoved old new
+pub has_moved : (old mid new : Database) (x y : Unit {0}) → old.schema ≡ first_schema → SaysMeta 1 One old mid (Ok x) → Rewrites mid new (Ok y) → HasMoved old new
 has_moved old mid new x y has said rewrote = record { schema = has; serial = said.0.0; meta = said.0.1; upgraded = subst (λ (d : Database). IsUpgraded d.trees new) said.1 rewrote }
 
 pub moved_schema : (old new : Database) → HasMoved old new → new.schema ≡ second_schema
 moved_schema old new h = (h.upgraded h.serial h.meta).schema
 
 -- If `meta` says format 1, it says no other format.
-not_other : (db : Database) (serial : ℤ) → HasMeta 1 serial (db.trees 0) → ¬ IsOtherFormat db
+pub not_other : (db : Database) (serial : ℤ) → HasMeta 1 serial (db.trees 0) → ¬ IsOtherFormat db
 not_other db serial meta other = other.not_one (let e = sym other.only ∙ meta in cc)
 
-not_other_after : (db : Database) (serial : ℤ) → HasMeta 2 serial (db.trees 0) → ¬ IsOtherFormat db
+pub not_other_after : (db : Database) (serial : ℤ) → HasMeta 2 serial (db.trees 0) → ¬ IsOtherFormat db
 not_other_after db serial meta other = other.not_two (let e = sym other.only ∙ meta in cc)
 
 -- The result of the check of the upgraded tables is right for the tables before the upgrade.
@@ -65,7 +65,7 @@ moves old mid new (Err Store) h judged = tt
 -- ---- the index on `naming`
 
 -- `meta` says another format only if it did before.
-same_meta : (old new : Database) → new.trees 0 ≡ old.trees 0 → IsOtherFormat new → IsOtherFormat old
+pub same_meta : (old new : Database) → new.trees 0 ≡ old.trees 0 → IsOtherFormat new → IsOtherFormat old
 same_meta old new is other = record { one = other.one; format = other.format; serial = other.serial; only = ap (map meta_columns) (sym is) ∙ other.only; not_one = other.not_one; not_two = other.not_two }
 
 -- The result of the check of the tables with the index is right for the tables without it.

@@ -1,12 +1,13 @@
--- Definitions of what the table `meta` says in tables of format 1.
-use Rattle.std.specs.Prelude.{◌≡◌, ℤ, pos, List, [], ◌∷◌, Result, Ok, Err, Vec}
+-- Definitions of what the table `meta` says in tables of an old format.
+use Rattle.std.specs.Prelude.{◌≡◌, ◌≢◌, ℕ, ℤ, pos, List, [], ◌∷◌, Result, Ok, Err, Vec}
 use Rattle.std.specs.Global.{Global}
 use Rattle.sqlite_value.specs.Order.{Row}
 use Rattle.sqlite_value.specs.declared.value.Value.TheVariants.{Int}
 use Rattle.sqlite.specs.Effect.{Database}
 use Rattle.sqlite.specs.declared.error.Error.{Error}
 use Rattle.space_sql_select.specs.Meta.{AreOtherFormat, ShowsMeta}
-use Rattle.space_sql_schema.specs.declared.format.Format.TheVariants.{One}
+use Rattle.space_sql_schema.specs.declared.format.Format.{Format}
+use Rattle.space_sql_schema.specs.Spelling.{meta_values}
 use Rattle.space_sql_schema.specs.Making.{HasMeta}
 use Rattle.space_sql_open.specs.Opening.{Refuses}
 use Rattle.space_sql_open.specs.declared.open_fault.OpenFault.{OpenFault}
@@ -33,8 +34,17 @@ abbrev pub ReadsMeta : Database → Database → Result (Vec Row Global) Error �
 ReadsMeta old new (Ok rows) = ShowsMeta old rows.items × (new ≡ old)
 ReadsMeta old new (Err e) = Unit {0}
 
--- Holds if `meta` says format 1 and the database is unchanged, or the fault says why the tables are
--- rejected.
-abbrev pub SaysMeta : Database → Database → Result (Unit {0}) OpenFault → Type 0
-SaysMeta old new (Ok x) = ((serial : ℤ) × HasMeta 1 serial (old.trees meta_tree)) × (new ≡ old)
-SaysMeta old new (Err fault) = Refuses One old fault
+-- The same for format 2.
+abbrev pub SaysSecondRows : List Row → Result (Unit {0}) OpenFault → Type 0
+SaysSecondRows rows (Ok x) = (serial : ℕ) × (rows ≡ meta_values 2 serial ∷ [])
+SaysSecondRows rows (Err NotADss) =
+    ((serial : ℕ) → rows ≢ meta_values 2 serial ∷ []) × ¬ AreOtherFormat rows
+SaysSecondRows rows (Err Version) = AreOtherFormat rows
+SaysSecondRows rows (Err Store) = ⊥
+
+-- Holds if `meta` says the number of the format and the database is unchanged, or the fault says
+-- why the tables are rejected.
+abbrev pub SaysMeta : ℕ → Format → Database → Database → Result (Unit {0}) OpenFault → Type 0
+SaysMeta number format old new (Ok x) =
+    ((serial : ℤ) × HasMeta number serial (old.trees meta_tree)) × (new ≡ old)
+SaysMeta number format old new (Err fault) = Refuses format old fault

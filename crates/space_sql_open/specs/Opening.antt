@@ -8,7 +8,7 @@ use Rattle.space_sql_select.specs.Meta.{IsOtherFormat}
 use Rattle.space_sql_load.specs.Checking.{loaded_airspace}
 use Rattle.space_sql_load.specs.declared.table_check.LoadedAirspace.{LoadedAirspace}
 use Rattle.space_sql_schema.specs.declared.format.Format.{Format}
-use Rattle.space_sql_schema.specs.declared.format.Format.TheVariants.{One, TwoUnindexed, Two}
+use Rattle.space_sql_schema.specs.declared.format.Format.TheVariants.{One, TwoUnindexed, Two, OldOne, OldTwoUnindexed, OldTwo}
 use Rattle.space_sql_schema.specs.Making.{AreOf}
 use Rattle.space_sql_schema.specs.Spelling.{Spells, SpellsAs}
 use Rattle.space_sql_schema.specs.Tables.{schema_of}
@@ -35,6 +35,9 @@ ChecksTables db (Err fault) = Refuses Two db fault
 abbrev pub format_before : OldFormat → Format
 format_before old_format.One = One
 format_before old_format.TwoUnindexed = TwoUnindexed
+format_before old_format.OldOne = OldOne
+format_before old_format.OldTwoUnindexed = OldTwoUnindexed
+format_before old_format.OldTwo = OldTwo
 
 -- Holds if the result is right for tables of the old format. After `Ok`, they represented an
 -- airspace, and the upgraded tables represent it in format 2.

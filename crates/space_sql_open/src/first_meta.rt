@@ -2,7 +2,8 @@
 ghost use Rattle.std.specs.Prelude.{◌≡◌, ◌↔◌, pos, IsTrue};
 ghost use Rattle.sqlite_value.specs.Order.{column};
 ghost use Rattle.sqlite_value.specs.declared.value.Value.TheVariants.{Int};
-ghost use Rattle.space_sql_schema.specs.Tables.{first_schema};
+ghost use Rattle.space_sql_schema.specs.Tables.{format_number, schema_of};
+ghost use Rattle.space_sql_schema.specs.declared.format.Format.{Format};
 ghost use Rattle.space_sql_schema.specs.Within.{SameConnection, Within};
 ghost use Rattle.space_sql_open.specs.FirstMeta.{IsFirstRow, AreFirst, SaysRows, ReadsMeta, SaysMeta};
 ghost use Rattle.space_sql_open.specs.Inside.{Inside};
@@ -65,9 +66,11 @@ fn said(rows: &[Row]) -> Result<(), OpenFault>
     }
 }
 
-fn read_meta<S: Alter>(tx: &mut Transaction<'_, S>) -> Result<Vec<Row>, Error>
+/// Returns the rows of `meta`, within an open transaction.
+pub(crate) fn read_meta<S: Alter>(tx: &mut Transaction<'_, S>) -> Result<Vec<Row>, Error>
     ensures same_reference { SameConnection tx.old tx.new }
-    ensures reads { Within S.Store tx.old tx.new (Inside first_schema ReadsMeta) result }
+    ensures reads { (format : Format)
+        → Within S.Store tx.old tx.new (Inside (schema_of format) ReadsMeta) result }
 {
     tx.query_all("SELECT one, format, serial FROM meta", &[])
 }
@@ -75,7 +78,8 @@ fn read_meta<S: Alter>(tx: &mut Transaction<'_, S>) -> Result<Vec<Row>, Error>
 /// Checks, within an open transaction, that `meta` says format 1.
 pub(crate) fn first_meta<S: Alter>(tx: &mut Transaction<'_, S>) -> Result<(), OpenFault>
     ensures same_reference { SameConnection tx.old tx.new }
-    ensures says { Within S.Store tx.old tx.new (Inside first_schema SaysMeta) result }
+    ensures says { (format : Format) → format_number format ≡ 1
+        → Within S.Store tx.old tx.new (Inside (schema_of format) (SaysMeta 1 format)) result }
 {
     match read_meta(tx) {
         Ok(rows) => said(rows.as_slice()),

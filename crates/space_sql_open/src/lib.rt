@@ -3,6 +3,11 @@
 
 pub mod checking;
 pub mod first_meta;
+pub mod laying;
 pub mod old_format;
+pub mod old_rows;
 pub mod open_fault;
+pub mod reinserting;
+pub mod relaying;
+pub mod second_meta;
 pub mod upgrading;

@@ -7,4 +7,10 @@ pub enum OldFormat {
     One,
     /// Format 2 without the index on `naming`.
     TwoUnindexed,
+    /// Format 1 in the old order.
+    OldOne,
+    /// Format 2 without the index on `naming`, in the old order.
+    OldTwoUnindexed,
+    /// Format 2 in the old order.
+    OldTwo,
 }

@@ -13,6 +13,7 @@ ghost use Rattle.space_sql_open.specs.declared.open_fault.OpenFault.TheVariants.
 
 use crate::checking::airspace_or_fault;
 use crate::first_meta::first_meta;
+use crate::laying::{lay_first, lay_indexed, lay_second};
 use crate::old_format::OldFormat;
 use crate::open_fault::OpenFault;
 use space_sql_load::reading::read_airspace_in_transaction;
@@ -32,8 +33,11 @@ fn rewrite<S: Alter>(tx: &mut Transaction<'_, S>) -> Result<(), OpenFault>
     }
 }
 
-// Checks that the tables of format 2 represent an airspace.
-fn check_upgraded<S: Alter>(alloc: Global, tx: &mut Transaction<'_, S>) -> Result<(), OpenFault>
+/// Checks that the tables of format 2 represent an airspace, within an open transaction.
+pub(crate) fn check_upgraded<S: Alter>(
+    alloc: Global,
+    tx: &mut Transaction<'_, S>,
+) -> Result<(), OpenFault>
     ensures same_reference { SameConnection tx.old tx.new }
     ensures judges { Within S.Store tx.old tx.new (Inside dss_schema Judges) result }
 {
@@ -93,6 +97,9 @@ fn upgrade_inside<S: Alter>(
     match from {
         OldFormat::One => upgrade_first(alloc, tx),
         OldFormat::TwoUnindexed => index_second(alloc, tx),
+        OldFormat::OldOne => lay_first(alloc, tx),
+        OldFormat::OldTwoUnindexed => lay_second(alloc, tx),
+        OldFormat::OldTwo => lay_indexed(alloc, tx),
     }
 }
 
@@ -144,8 +151,8 @@ fn fault_if_alive<S: Alter>(conn: &mut Connection<S>, fault: OpenFault) -> OpenF
     }
 }
 
-/// Upgrades tables of the old format to format 2 with its index, in one transaction, if they
-/// represent an airspace, which stays the same.
+/// Upgrades tables of the old format to format 2 with its index and in the new order, in one
+/// transaction, if they represent an airspace, which stays the same.
 ///
 /// Otherwise it leaves them unchanged. After `NotADss` and `Version`, nothing was written. After
 /// `Store`, the tables are those before the upgrade or those after it, with the same airspace.

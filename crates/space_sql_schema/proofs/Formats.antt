@@ -77,7 +77,7 @@ sets_format trees old new (Ok count) h has = λ n first.
       entities = at 1 ∙ (kept.0 (λ e. cc) ∙ rest.0);
       volumes = at 3 ∙ (kept.1.0 (λ e. cc) ∙ rest.1.0);
       cells = at 5 ∙ (kept.1.1.0 (λ e. cc) ∙ rest.1.1.0);
-      availabilities = at 8 ∙ (kept.1.1.1.0 (λ e. cc) ∙ rest.1.1.1.0);
-      bare = (at 10 ∙ (kept.1.1.1.1.0 (λ e. cc) ∙ rest.1.1.1.1.0), at 12 ∙ (kept.1.1.1.1.1.0 (λ e. cc) ∙ rest.1.1.1.1.1.0), at 15 ∙ (kept.1.1.1.1.1.1.0 (λ e. cc) ∙ rest.1.1.1.1.1.1.0));
+      availabilities = at 7 ∙ (kept.1.1.1.0 (λ e. cc) ∙ rest.1.1.1.0);
+      bare = (at 9 ∙ (kept.1.1.1.1.0 (λ e. cc) ∙ rest.1.1.1.1.0), at 11 ∙ (kept.1.1.1.1.1.0 (λ e. cc) ∙ rest.1.1.1.1.1.0), at 13 ∙ (kept.1.1.1.1.1.1.0 (λ e. cc) ∙ rest.1.1.1.1.1.1.0));
       sound = w.sound;
     }

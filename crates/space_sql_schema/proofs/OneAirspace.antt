@@ -33,10 +33,10 @@ use Rattle.space_rows.proofs.SubRows.{one_sub}
 use Rattle.space_rows.proofs.Chunks.{one_flat, Borne, Differ, all_turned}
 use Rattle.sqlite.specs.Effect.{Database}
 use Rattle.space_sql_schema.specs.declared.format.Format.{Format}
-use Rattle.space_sql_schema.specs.declared.format.Format.TheVariants.{One, TwoUnindexed, Two}
+use Rattle.space_sql_schema.specs.declared.format.Format.TheVariants.{One, TwoUnindexed, Two, OldOne, OldTwoUnindexed, OldTwo}
 use Rattle.space_sql_schema.specs.Tables.{format_number}
 use Rattle.space_sql_schema.specs.Laws.{OneAirspace}
-use Rattle.space_sql_schema.specs.Spelling.{SpellsAs, SubGroup, IsSubGroup, IsSubBefore, sub_pair_of, IsSubNumber, Names, Group, IsGroup, IsBefore, pair_of, naming_rows, naming_rows_of, meta_values, entity_values, volume_values, cell_values, availability_values, sub_values, sub_cell_values, entity_columns, six_columns, three_columns, meta_columns, sub_columns, five_columns, two_columns, later_rows}
+use Rattle.space_sql_schema.specs.Spelling.{SpellsAs, SubGroup, IsSubGroup, IsSubBefore, sub_pair_of, IsSubNumber, Names, Group, IsGroup, IsBefore, pair_of, naming_rows, naming_rows_of, meta_values, entity_values, volume_values, cell_values, availability_values, sub_values, sub_cell_values, entity_columns, six_columns, three_columns, meta_columns, sub_columns, five_columns, two_columns, later_rows, availability_rows, old_tree}
 use Rattle.space_sql_schema.proofs.Rising.{rises_once, volume_cmp, cell_cmp, sub_cell_cmp, naming_cmp, volume_total, cell_total, sub_cell_total, naming_total, all_volumes_rise, all_cells_rise, all_sub_cells_rise, all_namings_rise, volumes_of, cells_of, sub_cells_of, named_in, namings_borne}
 
 -- ---- reading rows back from their values
@@ -298,6 +298,17 @@ same_later : (format : Format) (D E : Database) → D.trees ≡ E.trees → (t :
 same_later One D E same t = refl
 same_later TwoUnindexed D E same t = ap (λ (db : Trees). db t) same
 same_later Two D E same t = ap (λ (db : Trees). db t) same
+same_later OldOne D E same t = refl
+same_later OldTwoUnindexed D E same t = ap (λ (db : Trees). db (old_tree t)) same
+same_later OldTwo D E same t = ap (λ (db : Trees). db (old_tree t)) same
+
+same_stated : (format : Format) (D E : Database) → D.trees ≡ E.trees → availability_rows format D ≡ availability_rows format E
+same_stated One D E same = ap (λ (db : Trees). db 7) same
+same_stated TwoUnindexed D E same = ap (λ (db : Trees). db 7) same
+same_stated Two D E same = ap (λ (db : Trees). db 7) same
+same_stated OldOne D E same = ap (λ (db : Trees). db 8) same
+same_stated OldTwoUnindexed D E same = ap (λ (db : Trees). db 8) same
+same_stated OldTwo D E same = ap (λ (db : Trees). db 8) same
 
 -- Databases with the same rows represent at most one airspace of a format.
 pub one_airspace_of : (format : Format) (D E : Database) (a b : Airspace) → D.trees ≡ E.trees → SpellsAs format D a → SpellsAs format E b → a ≡ b
@@ -305,12 +316,12 @@ one_airspace_of format D E a b same p q =
     let tree = λ (t : ℕ). ap (λ (db : Trees). db t) same in
     let later = same_later format D E same in
     let serial = one_serial (format_number format) a.serial b.serial (sym p.meta ∙ (ap (map meta_columns) (tree 0) ∙ q.meta)) in
-    let sub_rows = one_table sub_values sub_of_values sub_back (map (λ (s : SubGroup). s.row) p.subs) (map (λ (s : SubGroup). s.row) q.subs) _ _ (ap (map sub_columns) (later 10))
-    (subst (λ l. IsPermutation l (map sub_columns (later_rows format D 10))) (sym (map-map sub_values (λ (s : SubGroup). s.row) p.subs)) p.sub_rows)
-    (subst (λ l. IsPermutation l (map sub_columns (later_rows format E 10))) (sym (map-map sub_values (λ (s : SubGroup). s.row) q.subs)) q.sub_rows) in
-    let sub_cells = one_table sub_cell_values sub_cell_of_values sub_cell_back (flat_map (λ (s : SubGroup). s.cells) p.subs) (flat_map (λ (s : SubGroup). s.cells) q.subs) _ _ (ap (map five_columns) (later 12))
-    (subst (λ l. IsPermutation l (map five_columns (later_rows format D 12))) (sym (map-flat_map sub_cell_values (λ (s : SubGroup). s.cells) p.subs)) p.sub_cells)
-    (subst (λ l. IsPermutation l (map five_columns (later_rows format E 12))) (sym (map-flat_map sub_cell_values (λ (s : SubGroup). s.cells) q.subs)) q.sub_cells) in
+    let sub_rows = one_table sub_values sub_of_values sub_back (map (λ (s : SubGroup). s.row) p.subs) (map (λ (s : SubGroup). s.row) q.subs) _ _ (ap (map sub_columns) (later 9))
+    (subst (λ l. IsPermutation l (map sub_columns (later_rows format D 9))) (sym (map-map sub_values (λ (s : SubGroup). s.row) p.subs)) p.sub_rows)
+    (subst (λ l. IsPermutation l (map sub_columns (later_rows format E 9))) (sym (map-map sub_values (λ (s : SubGroup). s.row) q.subs)) q.sub_rows) in
+    let sub_cells = one_table sub_cell_values sub_cell_of_values sub_cell_back (flat_map (λ (s : SubGroup). s.cells) p.subs) (flat_map (λ (s : SubGroup). s.cells) q.subs) _ _ (ap (map five_columns) (later 11))
+    (subst (λ l. IsPermutation l (map five_columns (later_rows format D 11))) (sym (map-flat_map sub_cell_values (λ (s : SubGroup). s.cells) p.subs)) p.sub_cells)
+    (subst (λ l. IsPermutation l (map five_columns (later_rows format E 11))) (sym (map-flat_map sub_cell_values (λ (s : SubGroup). s.cells) q.subs)) q.sub_cells) in
     let subs = one_subs a.serial b.serial p.subs q.subs p.each_sub q.each_sub p.subs_rising q.subs_rising sub_rows sub_cells in
     let sub_pairs = IsPermutation-trans _ _ _ (IsPermutation-sym _ _ p.subs_kept) (subst (λ (ss : List SubGroup). IsPermutation (map sub_pair_of ss) (entries b.subscriptions)) (sym subs) q.subs_kept) in
     let subscriptions = one_map nat_cmp nat_cmp_total a.subscriptions b.subscriptions sub_pairs in
@@ -323,12 +334,12 @@ one_airspace_of format D E a b same p q =
     let cells = one_table cell_values cell_of_values cell_back (flat_map (λ (g : Group). g.cells) p.groups) (flat_map (λ (g : Group). g.cells) q.groups) _ _ (ap (map six_columns) (tree 5))
     (subst (λ l. IsPermutation l (map six_columns (D.trees 5))) (sym (map-flat_map cell_values (λ (g : Group). g.cells) p.groups)) p.cells)
     (subst (λ l. IsPermutation l (map six_columns (E.trees 5))) (sym (map-flat_map cell_values (λ (g : Group). g.cells) q.groups)) q.cells) in
-    let namings = IsPermutation-trans _ _ _ p.namings (subst (λ k. IsPermutation k (flat_map naming_rows_of q.groups)) (sym (ap (map two_columns) (later 15))) (IsPermutation-sym _ _ q.namings)) in
+    let namings = IsPermutation-trans _ _ _ p.namings (subst (λ k. IsPermutation k (flat_map naming_rows_of q.groups)) (sym (ap (map two_columns) (later 13))) (IsPermutation-sym _ _ q.namings)) in
     let theirs = subst (λ ss. AllByRecursion (IsGroup b.serial ss) q.groups) (sym subs) q.each in
     let groups = one_groups a.serial b.serial p.subs p.groups q.groups p.each theirs p.rising q.rising (sub_numbers_differ p.subs p.subs_rising) rows volumes cells namings in
     let pairs = IsPermutation-trans _ _ _ (IsPermutation-sym _ _ p.kept) (subst (λ (gs : List Group). IsPermutation (map pair_of gs) (entries b.entities)) (sym groups) q.kept) in
     let entities = one_map key_cmp key_total a.entities b.entities pairs in
-    let stated = one_table availability_values stated_of_values stated_back (entries a.availabilities) (entries b.availabilities) _ _ (ap (map three_columns) (tree 8)) p.availabilities q.availabilities in
+    let stated = one_table availability_values stated_of_values stated_back (entries a.availabilities) (entries b.availabilities) _ _ (ap (map three_columns) (same_stated format D E same)) p.availabilities q.availabilities in
     let availabilities = one_map text_cmp nat_list_cmp_total a.availabilities b.availabilities stated in
     λ i. record { entities = entities i; subscriptions = subscriptions i; availabilities = availabilities i; serial = serial i }
 

@@ -16,6 +16,9 @@ cell_text = codes "CREATE TABLE cell (entity INTEGER NOT NULL, volume INTEGER NO
 abbrev pub range_text : List ℕ
 range_text = codes "CREATE INDEX cell_range ON cell (lo, hi)"
 
+abbrev pub drop_range_text : List ℕ
+drop_range_text = codes "DROP INDEX IF EXISTS cell_range"
+
 abbrev pub availability_text : List ℕ
 availability_text = codes "CREATE TABLE availability (uss TEXT NOT NULL PRIMARY KEY, state INTEGER NOT NULL CHECK (state BETWEEN 0 AND 2), version TEXT NOT NULL) STRICT"
 
@@ -42,3 +45,18 @@ naming_index_text = codes "CREATE INDEX naming_subscription ON naming (subscript
 
 abbrev pub set_format_text : List ℕ
 set_format_text = codes "UPDATE meta SET format = 2 WHERE one = 1"
+
+abbrev pub drop_naming_index_text : List ℕ
+drop_naming_index_text = codes "DROP INDEX naming_subscription"
+
+abbrev pub drop_naming_text : List ℕ
+drop_naming_text = codes "DROP TABLE naming"
+
+abbrev pub drop_subscription_cell_text : List ℕ
+drop_subscription_cell_text = codes "DROP TABLE subscription_cell"
+
+abbrev pub drop_subscription_text : List ℕ
+drop_subscription_text = codes "DROP TABLE subscription"
+
+abbrev pub drop_availability_text : List ℕ
+drop_availability_text = codes "DROP TABLE availability"

@@ -11,7 +11,7 @@ use Rattle.sqlite.specs.declared.error.Error.{Error}
 use Rattle.entity_core.specs.Airspace.{Airspace, empty_at}
 use Rattle.space_sql_schema.specs.declared.format.Format.{Format}
 use Rattle.space_sql_schema.specs.declared.format.Format.TheVariants.{One, Two}
-use Rattle.space_sql_schema.specs.Tables.{no_schema, first_schema, unindexed_schema, second_schema}
+use Rattle.space_sql_schema.specs.Tables.{no_schema, first_schema, unindexed_schema, second_schema, old_first_schema, schema_4}
 use Rattle.space_sql_schema.specs.Spelling.{SpellsAs, meta_columns}
 use Rattle.space_sql_schema.specs.Trees.{meta_tree, entity_tree, volume_tree, cell_tree, availability_tree, subscription_tree, subscription_cell_tree, naming_tree}
 
@@ -96,11 +96,45 @@ EmptyIfNoTable old trees = HasNoTable old → AreOf SpellsEmpty trees
 abbrev pub first_rows : Trees → Trees
 first_rows trees t = if nat_lt t subscription_tree then trees t else []
 
--- Holds if the statements add tables beside those of format 1. The rows stay, whatever they are,
--- and the new tables are empty.
+-- Holds if the statements add tables beside those of format 1, or create or drop an index. The rows
+-- stay, whatever they are, and the new tables are empty.
 abbrev pub AddsTables : (before after : Schema) → Database → Database → Type 0
 AddsTables before after old new =
     (trees : Trees) → HasRows before (first_rows trees) old → HasRows after (first_rows trees) new
+
+-- Holds if the statements drop tables or indexes. The rows of the other tables stay.
+abbrev pub KeepsTables : (before after : Schema) → Database → Database → Type 0
+KeepsTables before after old new =
+    (trees : Trees) → HasRows before trees old → HasRows after trees new
+
+-- The rows of the tables `meta`, `entity`, `volume` and `cell`, with the others empty.
+abbrev pub four_rows : Trees → Trees
+four_rows trees t = if nat_lt t availability_tree then trees t else []
+
+-- Holds if the statements add tables beside `meta`, `entity`, `volume` and `cell`. The rows stay,
+-- and the new tables are empty.
+abbrev pub AddsToFour : (before after : Schema) → Database → Database → Type 0
+AddsToFour before after old new =
+    (trees : Trees) → HasRows before (four_rows trees) old → HasRows after (four_rows trees) new
+
+-- Holds if the statements add all tables of format 2 that are missing. The new tables are empty.
+abbrev pub AddsRest : Schema → Database → Database → Type 0
+AddsRest before old new =
+    (trees : Trees) → HasRows before (first_rows trees) old
+    → HasRows second_schema (first_rows trees) new × IsDatabase new
+
+-- The same for tables beside `meta`, `entity`, `volume` and `cell`.
+abbrev pub AddsToCells : Database → Database → Type 0
+AddsToCells old new =
+    (trees : Trees) → HasRows schema_4 (four_rows trees) old
+    → HasRows second_schema (four_rows trees) new × IsDatabase new
+
+-- Holds if tables of format 1 in the old order became those of format 2 in the new order. The rows
+-- of `meta`, `entity`, `volume` and `cell` stay, and the other tables are empty.
+abbrev pub LaysAnew : Database → Database → Type 0
+LaysAnew old new =
+    (trees : Trees) → HasRows old_first_schema trees old
+    → HasRows second_schema (four_rows trees) new × IsDatabase new
 
 -- Holds if the statements add the index on `naming` to tables of format 2. All rows stay, whatever
 -- they are.

@@ -1,5 +1,5 @@
 -- Definitions of the airspace that the tables represent.
-use Rattle.std.specs.Prelude.{◌≡◌, ℕ, ℤ, pos, ◌≤◌, ⊤, List, [], ◌∷◌, map, IsPermutation, Option, Some, None}
+use Rattle.std.specs.Prelude.{◌≡◌, ℕ, ℤ, pos, ◌≤◌, ⊤, List, [], ◌∷◌, map, IsPermutation, Option, Some, None, if◌then◌else◌, ◌==◌, ◌+◌}
 use Rattle.std.specs.List.{AllByRecursion, flat_map}
 use Rattle.std.specs.Ordering.{int_cmp}
 use Rattle.std.specs.declared.cmp.Ordering.TheVariants.{Less}
@@ -25,9 +25,9 @@ use Rattle.space_rows.specs.declared.rows.SubCellRow.{SubCellRow}
 use Rattle.space_rows.specs.Rows.{SpellsEntity}
 use Rattle.space_rows.specs.Subs.{SpellsSub}
 use Rattle.space_sql_schema.specs.declared.format.Format.{Format}
-use Rattle.space_sql_schema.specs.declared.format.Format.TheVariants.{One, TwoUnindexed, Two}
+use Rattle.space_sql_schema.specs.declared.format.Format.TheVariants.{One, TwoUnindexed, Two, OldOne, OldTwoUnindexed, OldTwo}
 use Rattle.space_sql_schema.specs.Tables.{schema_of, format_number}
-use Rattle.space_sql_schema.specs.Trees.{meta_tree, entity_tree, volume_tree, cell_tree, availability_tree, subscription_tree, subscription_cell_tree, naming_tree}
+use Rattle.space_sql_schema.specs.Trees.{meta_tree, entity_tree, volume_tree, cell_tree, availability_tree, subscription_tree, subscription_cell_tree, naming_tree, old_availability_tree, old_naming_tree}
 
 -- ---- the columns of rows, in the order in which the tables declare them
 
@@ -173,11 +173,38 @@ abbrev pub AreApart : List Row → Type 0
 AreApart rows = (ids : List ℤ) × IsAscending (λ m n. int_cmp m n ≡ Less) ids
     × IsPermutation (map (λ n. Int n) ids) (map rowid rows)
 
--- The rows of a table that format 2 added. In format 1 there are none.
+-- The rows of `availability`.
+abbrev pub availability_rows : Format → Database → List Row
+availability_rows One db = db.trees availability_tree
+availability_rows TwoUnindexed db = db.trees availability_tree
+availability_rows Two db = db.trees availability_tree
+availability_rows OldOne db = db.trees old_availability_tree
+availability_rows OldTwoUnindexed db = db.trees old_availability_tree
+availability_rows OldTwo db = db.trees old_availability_tree
+
+-- The tree in the old order of a table that format 2 added, given its tree in the new order.
+abbrev pub old_tree : ℕ → ℕ
+old_tree tree = if tree == naming_tree then old_naming_tree else tree + 1
+
+-- The rows of a table that format 2 added, given its tree in the new order. In format 1 there are
+-- none.
 abbrev pub later_rows : Format → Database → ℕ → List Row
 later_rows One db tree = []
 later_rows TwoUnindexed db tree = db.trees tree
 later_rows Two db tree = db.trees tree
+later_rows OldOne db tree = []
+later_rows OldTwoUnindexed db tree = db.trees (old_tree tree)
+later_rows OldTwo db tree = db.trees (old_tree tree)
+
+-- Holds if the rowids of `availability` or `subscription_cell` fit the format. In the old order they
+-- do not matter, since an upgrade inserts the rows anew.
+abbrev pub AreFit : Format → List Row → Type 0
+AreFit One rows = AreApart rows
+AreFit TwoUnindexed rows = AreApart rows
+AreFit Two rows = AreApart rows
+AreFit OldOne rows = ⊤
+AreFit OldTwoUnindexed rows = ⊤
+AreFit OldTwo rows = ⊤
 
 -- Holds if the tables are exactly those of the format, and they represent the airspace. The table
 -- `meta` has its one row. The rows of `subscription` and `subscription_cell` form one group for
@@ -212,11 +239,11 @@ pub record SpellsAs (format : Format) (db : Database) (a : Airspace) : Type 0 wh
       (map two_columns (later_rows format db naming_tree))
   pub kept : IsPermutation (map pair_of groups) (entries a.entities)
   pub availabilities : IsPermutation (map availability_values (entries a.availabilities))
-      (map three_columns (db.trees availability_tree))
+      (map three_columns (availability_rows format db))
   pub stated : AllByRecursion IsStated (entries a.availabilities)
   pub apart : AreApart (db.trees volume_tree) × AreApart (db.trees cell_tree)
-      × AreApart (db.trees availability_tree)
-      × AreApart (later_rows format db subscription_cell_tree)
+      × AreFit format (availability_rows format db)
+      × AreFit format (later_rows format db subscription_cell_tree)
 
 -- Holds if the tables represent the airspace in format 2, the current format.
 abbrev pub Spells : Database → Airspace → Type 0

@@ -17,8 +17,8 @@ use Rattle.sqlite_sql.specs.declared.ops.CompareOp.TheVariants.{Eq, Ge, Le}
 use Rattle.sqlite_value.specs.Keys.{plain}
 use Rattle.sqlite_catalog.specs.Listing.{automatic}
 use Rattle.space_sql_schema.specs.declared.format.Format.{Format}
-use Rattle.space_sql_schema.specs.declared.format.Format.TheVariants.{One, TwoUnindexed, Two}
-use Rattle.space_sql_schema.specs.Trees.{meta_tree, entity_tree, volume_tree, cell_tree, availability_tree, subscription_tree, subscription_cell_tree, naming_tree}
+use Rattle.space_sql_schema.specs.declared.format.Format.TheVariants.{One, TwoUnindexed, Two, OldOne, OldTwoUnindexed, OldTwo}
+use Rattle.space_sql_schema.specs.Trees.{meta_tree, entity_tree, volume_tree, cell_tree, availability_tree, subscription_tree, subscription_cell_tree, naming_tree, old_availability_tree, old_subscription_tree, old_subscription_cell_tree, old_naming_tree}
 
 -- ---- columns and checks; the columns of a row count from 1
 
@@ -220,9 +220,9 @@ key_index table columns tree = automatic table 0 columns tree
 abbrev pub no_schema : Schema
 no_schema = record { tables = []; indexes = []; views = [] }
 
--- The schema with exactly the tables of format 1. Each table and each index has its tree, in the
--- order of their creation: those of the tables have names, those of the indexes are 2, 4, 6, 7, 9,
--- 11, 13, 14 and 16.
+-- The schema with exactly the tables of format 1, and their index on cells after them. Each table
+-- and each index has its tree, in the order of their creation: those of the tables have names,
+-- those of the indexes are 2, 4, 6, 8 and 9.
 abbrev pub first_schema : Schema
 first_schema = record {
   tables = meta meta_tree ∷ entity entity_tree ∷ volume volume_tree ∷ cell cell_tree
@@ -231,7 +231,8 @@ first_schema = record {
       key_index (entity entity_tree) (2 ∷ 3 ∷ []) 2
       ∷ key_index (volume volume_tree) (1 ∷ 2 ∷ []) 4
       ∷ key_index (cell cell_tree) (1 ∷ 2 ∷ 3 ∷ []) 6
-      ∷ cell_range 7 cell_tree ∷ key_index (availability availability_tree) (1 ∷ []) 9 ∷ [];
+      ∷ key_index (availability availability_tree) (1 ∷ []) 8
+      ∷ cell_range 9 cell_tree ∷ [];
   views = [];
 }
 
@@ -240,8 +241,9 @@ abbrev pub later_tables : List Table
 later_tables = subscription subscription_tree ∷ subscription_cell subscription_cell_tree
     ∷ naming naming_tree ∷ []
 
--- The schema with exactly the tables of format 2: those of format 1, followed by three more. It
--- lacks the index on `naming`, as earlier versions created it.
+-- The schema with exactly the tables of format 2: those of format 1, followed by three more. The
+-- indexes on cells come after all tables. It lacks the index on `naming`, as earlier versions
+-- created it.
 abbrev pub unindexed_schema : Schema
 unindexed_schema = record {
   tables = meta meta_tree ∷ entity entity_tree ∷ volume volume_tree ∷ cell cell_tree
@@ -251,14 +253,16 @@ unindexed_schema = record {
       key_index (entity entity_tree) (2 ∷ 3 ∷ []) 2
       ∷ key_index (volume volume_tree) (1 ∷ 2 ∷ []) 4
       ∷ key_index (cell cell_tree) (1 ∷ 2 ∷ 3 ∷ []) 6
-      ∷ cell_range 7 cell_tree ∷ key_index (availability availability_tree) (1 ∷ []) 9
-      ∷ key_index (subscription subscription_tree) (2 ∷ []) 11
-      ∷ key_index (subscription_cell subscription_cell_tree) (1 ∷ 2 ∷ []) 13
-      ∷ subscription_cell_range 14 subscription_cell_tree ∷ [];
+      ∷ key_index (availability availability_tree) (1 ∷ []) 8
+      ∷ key_index (subscription subscription_tree) (2 ∷ []) 10
+      ∷ key_index (subscription_cell subscription_cell_tree) (1 ∷ 2 ∷ []) 12
+      ∷ cell_range 14 cell_tree
+      ∷ subscription_cell_range 15 subscription_cell_tree ∷ [];
   views = [];
 }
 
--- The schema with exactly the tables of format 2, and the index on `naming` after them.
+-- The schema with exactly the tables of format 2, and all indexes after them, that on `naming`
+-- last. SQLite's `VACUUM` keeps this order.
 abbrev pub second_schema : Schema
 second_schema = record {
   tables = meta meta_tree ∷ entity entity_tree ∷ volume volume_tree ∷ cell cell_tree
@@ -268,24 +272,87 @@ second_schema = record {
       key_index (entity entity_tree) (2 ∷ 3 ∷ []) 2
       ∷ key_index (volume volume_tree) (1 ∷ 2 ∷ []) 4
       ∷ key_index (cell cell_tree) (1 ∷ 2 ∷ 3 ∷ []) 6
-      ∷ cell_range 7 cell_tree ∷ key_index (availability availability_tree) (1 ∷ []) 9
-      ∷ key_index (subscription subscription_tree) (2 ∷ []) 11
-      ∷ key_index (subscription_cell subscription_cell_tree) (1 ∷ 2 ∷ []) 13
-      ∷ subscription_cell_range 14 subscription_cell_tree
+      ∷ key_index (availability availability_tree) (1 ∷ []) 8
+      ∷ key_index (subscription subscription_tree) (2 ∷ []) 10
+      ∷ key_index (subscription_cell subscription_cell_tree) (1 ∷ 2 ∷ []) 12
+      ∷ cell_range 14 cell_tree
+      ∷ subscription_cell_range 15 subscription_cell_tree
       ∷ naming_subscription 16 naming_tree ∷ [];
   views = [];
 }
+
+-- ---- the old order
+
+-- The tables of format 1 as earlier versions created them. The index on cells precedes
+-- `availability`.
+abbrev pub old_first_schema : Schema
+old_first_schema = record {
+  tables = meta meta_tree ∷ entity entity_tree ∷ volume volume_tree ∷ cell cell_tree
+      ∷ availability old_availability_tree ∷ [];
+  indexes =
+      key_index (entity entity_tree) (2 ∷ 3 ∷ []) 2
+      ∷ key_index (volume volume_tree) (1 ∷ 2 ∷ []) 4
+      ∷ key_index (cell cell_tree) (1 ∷ 2 ∷ 3 ∷ []) 6
+      ∷ cell_range 7 cell_tree
+      ∷ key_index (availability old_availability_tree) (1 ∷ []) 9 ∷ [];
+  views = [];
+}
+
+-- The tables of format 2 as earlier versions added them to those of format 1.
+abbrev pub old_unindexed_schema : Schema
+old_unindexed_schema = record {
+  tables = meta meta_tree ∷ entity entity_tree ∷ volume volume_tree ∷ cell cell_tree
+      ∷ availability old_availability_tree ∷ subscription old_subscription_tree
+      ∷ subscription_cell old_subscription_cell_tree ∷ naming old_naming_tree ∷ [];
+  indexes =
+      key_index (entity entity_tree) (2 ∷ 3 ∷ []) 2
+      ∷ key_index (volume volume_tree) (1 ∷ 2 ∷ []) 4
+      ∷ key_index (cell cell_tree) (1 ∷ 2 ∷ 3 ∷ []) 6
+      ∷ cell_range 7 cell_tree
+      ∷ key_index (availability old_availability_tree) (1 ∷ []) 9
+      ∷ key_index (subscription old_subscription_tree) (2 ∷ []) 11
+      ∷ key_index (subscription_cell old_subscription_cell_tree) (1 ∷ 2 ∷ []) 13
+      ∷ subscription_cell_range 14 old_subscription_cell_tree ∷ [];
+  views = [];
+}
+
+-- The same tables with the index on `naming` after them.
+abbrev pub old_second_schema : Schema
+old_second_schema = record {
+  tables = meta meta_tree ∷ entity entity_tree ∷ volume volume_tree ∷ cell cell_tree
+      ∷ availability old_availability_tree ∷ subscription old_subscription_tree
+      ∷ subscription_cell old_subscription_cell_tree ∷ naming old_naming_tree ∷ [];
+  indexes =
+      key_index (entity entity_tree) (2 ∷ 3 ∷ []) 2
+      ∷ key_index (volume volume_tree) (1 ∷ 2 ∷ []) 4
+      ∷ key_index (cell cell_tree) (1 ∷ 2 ∷ 3 ∷ []) 6
+      ∷ cell_range 7 cell_tree
+      ∷ key_index (availability old_availability_tree) (1 ∷ []) 9
+      ∷ key_index (subscription old_subscription_tree) (2 ∷ []) 11
+      ∷ key_index (subscription_cell old_subscription_cell_tree) (1 ∷ 2 ∷ []) 13
+      ∷ subscription_cell_range 14 old_subscription_cell_tree
+      ∷ naming_subscription 16 old_naming_tree ∷ [];
+  views = [];
+}
+
+-- ---- the formats
 
 abbrev pub schema_of : Format → Schema
 schema_of One = first_schema
 schema_of TwoUnindexed = unindexed_schema
 schema_of Two = second_schema
+schema_of OldOne = old_first_schema
+schema_of OldTwoUnindexed = old_unindexed_schema
+schema_of OldTwo = old_second_schema
 
 -- The number of a format in `meta`.
 abbrev pub format_number : Format → ℕ
 format_number One = 1
 format_number TwoUnindexed = 2
 format_number Two = 2
+format_number OldOne = 1
+format_number OldTwoUnindexed = 2
+format_number OldTwo = 2
 
 -- The schema of the current format.
 abbrev pub dss_schema : Schema
@@ -320,8 +387,84 @@ schema_4 = record {
   views = [];
 }
 
+-- The tables of format 1 without their index on cells. The index either follows them
+-- (`first_schema`), or the later tables do (`schema_6`).
 abbrev pub schema_5 : Schema
 schema_5 = record {
+  tables = meta meta_tree ∷ entity entity_tree ∷ volume volume_tree ∷ cell cell_tree
+      ∷ availability availability_tree ∷ [];
+  indexes =
+      key_index (entity entity_tree) (2 ∷ 3 ∷ []) 2
+      ∷ key_index (volume volume_tree) (1 ∷ 2 ∷ []) 4
+      ∷ key_index (cell cell_tree) (1 ∷ 2 ∷ 3 ∷ []) 6
+      ∷ key_index (availability availability_tree) (1 ∷ []) 8 ∷ [];
+  views = [];
+}
+
+abbrev pub schema_6 : Schema
+schema_6 = record {
+  tables = meta meta_tree ∷ entity entity_tree ∷ volume volume_tree ∷ cell cell_tree
+      ∷ availability availability_tree ∷ subscription subscription_tree ∷ [];
+  indexes =
+      key_index (entity entity_tree) (2 ∷ 3 ∷ []) 2
+      ∷ key_index (volume volume_tree) (1 ∷ 2 ∷ []) 4
+      ∷ key_index (cell cell_tree) (1 ∷ 2 ∷ 3 ∷ []) 6
+      ∷ key_index (availability availability_tree) (1 ∷ []) 8
+      ∷ key_index (subscription subscription_tree) (2 ∷ []) 10 ∷ [];
+  views = [];
+}
+
+abbrev pub schema_7 : Schema
+schema_7 = record {
+  tables = meta meta_tree ∷ entity entity_tree ∷ volume volume_tree ∷ cell cell_tree
+      ∷ availability availability_tree ∷ subscription subscription_tree
+      ∷ subscription_cell subscription_cell_tree ∷ [];
+  indexes =
+      key_index (entity entity_tree) (2 ∷ 3 ∷ []) 2
+      ∷ key_index (volume volume_tree) (1 ∷ 2 ∷ []) 4
+      ∷ key_index (cell cell_tree) (1 ∷ 2 ∷ 3 ∷ []) 6
+      ∷ key_index (availability availability_tree) (1 ∷ []) 8
+      ∷ key_index (subscription subscription_tree) (2 ∷ []) 10
+      ∷ key_index (subscription_cell subscription_cell_tree) (1 ∷ 2 ∷ []) 12 ∷ [];
+  views = [];
+}
+
+-- All tables of format 2, with the indexes of their keys only.
+abbrev pub schema_8 : Schema
+schema_8 = record {
+  tables = meta meta_tree ∷ entity entity_tree ∷ volume volume_tree ∷ cell cell_tree
+      ∷ availability availability_tree ∷ subscription subscription_tree
+      ∷ subscription_cell subscription_cell_tree ∷ naming naming_tree ∷ [];
+  indexes =
+      key_index (entity entity_tree) (2 ∷ 3 ∷ []) 2
+      ∷ key_index (volume volume_tree) (1 ∷ 2 ∷ []) 4
+      ∷ key_index (cell cell_tree) (1 ∷ 2 ∷ 3 ∷ []) 6
+      ∷ key_index (availability availability_tree) (1 ∷ []) 8
+      ∷ key_index (subscription subscription_tree) (2 ∷ []) 10
+      ∷ key_index (subscription_cell subscription_cell_tree) (1 ∷ 2 ∷ []) 12 ∷ [];
+  views = [];
+}
+
+abbrev pub schema_9 : Schema
+schema_9 = record {
+  tables = meta meta_tree ∷ entity entity_tree ∷ volume volume_tree ∷ cell cell_tree
+      ∷ availability availability_tree ∷ subscription subscription_tree
+      ∷ subscription_cell subscription_cell_tree ∷ naming naming_tree ∷ [];
+  indexes =
+      key_index (entity entity_tree) (2 ∷ 3 ∷ []) 2
+      ∷ key_index (volume volume_tree) (1 ∷ 2 ∷ []) 4
+      ∷ key_index (cell cell_tree) (1 ∷ 2 ∷ 3 ∷ []) 6
+      ∷ key_index (availability availability_tree) (1 ∷ []) 8
+      ∷ key_index (subscription subscription_tree) (2 ∷ []) 10
+      ∷ key_index (subscription_cell subscription_cell_tree) (1 ∷ 2 ∷ []) 12
+      ∷ cell_range 14 cell_tree ∷ [];
+  views = [];
+}
+
+-- ---- the intermediate schemas of the old order, one table a step
+
+abbrev pub old_schema_4 : Schema
+old_schema_4 = record {
   tables = meta meta_tree ∷ entity entity_tree ∷ volume volume_tree ∷ cell cell_tree ∷ [];
   indexes =
       key_index (entity entity_tree) (2 ∷ 3 ∷ []) 2
@@ -331,48 +474,33 @@ schema_5 = record {
   views = [];
 }
 
--- Format 1 (`first_schema`) comes between `schema_5` and `schema_7`.
-
-abbrev pub schema_7 : Schema
-schema_7 = record {
+abbrev pub old_schema_6 : Schema
+old_schema_6 = record {
   tables = meta meta_tree ∷ entity entity_tree ∷ volume volume_tree ∷ cell cell_tree
-      ∷ availability availability_tree ∷ subscription subscription_tree ∷ [];
+      ∷ availability old_availability_tree ∷ subscription old_subscription_tree ∷ [];
   indexes =
       key_index (entity entity_tree) (2 ∷ 3 ∷ []) 2
       ∷ key_index (volume volume_tree) (1 ∷ 2 ∷ []) 4
       ∷ key_index (cell cell_tree) (1 ∷ 2 ∷ 3 ∷ []) 6
-      ∷ cell_range 7 cell_tree ∷ key_index (availability availability_tree) (1 ∷ []) 9
-      ∷ key_index (subscription subscription_tree) (2 ∷ []) 11 ∷ [];
+      ∷ cell_range 7 cell_tree
+      ∷ key_index (availability old_availability_tree) (1 ∷ []) 9
+      ∷ key_index (subscription old_subscription_tree) (2 ∷ []) 11 ∷ [];
   views = [];
 }
 
-abbrev pub schema_8 : Schema
-schema_8 = record {
+abbrev pub old_schema_7 : Schema
+old_schema_7 = record {
   tables = meta meta_tree ∷ entity entity_tree ∷ volume volume_tree ∷ cell cell_tree
-      ∷ availability availability_tree ∷ subscription subscription_tree
-      ∷ subscription_cell subscription_cell_tree ∷ [];
+      ∷ availability old_availability_tree ∷ subscription old_subscription_tree
+      ∷ subscription_cell old_subscription_cell_tree ∷ [];
   indexes =
       key_index (entity entity_tree) (2 ∷ 3 ∷ []) 2
       ∷ key_index (volume volume_tree) (1 ∷ 2 ∷ []) 4
       ∷ key_index (cell cell_tree) (1 ∷ 2 ∷ 3 ∷ []) 6
-      ∷ cell_range 7 cell_tree ∷ key_index (availability availability_tree) (1 ∷ []) 9
-      ∷ key_index (subscription subscription_tree) (2 ∷ []) 11
-      ∷ key_index (subscription_cell subscription_cell_tree) (1 ∷ 2 ∷ []) 13 ∷ [];
-  views = [];
-}
-
-abbrev pub schema_9 : Schema
-schema_9 = record {
-  tables = meta meta_tree ∷ entity entity_tree ∷ volume volume_tree ∷ cell cell_tree
-      ∷ availability availability_tree ∷ subscription subscription_tree
-      ∷ subscription_cell subscription_cell_tree ∷ [];
-  indexes =
-      key_index (entity entity_tree) (2 ∷ 3 ∷ []) 2
-      ∷ key_index (volume volume_tree) (1 ∷ 2 ∷ []) 4
-      ∷ key_index (cell cell_tree) (1 ∷ 2 ∷ 3 ∷ []) 6
-      ∷ cell_range 7 cell_tree ∷ key_index (availability availability_tree) (1 ∷ []) 9
-      ∷ key_index (subscription subscription_tree) (2 ∷ []) 11
-      ∷ key_index (subscription_cell subscription_cell_tree) (1 ∷ 2 ∷ []) 13
-      ∷ subscription_cell_range 14 subscription_cell_tree ∷ [];
+      ∷ cell_range 7 cell_tree
+      ∷ key_index (availability old_availability_tree) (1 ∷ []) 9
+      ∷ key_index (subscription old_subscription_tree) (2 ∷ []) 11
+      ∷ key_index (subscription_cell old_subscription_cell_tree) (1 ∷ 2 ∷ []) 13
+      ∷ subscription_cell_range 14 old_subscription_cell_tree ∷ [];
   views = [];
 }

@@ -5,5 +5,6 @@
 pub mod format;
 pub mod laws;
 pub mod make;
+pub mod order;
 pub mod presence;
 pub mod upgrade;

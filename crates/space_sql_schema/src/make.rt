@@ -3,7 +3,7 @@ ghost use Rattle.std.specs.Prelude.{◌≡◌, false, OnOk, OnErr, IsTrue};
 ghost use Rattle.sqlite.specs.Held.{state};
 ghost use Rattle.sqlite.specs.State.{HasCleanDisk, Survives};
 ghost use Rattle.space_sql_schema.specs.declared.format.Format.TheVariants.{One};
-ghost use Rattle.space_sql_schema.specs.Making.{AreMade, AreMadeFirst, IsBare, IsMade, IsUndone, Leads, EmptyIfNoTable, SpellsEmptyAs};
+ghost use Rattle.space_sql_schema.specs.Making.{AddsToFour, AreMade, AreMadeFirst, IsBare, IsMade, IsUndone, Leads, EmptyIfNoTable, SpellsEmptyAs, Steps};
 ghost use Rattle.space_sql_schema.specs.Tables.{no_schema, first_schema, dss_schema, schema_1, schema_2, schema_3, schema_4, schema_5};
 ghost use Rattle.space_sql_schema.specs.Within.{SameConnection, Within};
 
@@ -67,24 +67,25 @@ fn make_cell<S: Alter>(tx: &mut Transaction<'_, S>) -> Result<usize, Error>
     )
 }
 
-fn make_range<S: Alter>(tx: &mut Transaction<'_, S>) -> Result<usize, Error>
+/// Creates the table `availability` beside those before it.
+pub(crate) fn make_availability<S: Alter>(tx: &mut Transaction<'_, S>) -> Result<usize, Error>
     ensures same_reference { SameConnection tx.old tx.new }
-    ensures leads { Within S.Store tx.old tx.new
-        (Leads (IsBare schema_4) (IsBare schema_5)) result }
-{
-    tx.execute("CREATE INDEX cell_range ON cell (lo, hi)", &[])
-}
-
-fn make_availability<S: Alter>(tx: &mut Transaction<'_, S>) -> Result<usize, Error>
-    ensures same_reference { SameConnection tx.old tx.new }
-    ensures leads { Within S.Store tx.old tx.new
-        (Leads (IsBare schema_5) (IsBare first_schema)) result }
+    ensures adds { Within S.Store tx.old tx.new (Steps (AddsToFour schema_4 schema_5)) result }
 {
     tx.execute(
         "CREATE TABLE availability (uss TEXT NOT NULL PRIMARY KEY, \
          state INTEGER NOT NULL CHECK (state BETWEEN 0 AND 2), version TEXT NOT NULL) STRICT",
         &[],
     )
+}
+
+// Creates the index on the ranges of cells in tables of format 1.
+fn make_first_range<S: Alter>(tx: &mut Transaction<'_, S>) -> Result<usize, Error>
+    ensures same_reference { SameConnection tx.old tx.new }
+    ensures leads { Within S.Store tx.old tx.new
+        (Leads (IsBare schema_5) (IsBare first_schema)) result }
+{
+    tx.execute("CREATE INDEX cell_range ON cell (lo, hi)", &[])
 }
 
 fn add_first_row<S: Alter>(tx: &mut Transaction<'_, S>) -> Result<usize, Error>
@@ -131,17 +132,6 @@ fn make_extents<S: Alter>(tx: &mut Transaction<'_, S>) -> Result<(), Error>
     Ok(())
 }
 
-// Creates the index on the ranges of cells, and the table `availability`.
-fn make_rest<S: Alter>(tx: &mut Transaction<'_, S>) -> Result<(), Error>
-    ensures same_reference { SameConnection tx.old tx.new }
-    ensures leads { Within S.Store tx.old tx.new
-        (Leads (IsBare schema_4) (IsBare first_schema)) result }
-{
-    make_range(tx)?;
-    make_availability(tx)?;
-    Ok(())
-}
-
 fn make_four<S: Alter>(tx: &mut Transaction<'_, S>) -> Result<(), Error>
     ensures same_reference { SameConnection tx.old tx.new }
     ensures leads { Within S.Store tx.old tx.new
@@ -152,25 +142,36 @@ fn make_four<S: Alter>(tx: &mut Transaction<'_, S>) -> Result<(), Error>
     Ok(())
 }
 
-// Creates the tables of format 1.
+// Creates the tables of format 1, without the index on the ranges of cells.
+fn make_five<S: Alter>(tx: &mut Transaction<'_, S>) -> Result<(), Error>
+    ensures same_reference { SameConnection tx.old tx.new }
+    ensures leads { Within S.Store tx.old tx.new
+        (Leads (IsBare no_schema) (IsBare schema_5)) result }
+{
+    make_four(tx)?;
+    make_availability(tx)?;
+    Ok(())
+}
+
+// Creates the tables of format 1 and their index.
 fn make_first<S: Alter>(tx: &mut Transaction<'_, S>) -> Result<(), Error>
     ensures same_reference { SameConnection tx.old tx.new }
     ensures leads { Within S.Store tx.old tx.new
         (Leads (IsBare no_schema) (IsBare first_schema)) result }
 {
-    make_four(tx)?;
-    make_rest(tx)?;
+    make_five(tx)?;
+    make_first_range(tx)?;
     Ok(())
 }
 
-// Creates the tables of format 2. Those of format 1 come first, so that upgraded tables have the
-// same schema.
+// Creates the tables of format 2, and then their indexes. Those of format 1 come first, so that
+// upgraded tables have the same schema.
 fn make_both<S: Alter>(tx: &mut Transaction<'_, S>) -> Result<(), Error>
     ensures same_reference { SameConnection tx.old tx.new }
     ensures leads { Within S.Store tx.old tx.new
         (Leads (IsBare no_schema) (IsBare dss_schema)) result }
 {
-    make_first(tx)?;
+    make_five(tx)?;
     make_later(tx)?;
     Ok(())
 }
@@ -217,8 +218,8 @@ pub fn make_tables<S: Alter>(conn: &mut Connection<S>) -> Result<(), Error>
     tx.commit()
 }
 
-/// Creates tables of format 1, in one transaction, as earlier versions did, for tests of the
-/// upgrade to format 2.
+/// Creates tables of format 1, in one transaction, for tests of the upgrade to format 2. They stand
+/// in the order in which SQLite's `VACUUM` leaves those that earlier versions created.
 ///
 /// It is for a database that has no table.
 pub fn make_format_1<S: Alter>(conn: &mut Connection<S>) -> Result<(), Error>

@@ -1,11 +1,11 @@
 //! The presence of the tables of the formats in a database.
-ghost use Rattle.std.specs.Prelude.{◌≡◌, codes};
+ghost use Rattle.std.specs.Prelude.{◌≡◌, ◌&&◌, ◌==◌, codes, length};
 ghost use Rattle.std.specs.List.{list_any};
 ghost use Rattle.sqlite_schema.specs.Names.{same_name};
-ghost use Rattle.space_sql_schema.specs.Tables.{no_schema, first_schema, unindexed_schema, second_schema, later_tables, meta, entity, volume, cell, availability, subscription, subscription_cell, naming};
+ghost use Rattle.space_sql_schema.specs.Tables.{no_schema, first_schema, unindexed_schema, second_schema, old_first_schema, old_unindexed_schema, old_second_schema, schema_of, later_tables, meta, entity, volume, cell, availability, subscription, subscription_cell, naming};
 ghost use Rattle.space_sql_schema.specs.Trees.{meta_tree, entity_tree, volume_tree, cell_tree, availability_tree, subscription_tree, subscription_cell_tree, naming_tree};
-ghost use Rattle.space_sql_schema.specs.declared.format.Format.TheVariants.{One, TwoUnindexed, Two};
-ghost use Rattle.space_sql_schema.specs.Presence.{is_named, has_column, stands_for, has_all, has_some, has_naming_index, presence_among, presence_in};
+ghost use Rattle.space_sql_schema.specs.declared.format.Format.TheVariants.{One, TwoUnindexed, Two, OldOne, OldTwoUnindexed, OldTwo};
+ghost use Rattle.space_sql_schema.specs.Presence.{is_named, has_column, stands_for, has_all, has_some, has_naming_index, presence_among, is_in_place, are_in_place, is_like, are_ours, is_alone, is_front_in_place, is_out_of_place, in_old_order, in_order, presence_in};
 
 use crate::format::Format;
 use sqlite_schema::names::same_name;
@@ -19,7 +19,8 @@ pub enum Presence {
     /// Some tables exist, but others or some of their columns do not.
     Partial,
     /// All tables of a format exist, with their columns. For format 1, none of the later tables
-    /// exists. For format 2, the index on `naming` is looked for by its name.
+    /// exists. For format 2, the index on `naming` is looked for by its name. The old order is
+    /// found only if nothing else exists.
     Whole(Format),
 }
 
@@ -39,6 +40,20 @@ fn has_column(table: &Table, name: &[u8]) -> bool
     ensures { result ≡ has_column name.now table.now }
 {
     table.columns.as_slice().iter().any(|c| is_column(c, name))
+}
+
+// Returns true if the table has this name and this tree.
+fn is_at(table: &Table, name: &[u8], tree: u32) -> bool
+    ensures { result ≡ (is_named name.now table.now && (table.now.tree == tree)) }
+{
+    is_named(table, name) && table.tree == tree
+}
+
+// Returns true if the table has this name and this number of columns.
+fn is_wide(table: &Table, name: &[u8], columns: usize) -> bool
+    ensures { result ≡ (is_named name.now table.now && (length table.now.columns == columns)) }
+{
+    is_named(table, name) && table.columns.len() == columns
 }
 
 fn is_meta(table: &Table) -> bool
@@ -258,19 +273,130 @@ fn presence_among(tables: &[Table], indexes: &[Index]) -> Presence
     }
 }
 
+fn is_in_place(table: &Table) -> bool
+    ensures { result ≡ list_any (λ own. is_in_place own table.now) second_schema.tables }
+{
+    is_at(table, b"meta", 0)
+        || (is_at(table, b"entity", 1)
+            || (is_at(table, b"volume", 3)
+                || (is_at(table, b"cell", 5)
+                    || (is_at(table, b"availability", 7)
+                        || (is_at(table, b"subscription", 9)
+                            || (is_at(table, b"subscription_cell", 11)
+                                || is_at(table, b"naming", 13)))))))
+}
+
+fn are_in_place(tables: &[Table]) -> bool
+    ensures { result ≡ are_in_place tables.now }
+{
+    tables.iter().all(|t| is_in_place(t))
+}
+
+fn is_like(table: &Table) -> bool
+    ensures { result ≡ list_any (λ own. is_like own table.now) second_schema.tables }
+{
+    is_wide(table, b"meta", 3)
+        || (is_wide(table, b"entity", 9)
+            || (is_wide(table, b"volume", 6)
+                || (is_wide(table, b"cell", 6)
+                    || (is_wide(table, b"availability", 3)
+                        || (is_wide(table, b"subscription", 13)
+                            || (is_wide(table, b"subscription_cell", 5)
+                                || is_wide(table, b"naming", 2)))))))
+}
+
+fn are_ours(tables: &[Table]) -> bool
+    ensures { result ≡ are_ours tables.now }
+{
+    tables.iter().all(|t| is_like(t))
+}
+
+fn index_count(format: Format) -> usize
+    ensures { result ≡ length (schema_of format).indexes }
+{
+    match format {
+        Format::One | Format::OldOne => 5,
+        Format::TwoUnindexed | Format::OldTwoUnindexed => 8,
+        Format::Two | Format::OldTwo => 9,
+    }
+}
+
+// Returns true if there is nothing beside the tables and indexes of the format, by their number.
+fn is_alone(format: Format, schema: &Schema) -> bool
+    ensures { result ≡ is_alone format schema.now }
+{
+    are_ours(schema.tables.as_slice())
+        && (schema.indexes.len() == index_count(format) && schema.views.len() == 0)
+}
+
+fn any_at(tables: &[Table], name: &[u8], tree: u32) -> bool
+    ensures { let named = name.now in
+        result ≡ list_any (λ table. is_named named table && (table.tree == tree)) tables.now }
+{
+    tables.iter().any(|t| is_at(t, name, tree))
+}
+
+fn is_front_in_place(tables: &[Table]) -> bool
+    ensures { result ≡ is_front_in_place tables.now }
+{
+    any_at(tables, b"meta", 0)
+        && (any_at(tables, b"entity", 1)
+            && (any_at(tables, b"volume", 3) && any_at(tables, b"cell", 5)))
+}
+
+// Returns true if tables after `cell` are out of their place, and get it if they are created anew.
+// Beside other tables or after others, they would not.
+fn is_out_of_place(format: Format, schema: &Schema) -> bool
+    ensures { result ≡ is_out_of_place format schema.now }
+{
+    let tables = schema.tables.as_slice();
+    is_alone(format, schema) && (is_front_in_place(tables) && !are_in_place(tables))
+}
+
+fn in_old_order(format: Format) -> Format
+    ensures { result ≡ in_old_order format }
+{
+    match format {
+        Format::One | Format::OldOne => Format::OldOne,
+        Format::TwoUnindexed | Format::OldTwoUnindexed => Format::OldTwoUnindexed,
+        Format::Two | Format::OldTwo => Format::OldTwo,
+    }
+}
+
+fn in_order(schema: &Schema, presence: Presence) -> Presence
+    ensures { result ≡ in_order schema.now presence }
+{
+    match presence {
+        Presence::Missing => Presence::Missing,
+        Presence::Partial => Presence::Partial,
+        Presence::Whole(format) => {
+            if is_out_of_place(format, schema) {
+                Presence::Whole(in_old_order(format))
+            } else {
+                Presence::Whole(format)
+            }
+        }
+    }
+}
+
 /// Returns the presence of the tables of the formats in a schema.
 ///
-/// It ignores further tables, columns, constraints and indexes. It allocates nothing.
+/// It ignores further tables, columns, constraints and indexes. Only without them, it tells whether
+/// the tables are in the old order. It allocates nothing.
 pub fn presence_of(schema: &Schema) -> Presence
     ensures exact { result ≡ presence_in schema.now }
     ensures missing { schema.now ≡ no_schema → result ≡ Presence.Missing }
     ensures first { schema.now ≡ first_schema → result ≡ Presence.Whole One }
     ensures unindexed { schema.now ≡ unindexed_schema → result ≡ Presence.Whole TwoUnindexed }
     ensures second { schema.now ≡ second_schema → result ≡ Presence.Whole Two }
+    ensures old_first { schema.now ≡ old_first_schema → result ≡ Presence.Whole OldOne }
+    ensures old_unindexed { schema.now ≡ old_unindexed_schema
+        → result ≡ Presence.Whole OldTwoUnindexed }
+    ensures old_second { schema.now ≡ old_second_schema → result ≡ Presence.Whole OldTwo }
 {
     let tables = schema.tables.as_slice();
     let indexes = schema.indexes.as_slice();
-    presence_among(tables, indexes)
+    in_order(schema, presence_among(tables, indexes))
 }
 
 /// Returns true if a schema has the table `meta` with its columns. It allocates nothing.

@@ -2,15 +2,24 @@
 ghost use Rattle.std.specs.Prelude.{◌≡◌, false, OnOk, OnErr, IsTrue};
 ghost use Rattle.sqlite.specs.Held.{state};
 ghost use Rattle.sqlite.specs.State.{HasCleanDisk, Survives};
-ghost use Rattle.space_sql_schema.specs.Making.{AddsIndex, AddsTables, AreUpgraded, IsUndone, MayBeUpgraded, SetsFormat, Steps, Upgrades};
-ghost use Rattle.space_sql_schema.specs.Tables.{first_schema, schema_7, schema_8, schema_9, unindexed_schema, second_schema};
+ghost use Rattle.space_sql_schema.specs.Making.{AddsIndex, AddsRest, AddsTables, AreUpgraded, IsUndone, MayBeUpgraded, SetsFormat, Steps, Upgrades};
+ghost use Rattle.space_sql_schema.specs.Tables.{first_schema, schema_5, schema_6, schema_7, schema_8, schema_9, unindexed_schema, second_schema};
 ghost use Rattle.space_sql_schema.specs.Within.{SameConnection, Within};
 
 use sqlite::{Alter, Connection, Error, Transaction};
 
+// Drops the index on the ranges of cells, so that the later tables precede it when it is created
+// again.
+fn drop_range<S: Alter>(tx: &mut Transaction<'_, S>) -> Result<usize, Error>
+    ensures same_reference { SameConnection tx.old tx.new }
+    ensures adds { Within S.Store tx.old tx.new (Steps (AddsTables first_schema schema_5)) result }
+{
+    tx.execute("DROP INDEX IF EXISTS cell_range", &[])
+}
+
 fn make_subscription<S: Alter>(tx: &mut Transaction<'_, S>) -> Result<usize, Error>
     ensures same_reference { SameConnection tx.old tx.new }
-    ensures adds { Within S.Store tx.old tx.new (Steps (AddsTables first_schema schema_7)) result }
+    ensures adds { Within S.Store tx.old tx.new (Steps (AddsTables schema_5 schema_6)) result }
 {
     tx.execute(
         "CREATE TABLE subscription (num INTEGER PRIMARY KEY NOT NULL, id TEXT NOT NULL UNIQUE, \
@@ -28,7 +37,7 @@ fn make_subscription<S: Alter>(tx: &mut Transaction<'_, S>) -> Result<usize, Err
 
 fn make_subscription_cell<S: Alter>(tx: &mut Transaction<'_, S>) -> Result<usize, Error>
     ensures same_reference { SameConnection tx.old tx.new }
-    ensures adds { Within S.Store tx.old tx.new (Steps (AddsTables schema_7 schema_8)) result }
+    ensures adds { Within S.Store tx.old tx.new (Steps (AddsTables schema_6 schema_7)) result }
 {
     tx.execute(
         "CREATE TABLE subscription_cell (\
@@ -39,25 +48,32 @@ fn make_subscription_cell<S: Alter>(tx: &mut Transaction<'_, S>) -> Result<usize
     )
 }
 
-fn make_subscription_range<S: Alter>(tx: &mut Transaction<'_, S>) -> Result<usize, Error>
-    ensures same_reference { SameConnection tx.old tx.new }
-    ensures adds { Within S.Store tx.old tx.new (Steps (AddsTables schema_8 schema_9)) result }
-{
-    tx.execute(
-        "CREATE INDEX subscription_cell_range ON subscription_cell (lo, hi)",
-        &[],
-    )
-}
-
 fn make_naming<S: Alter>(tx: &mut Transaction<'_, S>) -> Result<usize, Error>
     ensures same_reference { SameConnection tx.old tx.new }
-    ensures adds { Within S.Store tx.old tx.new
-        (Steps (AddsTables schema_9 unindexed_schema)) result }
+    ensures adds { Within S.Store tx.old tx.new (Steps (AddsTables schema_7 schema_8)) result }
 {
     tx.execute(
         "CREATE TABLE naming (\
          entity INTEGER PRIMARY KEY NOT NULL REFERENCES entity (num) ON DELETE CASCADE, \
          subscription INTEGER NOT NULL REFERENCES subscription (num) ON DELETE RESTRICT) STRICT",
+        &[],
+    )
+}
+
+fn make_range<S: Alter>(tx: &mut Transaction<'_, S>) -> Result<usize, Error>
+    ensures same_reference { SameConnection tx.old tx.new }
+    ensures adds { Within S.Store tx.old tx.new (Steps (AddsTables schema_8 schema_9)) result }
+{
+    tx.execute("CREATE INDEX cell_range ON cell (lo, hi)", &[])
+}
+
+fn make_subscription_range<S: Alter>(tx: &mut Transaction<'_, S>) -> Result<usize, Error>
+    ensures same_reference { SameConnection tx.old tx.new }
+    ensures adds { Within S.Store tx.old tx.new
+        (Steps (AddsTables schema_9 unindexed_schema)) result }
+{
+    tx.execute(
+        "CREATE INDEX subscription_cell_range ON subscription_cell (lo, hi)",
         &[],
     )
 }
@@ -72,7 +88,8 @@ fn make_naming_index<S: Alter>(tx: &mut Transaction<'_, S>) -> Result<usize, Err
     )
 }
 
-fn set_format<S: Alter>(tx: &mut Transaction<'_, S>) -> Result<usize, Error>
+/// Sets the format in `meta` to 2, within an open transaction.
+pub fn set_format<S: Alter>(tx: &mut Transaction<'_, S>) -> Result<usize, Error>
     ensures same_reference { SameConnection tx.old tx.new }
     ensures sets { Within S.Store tx.old tx.new (Steps SetsFormat) result }
 {
@@ -82,32 +99,42 @@ fn set_format<S: Alter>(tx: &mut Transaction<'_, S>) -> Result<usize, Error>
 // Creates the tables `subscription` and `subscription_cell`.
 fn make_subscriptions<S: Alter>(tx: &mut Transaction<'_, S>) -> Result<(), Error>
     ensures same_reference { SameConnection tx.old tx.new }
-    ensures adds { Within S.Store tx.old tx.new (Steps (AddsTables first_schema schema_8)) result }
+    ensures adds { Within S.Store tx.old tx.new (Steps (AddsTables schema_5 schema_7)) result }
 {
     make_subscription(tx)?;
     make_subscription_cell(tx)?;
     Ok(())
 }
 
-// Creates the index on the ranges of their cells, and the table `naming`.
+// Creates the tables of format 2 that format 1 does not have.
 fn make_others<S: Alter>(tx: &mut Transaction<'_, S>) -> Result<(), Error>
     ensures same_reference { SameConnection tx.old tx.new }
-    ensures adds { Within S.Store tx.old tx.new
-        (Steps (AddsTables schema_8 unindexed_schema)) result }
+    ensures adds { Within S.Store tx.old tx.new (Steps (AddsTables schema_5 schema_8)) result }
 {
-    make_subscription_range(tx)?;
+    make_subscriptions(tx)?;
     make_naming(tx)?;
     Ok(())
 }
 
-// Creates the tables of format 2 that format 1 does not have.
+// Creates the indexes on the ranges of cells.
+fn make_ranges<S: Alter>(tx: &mut Transaction<'_, S>) -> Result<(), Error>
+    ensures same_reference { SameConnection tx.old tx.new }
+    ensures adds { Within S.Store tx.old tx.new
+        (Steps (AddsTables schema_8 unindexed_schema)) result }
+{
+    make_range(tx)?;
+    make_subscription_range(tx)?;
+    Ok(())
+}
+
+// Creates the tables of format 2 that format 1 does not have, and the indexes on cells.
 fn make_unindexed<S: Alter>(tx: &mut Transaction<'_, S>) -> Result<(), Error>
     ensures same_reference { SameConnection tx.old tx.new }
     ensures adds { Within S.Store tx.old tx.new
-        (Steps (AddsTables first_schema unindexed_schema)) result }
+        (Steps (AddsTables schema_5 unindexed_schema)) result }
 {
-    make_subscriptions(tx)?;
     make_others(tx)?;
+    make_ranges(tx)?;
     Ok(())
 }
 
@@ -120,14 +147,25 @@ pub fn add_index<S: Alter>(tx: &mut Transaction<'_, S>) -> Result<(), Error>
     Ok(())
 }
 
-/// Creates the tables of format 2 that format 1 does not have, and the index on `naming`.
+/// Creates the tables of format 2 that format 1 does not have, and then the indexes on cells and on
+/// `naming`. SQLite's `VACUUM` leaves them in this order.
 pub(crate) fn make_later<S: Alter>(tx: &mut Transaction<'_, S>) -> Result<(), Error>
+    ensures same_reference { SameConnection tx.old tx.new }
+    ensures adds { Within S.Store tx.old tx.new (Steps (AddsRest schema_5)) result }
+{
+    make_unindexed(tx)?;
+    add_index(tx)?;
+    Ok(())
+}
+
+// Creates the later tables beside those of format 1, with all indexes after them.
+fn add_later<S: Alter>(tx: &mut Transaction<'_, S>) -> Result<(), Error>
     ensures same_reference { SameConnection tx.old tx.new }
     ensures adds { Within S.Store tx.old tx.new
         (Steps (AddsTables first_schema second_schema)) result }
 {
-    make_unindexed(tx)?;
-    add_index(tx)?;
+    drop_range(tx)?;
+    make_later(tx)?;
     Ok(())
 }
 
@@ -136,7 +174,7 @@ pub fn upgrade_in_transaction<S: Alter>(tx: &mut Transaction<'_, S>) -> Result<(
     ensures same_reference { SameConnection tx.old tx.new }
     ensures upgrades { Within S.Store tx.old tx.new (Steps Upgrades) result }
 {
-    make_later(tx)?;
+    add_later(tx)?;
     set_format(tx)?;
     Ok(())
 }

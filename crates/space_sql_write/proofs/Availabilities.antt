@@ -49,7 +49,7 @@ use Rattle.space_sql_write.proofs.Spelt.{AreStated, entities_later, lay_out, own
 
 -- ---- deleting the row
 
-clear_availability_is : command_of (understood dss_schema clear_availability_text) ≡ Delete 4 (record { lets = []; body = query_of 8 (is_first 1) (col 1 0 ∷ []) })
+clear_availability_is : command_of (understood dss_schema clear_availability_text) ≡ Delete 4 (record { lets = []; body = query_of 7 (is_first 1) (col 1 0 ∷ []) })
 unfolding understood everything
 clear_availability_is = refl
 
@@ -57,7 +57,7 @@ clear_availability_plain : IsPlain (understood dss_schema clear_availability_tex
 unfolding understood everything
 clear_availability_plain = (refl, refl)
 
-no_works : (db : Trees) (ids : List ℤ) → works dss_schema Enforced 0 8 (taken_by db (edit_of db (availability 8) ids Given 0 [])) [] ≡ []
+no_works : (db : Trees) (ids : List ℤ) → works dss_schema Enforced 0 7 (taken_by db (edit_of db (availability 7) ids Given 0 [])) [] ≡ []
 unfolding everything
 no_works db ids = refl
 
@@ -72,9 +72,9 @@ pub clears_availability : (old new : State) (uss : List ℕ) (r : Result ℕ Err
 clears_availability old new uss (Err e) h = tt
 clears_availability old new uss (Ok count) h = λ l _ has.
     let db = old.now.trees in
-    let u = clears_table clear_availability_text (Text uss ∷ []) (availability 8) 4 (is_first 1) refl clear_availability_is clear_availability_plain old new count has.schema has.availabilities.apart refl h
-    (λ ids next same wrote. one_step dss_schema Enforced db next (edit_of db (availability 8) ids Given 0 []) (no_works db ids) wrote) in
-    let left = some_left availability_values three_columns l.availabilities (db 8) has.availabilities (λ c. not (names uss c)) (λ s. not (eq_by_cmp text_cmp uss s.0)) (λ s. ap not (names_uss uss s)) in
+    let u = clears_table clear_availability_text (Text uss ∷ []) (availability 7) 4 (is_first 1) refl clear_availability_is clear_availability_plain old new count has.schema has.availabilities.apart refl h
+    (λ ids next same wrote. one_step dss_schema Enforced db next (edit_of db (availability 7) ids Given 0 []) (no_works db ids) wrote) in
+    let left = some_left availability_values three_columns l.availabilities (db 7) has.availabilities (λ c. not (names uss c)) (λ s. not (eq_by_cmp text_cmp uss s.0)) (λ s. ap not (names_uss uss s)) in
     subst (λ d. LaysOut d (without_availability_row uss l)) (sym u.is) (availabilities_relaid old.now u.next l has u.step.tables _ (subst (AreRows availability_values three_columns _) (sym u.rows) left))
 
 -- ---- the new airspace

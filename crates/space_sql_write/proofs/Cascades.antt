@@ -154,7 +154,7 @@ naming_reference : Reference
 naming_reference = record { columns = 0 ∷ []; parent = codes "entity"; parent_columns = codes "num" ∷ []; on_delete = Cascade; on_update = NoAction; is_deferred = false }
 
 abbrev naming_work : List Row → Work
-naming_work olds = record { depth = 0; child = naming 15; ref = naming_reference; places = 0 ∷ []; order = plain; deed = deed.Delete; moves = pairs olds [] }
+naming_work olds = record { depth = 0; child = naming 13; ref = naming_reference; places = 0 ∷ []; order = plain; deed = deed.Delete; moves = pairs olds [] }
 
 entity_works : (olds : List Row) → (works dss_schema Enforced 0 1 olds [] ≡ []) ⊎ (works dss_schema Enforced 0 1 olds [] ≡ volume_work olds ∷ naming_work olds ∷ [])
 unfolding everything volume_reference naming_reference
@@ -172,7 +172,7 @@ naming_of_entity : (olds : List Row) (r : Row) (m : Row × Row) → is_child_of 
 unfolding everything naming_reference
 naming_of_entity olds r m e = first_of_two _ _ (last_of_two _ _ e)
 
-pub entity_quiet : (db next : Trees) (ids : List ℤ) (num : ℤ) → AllByRecursion (λ m. column m 0 ≡ Int num) (map (row_at (db 1)) ids) → AllByRecursion (differs 1 num) (db 3) → AllByRecursion (differs 0 num) (db 15)
+pub entity_quiet : (db next : Trees) (ids : List ℤ) (num : ℤ) → AllByRecursion (λ m. column m 0 ≡ Int num) (map (row_at (db 1)) ids) → AllByRecursion (differs 1 num) (db 3) → AllByRecursion (differs 0 num) (db 13)
     → Acts dss_schema Enforced db (edit_of db (entity 1) ids Given 0 []) (Ok next) → Applies dss_schema Enforced db (edit_of db (entity 1) ids Given 0 []) next
 entity_quiet db next ids num all none unnamed wrote =
     let edit = edit_of db (entity 1) ids Given 0 [] in
@@ -190,19 +190,19 @@ sub_cell_reference : Reference
 sub_cell_reference = record { columns = 1 ∷ []; parent = codes "subscription"; parent_columns = codes "num" ∷ []; on_delete = Cascade; on_update = NoAction; is_deferred = false }
 
 abbrev sub_cell_work : List Row → Work
-sub_cell_work olds = record { depth = 0; child = subscription_cell 12; ref = sub_cell_reference; places = 0 ∷ []; order = plain; deed = deed.Delete; moves = pairs olds [] }
+sub_cell_work olds = record { depth = 0; child = subscription_cell 11; ref = sub_cell_reference; places = 0 ∷ []; order = plain; deed = deed.Delete; moves = pairs olds [] }
 
 named_reference : Reference
 named_reference = record { columns = 2 ∷ []; parent = codes "subscription"; parent_columns = codes "num" ∷ []; on_delete = Restrict; on_update = NoAction; is_deferred = false }
 
 abbrev named_work : List Row → Work
-named_work olds = record { depth = 0; child = naming 15; ref = named_reference; places = 0 ∷ []; order = plain; deed = deed.Refuse; moves = pairs olds [] }
+named_work olds = record { depth = 0; child = naming 13; ref = named_reference; places = 0 ∷ []; order = plain; deed = deed.Refuse; moves = pairs olds [] }
 
-sub_works : (olds : List Row) → (works dss_schema Enforced 0 10 olds [] ≡ []) ⊎ (works dss_schema Enforced 0 10 olds [] ≡ sub_cell_work olds ∷ named_work olds ∷ [])
+sub_works : (olds : List Row) → (works dss_schema Enforced 0 9 olds [] ≡ []) ⊎ (works dss_schema Enforced 0 9 olds [] ≡ sub_cell_work olds ∷ named_work olds ∷ [])
 unfolding everything sub_cell_reference named_reference
 sub_works olds = go (list_any (loses plain (0 ∷ [])) (pairs olds [])) refl
   where
-    go : (b : Bool) → list_any (loses plain (0 ∷ [])) (pairs olds []) ≡ b → (works dss_schema Enforced 0 10 olds [] ≡ []) ⊎ (works dss_schema Enforced 0 10 olds [] ≡ sub_cell_work olds ∷ named_work olds ∷ [])
+    go : (b : Bool) → list_any (loses plain (0 ∷ [])) (pairs olds []) ≡ b → (works dss_schema Enforced 0 9 olds [] ≡ []) ⊎ (works dss_schema Enforced 0 9 olds [] ≡ sub_cell_work olds ∷ named_work olds ∷ [])
     go true e = inr (rw e)
     go false e = inl (rw e)
 
@@ -214,11 +214,11 @@ naming_of_sub : (olds : List Row) (r : Row) (m : Row × Row) → is_child_of (na
 unfolding everything named_reference
 naming_of_sub olds r m e = first_of_two _ _ (last_of_two _ _ e)
 
-pub sub_quiet : (db next : Trees) (ids : List ℤ) (num : ℤ) → AllByRecursion (λ m. column m 0 ≡ Int num) (map (row_at (db 10)) ids) → AllByRecursion (differs 1 num) (db 12) → AllByRecursion (differs 2 num) (db 15)
-    → Acts dss_schema Enforced db (edit_of db (subscription 10) ids Given 0 []) (Ok next) → Applies dss_schema Enforced db (edit_of db (subscription 10) ids Given 0 []) next
+pub sub_quiet : (db next : Trees) (ids : List ℤ) (num : ℤ) → AllByRecursion (λ m. column m 0 ≡ Int num) (map (row_at (db 9)) ids) → AllByRecursion (differs 1 num) (db 11) → AllByRecursion (differs 2 num) (db 13)
+    → Acts dss_schema Enforced db (edit_of db (subscription 9) ids Given 0 []) (Ok next) → Applies dss_schema Enforced db (edit_of db (subscription 9) ids Given 0 []) next
 sub_quiet db next ids num all none unnamed wrote =
-    let edit = edit_of db (subscription 10) ids Given 0 [] in
-    let olds = map (row_at (db 10)) ids in
+    let edit = edit_of db (subscription 9) ids Given 0 [] in
+    let olds = map (row_at (db 9)) ids in
     let cells = λ (mid : Trees) (step : Applies dss_schema Enforced db edit mid). idle num (sub_cell_work olds) 1 0 (cell_of_sub olds) olds refl mid all (subst (AllByRecursion (differs 1 num)) (sym (step.tables.1.1.1.1.1.1.0 (λ e. cc))) none) in
     let namings = λ (mid : Trees) (step : Applies dss_schema Enforced db edit mid). idle num (named_work olds) 2 0 (naming_of_sub olds) olds refl mid all (subst (AllByRecursion (differs 2 num)) (sym (step.tables.1.1.1.1.1.1.1.0 (λ e. cc))) unnamed) in
     elim (sub_works olds) [

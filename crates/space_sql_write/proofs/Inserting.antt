@@ -11,7 +11,7 @@ use Rattle.sqlite_rules.specs.Edit.{taken_by, is_taken, next_rowid}
 use Rattle.sqlite_rules.specs.Action.{works, Writes as Acts}
 use Rattle.sqlite_schema.specs.declared.schema.Keys.TheVariants.{Enforced}
 use Rattle.sqlite.specs.Table.{Table}
-use Rattle.sqlite.specs.Effect.{Database, value_rows}
+use Rattle.sqlite.specs.Effect.{Database, IsDatabase, value_rows}
 use Rattle.sqlite.specs.Rows.{stamped}
 use Rattle.sqlite.specs.Rowids.TheVariants.{Chosen}
 use Rattle.sqlite.specs.Command.TheVariants.{Insert}
@@ -36,12 +36,13 @@ use Rattle.space_sql_write.proofs.Joining.{one_more}
 use Rattle.space_sql_write.proofs.Selecting.{fresh_one, one_put}
 
 -- Holds if one row was inserted, and it was new.
-record Joined (old new : Database) (table : Table) (one : Row) : Type 0 where
-  next : Trees
-  is : new ≡ record { schema = dss_schema; trees = next }
-  stand : OthersStand old.trees next table.tree
-  fresh : is_taken (old.trees table.tree) one ≡ false
-  rows : next table.tree ≡ put_row one (old.trees table.tree)
+pub record Joined (old new : Database) (table : Table) (one : Row) : Type 0 where
+  pub next : Trees
+  pub is : new ≡ record { schema = dss_schema; trees = next }
+  pub stand : OthersStand old.trees next table.tree
+  pub fresh : is_taken (old.trees table.tree) one ≡ false
+  pub rows : next table.tree ≡ put_row one (old.trees table.tree)
+  pub sound : IsDatabase new
 
 module _ (text : List ℕ) (params : Row) (table : Table) (at : ℕ) (terms : List Term) (width : ℕ) (source : Row) (listed : slice_get dss_schema.tables at ≡ Some table) (uncounted : table.is_counted ≡ false)
     (is : command_of (understood dss_schema text) ≡ Insert at (Values terms width)) (plain : IsPlain (understood dss_schema text)) (means : value_rows (stamped table params) width (length terms / width) terms ≡ source ∷ []) where
@@ -63,6 +64,7 @@ module _ (text : List ℕ) (params : Row) (table : Table) (at : ℕ) (terms : Li
         stand = step.tables;
         fresh = fresh_one db u.next (puts db) one news step;
         rows = one_put db u.next (puts db) one news step;
+        sound = w.sound;
       }
 
 -- ---- volumes
@@ -135,24 +137,27 @@ insert_sub_cell_plain : IsPlain (understood dss_schema insert_sub_cell_text)
 unfolding understood everything
 insert_sub_cell_plain = (refl, refl)
 
-abbrev sub_cell_source : SubCellRow → Row
+abbrev pub sub_cell_source : SubCellRow → Row
 sub_cell_source r = Null ∷ sub_cell_values r
 
-abbrev stored_sub_cell : Trees → SubCellRow → Row
-stored_sub_cell db r = Int (next_rowid (db 12)) ∷ sub_cell_values r
+abbrev pub stored_sub_cell : Trees → SubCellRow → Row
+stored_sub_cell db r = Int (next_rowid (db 11)) ∷ sub_cell_values r
 
-new_sub_cell : (db : Trees) (r : SubCellRow) → (edit_of db (subscription_cell 12) [] Chosen 0 (sub_cell_source r ∷ [])).news ≡ stored_sub_cell db r ∷ []
+new_sub_cell : (db : Trees) (r : SubCellRow) → (edit_of db (subscription_cell 11) [] Chosen 0 (sub_cell_source r ∷ [])).news ≡ stored_sub_cell db r ∷ []
 new_sub_cell db r = rw (cast_int r.subscription, cast_null, cast_int r.place, cast_int r.lo, cast_int r.hi)
 
-sub_cell_works : (db : Trees) (r : SubCellRow) → works dss_schema Enforced 0 12 (taken_by db (edit_of db (subscription_cell 12) [] Chosen 0 (sub_cell_source r ∷ []))) (edit_of db (subscription_cell 12) [] Chosen 0 (sub_cell_source r ∷ [])).news ≡ []
+sub_cell_works : (db : Trees) (r : SubCellRow) → works dss_schema Enforced 0 11 (taken_by db (edit_of db (subscription_cell 11) [] Chosen 0 (sub_cell_source r ∷ []))) (edit_of db (subscription_cell 11) [] Chosen 0 (sub_cell_source r ∷ [])).news ≡ []
 sub_cell_works db r = refl
+
+pub joins_sub_cell : (old new : State) (r : SubCellRow) (count : ℕ) → old.now.schema ≡ dss_schema → Executes insert_sub_cell_text (sub_cell_values r) old new (Ok count) → Joined old.now new.now (subscription_cell 11) (stored_sub_cell old.now.trees r)
+joins_sub_cell old new r count has h = joined insert_sub_cell_text (sub_cell_values r) (subscription_cell 11) 6 _ 6 (sub_cell_source r) refl refl insert_sub_cell_is insert_sub_cell_plain refl old new count (stored_sub_cell old.now.trees r) has (new_sub_cell old.now.trees r) (sub_cell_works old.now.trees r) h
 
 pub inserts_sub_cell : (old new : State) (r : SubCellRow) (result : Result ℕ Error) → Executes insert_sub_cell_text (sub_cell_values r) old new result → OnOk result (Relays Always (with_sub_cells (r ∷ [])) old.now new.now)
 inserts_sub_cell old new r (Err e) h = tt
 inserts_sub_cell old new r (Ok count) h = λ l _ has.
     let db = old.now.trees in
-    let it = joined insert_sub_cell_text (sub_cell_values r) (subscription_cell 12) 6 _ 6 (sub_cell_source r) refl refl insert_sub_cell_is insert_sub_cell_plain refl old new count (stored_sub_cell db r) has.schema (new_sub_cell db r) (sub_cell_works db r) h in
-    let more = one_more sub_cell_values five_columns l.sub_cells r (stored_sub_cell db r) (next_rowid (db 12)) (db 12) refl refl it.fresh has.sub_cells in
+    let it = joins_sub_cell old new r count has.schema h in
+    let more = one_more sub_cell_values five_columns l.sub_cells r (stored_sub_cell db r) (next_rowid (db 11)) (db 11) refl refl it.fresh has.sub_cells in
     subst (λ d. LaysOut d (with_sub_cells (r ∷ []) l)) (sym it.is) (sub_cells_relaid old.now it.next l has it.stand _ (subst (AreRows sub_cell_values five_columns _) (sym it.rows) more))
 
 -- ---- availabilities
@@ -165,24 +170,27 @@ insert_availability_plain : IsPlain (understood dss_schema insert_availability_t
 unfolding understood everything
 insert_availability_plain = (refl, refl)
 
-abbrev availability_source : List ℕ × VersionedAvailability → Row
+abbrev pub availability_source : List ℕ × VersionedAvailability → Row
 availability_source r = Null ∷ availability_values r
 
-abbrev stored_availability : Trees → List ℕ × VersionedAvailability → Row
-stored_availability db r = Int (next_rowid (db 8)) ∷ availability_values r
+abbrev pub stored_availability : Trees → List ℕ × VersionedAvailability → Row
+stored_availability db r = Int (next_rowid (db 7)) ∷ availability_values r
 
-new_availability : (db : Trees) (r : List ℕ × VersionedAvailability) → (edit_of db (availability 8) [] Chosen 0 (availability_source r ∷ [])).news ≡ stored_availability db r ∷ []
+new_availability : (db : Trees) (r : List ℕ × VersionedAvailability) → (edit_of db (availability 7) [] Chosen 0 (availability_source r ∷ [])).news ≡ stored_availability db r ∷ []
 new_availability db r = rw (cast_int (availability_number r.1.0), cast_null)
 
-availability_works : (db : Trees) (r : List ℕ × VersionedAvailability) → works dss_schema Enforced 0 8 (taken_by db (edit_of db (availability 8) [] Chosen 0 (availability_source r ∷ []))) (edit_of db (availability 8) [] Chosen 0 (availability_source r ∷ [])).news ≡ []
+availability_works : (db : Trees) (r : List ℕ × VersionedAvailability) → works dss_schema Enforced 0 7 (taken_by db (edit_of db (availability 7) [] Chosen 0 (availability_source r ∷ []))) (edit_of db (availability 7) [] Chosen 0 (availability_source r ∷ [])).news ≡ []
 availability_works db r = refl
+
+pub joins_availability : (old new : State) (r : List ℕ × VersionedAvailability) (count : ℕ) → old.now.schema ≡ dss_schema → Executes insert_availability_text (availability_values r) old new (Ok count) → Joined old.now new.now (availability 7) (stored_availability old.now.trees r)
+joins_availability old new r count has h = joined insert_availability_text (availability_values r) (availability 7) 4 _ 4 (availability_source r) refl refl insert_availability_is insert_availability_plain refl old new count (stored_availability old.now.trees r) has (new_availability old.now.trees r) (availability_works old.now.trees r) h
 
 pub inserts_availability : (old new : State) (r : List ℕ × VersionedAvailability) (result : Result ℕ Error) → Executes insert_availability_text (availability_values r) old new result → OnOk result (Relays Always (with_availability_row r.0 r.1) old.now new.now)
 inserts_availability old new r (Err e) h = tt
 inserts_availability old new r (Ok count) h = λ l _ has.
     let db = old.now.trees in
-    let it = joined insert_availability_text (availability_values r) (availability 8) 4 _ 4 (availability_source r) refl refl insert_availability_is insert_availability_plain refl old new count (stored_availability db r) has.schema (new_availability db r) (availability_works db r) h in
-    let more = one_more availability_values three_columns l.availabilities r (stored_availability db r) (next_rowid (db 8)) (db 8) refl refl it.fresh has.availabilities in
+    let it = joins_availability old new r count has.schema h in
+    let more = one_more availability_values three_columns l.availabilities r (stored_availability db r) (next_rowid (db 7)) (db 7) refl refl it.fresh has.availabilities in
     subst (λ d. LaysOut d (with_availability_row r.0 r.1 l)) (sym it.is) (availabilities_relaid old.now it.next l has it.stand _ (subst (AreRows availability_values three_columns _) (sym it.rows) more))
 
 -- ---- rows of `entity`, whose rowid is their number
@@ -225,24 +233,27 @@ insert_sub_row_plain : IsPlain (understood dss_schema insert_sub_row_text)
 unfolding understood everything
 insert_sub_row_plain = (refl, refl)
 
-abbrev sub_row_source : SubRow → Row
+abbrev pub sub_row_source : SubRow → Row
 sub_row_source r = Int r.num ∷ Null ∷ Text r.id ∷ Text r.manager ∷ Int r.serial ∷ Text r.version ∷ Int r.notes ∷ Text r.url ∷ Int r.for_intents ∷ Int r.for_constraints ∷ Int r.alt_lower ∷ Int r.alt_upper ∷ Int r.time_start ∷ Int r.time_end ∷ []
 
-abbrev stored_sub_row : Trees → SubRow → Row
+abbrev pub stored_sub_row : Trees → SubRow → Row
 stored_sub_row db r = sub_row_source r
 
-new_sub_row : (db : Trees) (r : SubRow) → (edit_of db (subscription 10) [] Chosen 0 (sub_row_source r ∷ [])).news ≡ stored_sub_row db r ∷ []
+new_sub_row : (db : Trees) (r : SubRow) → (edit_of db (subscription 9) [] Chosen 0 (sub_row_source r ∷ [])).news ≡ stored_sub_row db r ∷ []
 new_sub_row db r = rw (cast_int r.num, cast_null, cast_int r.serial, cast_int r.notes, cast_int r.for_intents, cast_int r.for_constraints, cast_int r.alt_lower, cast_int r.alt_upper, cast_int r.time_start, cast_int r.time_end)
 
-sub_row_works : (db : Trees) (r : SubRow) → works dss_schema Enforced 0 10 (taken_by db (edit_of db (subscription 10) [] Chosen 0 (sub_row_source r ∷ []))) (edit_of db (subscription 10) [] Chosen 0 (sub_row_source r ∷ [])).news ≡ []
+sub_row_works : (db : Trees) (r : SubRow) → works dss_schema Enforced 0 9 (taken_by db (edit_of db (subscription 9) [] Chosen 0 (sub_row_source r ∷ []))) (edit_of db (subscription 9) [] Chosen 0 (sub_row_source r ∷ [])).news ≡ []
 sub_row_works db r = refl
+
+pub joins_sub_row : (old new : State) (r : SubRow) (count : ℕ) → old.now.schema ≡ dss_schema → Executes insert_sub_row_text (sub_values r) old new (Ok count) → Joined old.now new.now (subscription 9) (stored_sub_row old.now.trees r)
+joins_sub_row old new r count has h = joined insert_sub_row_text (sub_values r) (subscription 9) 5 _ 14 (sub_row_source r) refl refl insert_sub_row_is insert_sub_row_plain refl old new count (stored_sub_row old.now.trees r) has (new_sub_row old.now.trees r) (sub_row_works old.now.trees r) h
 
 pub inserts_sub_row : (old new : State) (r : SubRow) (result : Result ℕ Error) → Executes insert_sub_row_text (sub_values r) old new result → OnOk result (Relays Always (with_sub_row r) old.now new.now)
 inserts_sub_row old new r (Err e) h = tt
 inserts_sub_row old new r (Ok count) h = λ l _ has.
     let db = old.now.trees in
-    let it = joined insert_sub_row_text (sub_values r) (subscription 10) 5 _ 14 (sub_row_source r) refl refl insert_sub_row_is insert_sub_row_plain refl old new count (stored_sub_row db r) has.schema (new_sub_row db r) (sub_row_works db r) h in
-    let more = one_more sub_values sub_columns l.subs r (stored_sub_row db r) (r.num) (db 10) refl refl it.fresh has.subs in
+    let it = joins_sub_row old new r count has.schema h in
+    let more = one_more sub_values sub_columns l.subs r (stored_sub_row db r) (r.num) (db 9) refl refl it.fresh has.subs in
     subst (λ d. LaysOut d (with_sub_row r l)) (sym it.is) (subs_relaid old.now it.next l has it.stand _ (subst (AreRows sub_values sub_columns _) (sym it.rows) more))
 
 -- ---- rows of `naming`, whose rowid is the number of the entity
@@ -255,22 +266,25 @@ insert_naming_plain : IsPlain (understood dss_schema insert_naming_text)
 unfolding understood everything
 insert_naming_plain = (refl, refl)
 
-abbrev naming_source : Naming → Row
+abbrev pub naming_source : Naming → Row
 naming_source r = Int r.0 ∷ Null ∷ Int r.1 ∷ []
 
-abbrev stored_naming : Trees → Naming → Row
+abbrev pub stored_naming : Trees → Naming → Row
 stored_naming db r = naming_source r
 
-new_naming : (db : Trees) (r : Naming) → (edit_of db (naming 15) [] Chosen 0 (naming_source r ∷ [])).news ≡ stored_naming db r ∷ []
+new_naming : (db : Trees) (r : Naming) → (edit_of db (naming 13) [] Chosen 0 (naming_source r ∷ [])).news ≡ stored_naming db r ∷ []
 new_naming db r = rw (cast_int r.0, cast_null, cast_int r.1)
 
-naming_works : (db : Trees) (r : Naming) → works dss_schema Enforced 0 15 (taken_by db (edit_of db (naming 15) [] Chosen 0 (naming_source r ∷ []))) (edit_of db (naming 15) [] Chosen 0 (naming_source r ∷ [])).news ≡ []
+naming_works : (db : Trees) (r : Naming) → works dss_schema Enforced 0 13 (taken_by db (edit_of db (naming 13) [] Chosen 0 (naming_source r ∷ []))) (edit_of db (naming 13) [] Chosen 0 (naming_source r ∷ [])).news ≡ []
 naming_works db r = refl
+
+pub joins_naming : (old new : State) (r : Naming) (count : ℕ) → old.now.schema ≡ dss_schema → Executes insert_naming_text (values_of_naming r) old new (Ok count) → Joined old.now new.now (naming 13) (stored_naming old.now.trees r)
+joins_naming old new r count has h = joined insert_naming_text (values_of_naming r) (naming 13) 7 _ 3 (naming_source r) refl refl insert_naming_is insert_naming_plain refl old new count (stored_naming old.now.trees r) has (new_naming old.now.trees r) (naming_works old.now.trees r) h
 
 pub inserts_naming : (old new : State) (r : Naming) (result : Result ℕ Error) → Executes insert_naming_text (values_of_naming r) old new result → OnOk result (Relays Always (with_naming r.0 (Some r.1)) old.now new.now)
 inserts_naming old new r (Err e) h = tt
 inserts_naming old new r (Ok count) h = λ l _ has.
     let db = old.now.trees in
-    let it = joined insert_naming_text (values_of_naming r) (naming 15) 7 _ 3 (naming_source r) refl refl insert_naming_is insert_naming_plain refl old new count (stored_naming db r) has.schema (new_naming db r) (naming_works db r) h in
-    let more = one_more values_of_naming two_columns l.namings r (stored_naming db r) (r.0) (db 15) refl refl it.fresh has.namings in
+    let it = joins_naming old new r count has.schema h in
+    let more = one_more values_of_naming two_columns l.namings r (stored_naming db r) (r.0) (db 13) refl refl it.fresh has.namings in
     subst (λ d. LaysOut d (with_naming r.0 (Some r.1) l)) (sym it.is) (namings_relaid old.now it.next l has it.stand _ (subst (AreRows values_of_naming two_columns _) (sym it.rows) more))

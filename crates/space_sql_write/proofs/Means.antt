@@ -66,7 +66,7 @@ pub number_unlisted : reads_listing dss_schema number_text ≡ false
 unfolding understood everything
 number_unlisted = refl
 
-pub clear_naming_is : command_of (understood dss_schema clear_naming_text) ≡ Delete 7 (record { lets = []; body = query_of 15 (is_first 0) (col 1 0 ∷ []) })
+pub clear_naming_is : command_of (understood dss_schema clear_naming_text) ≡ Delete 7 (record { lets = []; body = query_of 13 (is_first 0) (col 1 0 ∷ []) })
 unfolding understood everything
 clear_naming_is = refl
 
@@ -74,7 +74,7 @@ pub clear_naming_plain : IsPlain (understood dss_schema clear_naming_text)
 unfolding understood everything
 clear_naming_plain = (refl, refl)
 
-pub clear_sub_cells_is : command_of (understood dss_schema clear_sub_cells_text) ≡ Delete 6 (record { lets = []; body = query_of 12 (is_first 1) (col 1 0 ∷ []) })
+pub clear_sub_cells_is : command_of (understood dss_schema clear_sub_cells_text) ≡ Delete 6 (record { lets = []; body = query_of 11 (is_first 1) (col 1 0 ∷ []) })
 unfolding understood everything
 clear_sub_cells_is = refl
 
@@ -82,7 +82,7 @@ pub clear_sub_cells_plain : IsPlain (understood dss_schema clear_sub_cells_text)
 unfolding understood everything
 clear_sub_cells_plain = (refl, refl)
 
-pub clear_sub_row_is : command_of (understood dss_schema clear_sub_row_text) ≡ Delete 5 (record { lets = []; body = query_of 10 (is_first 0) (col 1 0 ∷ []) })
+pub clear_sub_row_is : command_of (understood dss_schema clear_sub_row_text) ≡ Delete 5 (record { lets = []; body = query_of 9 (is_first 0) (col 1 0 ∷ []) })
 unfolding understood everything
 clear_sub_row_is = refl
 
@@ -90,7 +90,7 @@ pub clear_sub_row_plain : IsPlain (understood dss_schema clear_sub_row_text)
 unfolding understood everything
 clear_sub_row_plain = (refl, refl)
 
-pub sub_number_is : command_of (understood dss_schema sub_number_text) ≡ Select (record { lets = []; body = query_of 10 (is_first 2) (col 1 0 ∷ []) }) (codes "num" ∷ [])
+pub sub_number_is : command_of (understood dss_schema sub_number_text) ≡ Select (record { lets = []; body = query_of 9 (is_first 2) (col 1 0 ∷ []) }) (codes "num" ∷ [])
 unfolding understood everything
 sub_number_is = refl
 
@@ -107,7 +107,7 @@ sub_number_unlisted = refl
 abbrev pub replaced_row : List Term
 replaced_row = col 1 0 ∷ col 1 0 ∷ lit Null ∷ col 0 1 ∷ col 0 2 ∷ col 0 3 ∷ col 0 4 ∷ col 0 5 ∷ col 0 6 ∷ col 0 7 ∷ col 0 8 ∷ col 0 9 ∷ col 0 10 ∷ col 0 11 ∷ col 0 12 ∷ []
 
-pub update_sub_row_is : command_of (understood dss_schema update_sub_row_text) ≡ Update 5 (record { lets = []; body = query_of 10 (is_first 0) replaced_row })
+pub update_sub_row_is : command_of (understood dss_schema update_sub_row_text) ≡ Update 5 (record { lets = []; body = query_of 9 (is_first 0) replaced_row })
 unfolding understood everything
 update_sub_row_is = refl
 
@@ -118,7 +118,7 @@ update_sub_row_plain = (refl, refl)
 abbrev pub notes_row : List Term
 notes_row = col 1 0 ∷ col 1 0 ∷ lit Null ∷ col 1 2 ∷ col 1 3 ∷ col 1 4 ∷ col 1 5 ∷ op2 (Arith Add) (col 1 6) (lit (Int (pos 1))) ∷ col 1 7 ∷ col 1 8 ∷ col 1 9 ∷ col 1 10 ∷ col 1 11 ∷ col 1 12 ∷ col 1 13 ∷ []
 
-pub raise_notes_is : command_of (understood dss_schema raise_notes_text) ≡ Update 5 (record { lets = []; body = query_of 10 (is_first 2) notes_row })
+pub raise_notes_is : command_of (understood dss_schema raise_notes_text) ≡ Update 5 (record { lets = []; body = query_of 9 (is_first 2) notes_row })
 unfolding understood everything
 raise_notes_is = refl
 

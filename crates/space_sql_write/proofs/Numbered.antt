@@ -93,8 +93,8 @@ module _ (db : Database) (a : Airspace) (p : Spells db a) where
 
   sub_number_in : (id : ℕ) (num : ℤ) → id < 2 ^ 128 → IsSubAt db id num → IsSubNumber p.subs num id
   sub_number_in id num low at =
-      let row = mapped_from sub_head (db.trees 10) _ at in
-      let it = typed_of (λ (s : SubGroup). sub_values s.row) sub_columns p.subs (db.trees 10) p.sub_rows row.0 row.1 in
+      let row = mapped_from sub_head (db.trees 9) _ at in
+      let it = typed_of (λ (s : SubGroup). sub_values s.row) sub_columns p.subs (db.trees 9) p.sub_rows row.0 row.1 in
       let own = same_ints it.0.row.num num (sym (ap (λ c. column c 0) it.2) ∙ sym (ap (λ c. column c 0) row.2)) in
       let text = same_texts it.0.row.id (printed id) (sym (ap (λ c. column c 1) it.2) ∙ sym (ap (λ c. column c 1) row.2)) in
       let passes : has_id (printed id) it.0.row ≡ true = rw (text, tied_itself nat_list_cmp_total (printed id)) in
@@ -122,12 +122,12 @@ module _ (db : Database) (l : Layout) (ss : List SubGroup) (gs : List Group) (b 
   sub_number_out id num there =
       let it = at_from num id ss there in
       let typed = moved l.subs (map (λ (s : SubGroup). s.row) ss) it.0.row (IsPermutation-sym _ _ are.subs.rows_are) (mapped_there (λ (s : SubGroup). s.row) ss it.0 it.1) in
-      let row = row_of sub_values sub_columns l.subs (db.trees 10) has.subs.same it.0.row typed in
+      let row = row_of sub_values sub_columns l.subs (db.trees 9) has.subs.same it.0.row typed in
       let head = all_there (IsSubGroup b.serial) ss are.subs.each it.0 it.1 in
       let at = λ (n : ℕ). ap (λ c. column c n) (sym row.2) in
       let own = at 0 ∙ ap Int it.2 in
       let text = at 1 ∙ ap Text (head.spelt.sub.id ∙ ap printed it.3) in
-      subst (Has (map sub_head (db.trees 10))) (λ i. own i ∷ text i ∷ []) (mapped_there sub_head (db.trees 10) row.0 row.1)
+      subst (Has (map sub_head (db.trees 9))) (λ i. own i ∷ text i ∷ []) (mapped_there sub_head (db.trees 9) row.0 row.1)
 
 -- A number that is kept in groups is kept in rows.
 pub keeps_numbers : (old new : Database) (a b : Airspace) (p : Spells old a) (l : Layout) (ss : List SubGroup) (gs : List Group) → LaysOut new l → AreRowsOf l ss gs b → ((num : ℤ) (k : EntityKey) → IsNumberOf num k p.groups → IsSome (get b.entities k) → IsNumberOf num k gs)

@@ -81,7 +81,7 @@ shows_sub_numbers old new id rows h = λ l has.
     let db = old.now.trees in
     let read = reads_as sub_number_text params old new dss_schema has.schema _ sub_number_is sub_number_plain sub_number_unlisted rows h in (
       (shown_same old new sub_number_text params rows (subst (λ s. IsPlain (understood s sub_number_text)) (sym has.schema) sub_number_plain) h).0.now_is,
-      numbers_passing sub_values (λ s. s.num) (λ s. refl) sub_columns l.subs (db 10) has.subs.same (names id) (has_id id) (names_id id) rows (shows 10 (is_first 2) (col 1 0 ∷ []) db params rows refl (read.answer Null)),
+      numbers_passing sub_values (λ s. s.num) (λ s. refl) sub_columns l.subs (db 9) has.subs.same (names id) (has_id id) (names_id id) rows (shows 9 (is_first 2) (col 1 0 ∷ []) db params rows refl (read.answer Null)),
     )
 
 -- ---- from shown rows to groups

@@ -39,16 +39,16 @@ module _ (old : Database) (next : Trees) (l : Layout) (has : LaysOut old l) wher
   cells_stand : Stands 5 → AreRows cell_values six_columns l.cells (next 5)
   cells_stand same = subst (AreRows cell_values six_columns l.cells) (sym same) has.cells
 
-  availabilities_stand : Stands 8 → AreRows availability_values three_columns l.availabilities (next 8)
+  availabilities_stand : Stands 7 → AreRows availability_values three_columns l.availabilities (next 7)
   availabilities_stand same = subst (AreRows availability_values three_columns l.availabilities) (sym same) has.availabilities
 
-  subs_stand : Stands 10 → AreRows sub_values sub_columns l.subs (next 10)
+  subs_stand : Stands 9 → AreRows sub_values sub_columns l.subs (next 9)
   subs_stand same = subst (AreRows sub_values sub_columns l.subs) (sym same) has.subs
 
-  sub_cells_stand : Stands 12 → AreRows sub_cell_values five_columns l.sub_cells (next 12)
+  sub_cells_stand : Stands 11 → AreRows sub_cell_values five_columns l.sub_cells (next 11)
   sub_cells_stand same = subst (AreRows sub_cell_values five_columns l.sub_cells) (sym same) has.sub_cells
 
-  namings_stand : Stands 15 → AreRows values_of_naming two_columns l.namings (next 15)
+  namings_stand : Stands 13 → AreRows values_of_naming two_columns l.namings (next 13)
   namings_stand same = subst (AreRows values_of_naming two_columns l.namings) (sym same) has.namings
 
   pub meta_relaid : OthersStand old.trees next 0 → (serial : ℕ) → map meta_columns (next 0) ≡ meta_values 2 serial ∷ [] → LaysOut (tables_with next) (record l { serial = serial })
@@ -103,7 +103,7 @@ module _ (old : Database) (next : Trees) (l : Layout) (has : LaysOut old l) wher
     namings = namings_stand (stand.1.1.1.1.1.1.1.0 (λ e. cc));
   }
 
-  pub availabilities_relaid : OthersStand old.trees next 8 → (rows : List (List ℕ × VersionedAvailability)) → AreRows availability_values three_columns rows (next 8) → LaysOut (tables_with next) (record l { availabilities = rows })
+  pub availabilities_relaid : OthersStand old.trees next 7 → (rows : List (List ℕ × VersionedAvailability)) → AreRows availability_values three_columns rows (next 7) → LaysOut (tables_with next) (record l { availabilities = rows })
   availabilities_relaid stand rows are = record {
     schema = refl;
     meta = meta_stands (stand.0 (λ e. cc));
@@ -116,7 +116,7 @@ module _ (old : Database) (next : Trees) (l : Layout) (has : LaysOut old l) wher
     namings = namings_stand (stand.1.1.1.1.1.1.1.0 (λ e. cc));
   }
 
-  pub subs_relaid : OthersStand old.trees next 10 → (rows : List SubRow) → AreRows sub_values sub_columns rows (next 10) → LaysOut (tables_with next) (record l { subs = rows })
+  pub subs_relaid : OthersStand old.trees next 9 → (rows : List SubRow) → AreRows sub_values sub_columns rows (next 9) → LaysOut (tables_with next) (record l { subs = rows })
   subs_relaid stand rows are = record {
     schema = refl;
     meta = meta_stands (stand.0 (λ e. cc));
@@ -129,7 +129,7 @@ module _ (old : Database) (next : Trees) (l : Layout) (has : LaysOut old l) wher
     namings = namings_stand (stand.1.1.1.1.1.1.1.0 (λ e. cc));
   }
 
-  pub sub_cells_relaid : OthersStand old.trees next 12 → (rows : List SubCellRow) → AreRows sub_cell_values five_columns rows (next 12) → LaysOut (tables_with next) (record l { sub_cells = rows })
+  pub sub_cells_relaid : OthersStand old.trees next 11 → (rows : List SubCellRow) → AreRows sub_cell_values five_columns rows (next 11) → LaysOut (tables_with next) (record l { sub_cells = rows })
   sub_cells_relaid stand rows are = record {
     schema = refl;
     meta = meta_stands (stand.0 (λ e. cc));
@@ -142,7 +142,7 @@ module _ (old : Database) (next : Trees) (l : Layout) (has : LaysOut old l) wher
     namings = namings_stand (stand.1.1.1.1.1.1.1.0 (λ e. cc));
   }
 
-  pub namings_relaid : OthersStand old.trees next 15 → (rows : List Naming) → AreRows values_of_naming two_columns rows (next 15) → LaysOut (tables_with next) (record l { namings = rows })
+  pub namings_relaid : OthersStand old.trees next 13 → (rows : List Naming) → AreRows values_of_naming two_columns rows (next 13) → LaysOut (tables_with next) (record l { namings = rows })
   namings_relaid stand rows are = record {
     schema = refl;
     meta = meta_stands (stand.0 (λ e. cc));

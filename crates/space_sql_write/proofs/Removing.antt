@@ -65,7 +65,7 @@ clears_cells old new num (Ok count) h = λ l _ has.
     let left = rows_left 0 cell_values (λ (r : CellRow). r.entity) (λ r. refl) six_columns l.cells (db 5) has.cells num in
     subst (λ d. LaysOut d (without_cells num l)) (sym u.is) (cells_relaid old.now u.next l has u.step.tables _ (subst (AreRows cell_values six_columns _) (sym u.rows) left))
 
-no_naming_works : (db : Trees) (ids : List ℤ) → works dss_schema Enforced 0 15 (taken_by db (edit_of db (naming 15) ids Given 0 [])) [] ≡ []
+no_naming_works : (db : Trees) (ids : List ℤ) → works dss_schema Enforced 0 13 (taken_by db (edit_of db (naming 13) ids Given 0 [])) [] ≡ []
 unfolding everything
 no_naming_works db ids = refl
 
@@ -73,12 +73,12 @@ pub clears_naming : (old new : State) (num : ℤ) (r : Result ℕ Error) → Exe
 clears_naming old new num (Err e) h = tt
 clears_naming old new num (Ok count) h = λ l _ has.
     let db = old.now.trees in
-    let u = clears_table clear_naming_text (Int num ∷ []) (naming 15) 7 (is_first 0) refl clear_naming_is clear_naming_plain old new count has.schema has.namings.apart refl h
-    (λ ids next same wrote. one_step dss_schema Enforced db next (edit_of db (naming 15) ids Given 0 []) (no_naming_works db ids) wrote) in
-    let left = rows_left 0 values_of_naming (λ (r : Naming). r.0) (λ r. refl) two_columns l.namings (db 15) has.namings num in
+    let u = clears_table clear_naming_text (Int num ∷ []) (naming 13) 7 (is_first 0) refl clear_naming_is clear_naming_plain old new count has.schema has.namings.apart refl h
+    (λ ids next same wrote. one_step dss_schema Enforced db next (edit_of db (naming 13) ids Given 0 []) (no_naming_works db ids) wrote) in
+    let left = rows_left 0 values_of_naming (λ (r : Naming). r.0) (λ r. refl) two_columns l.namings (db 13) has.namings num in
     subst (λ d. LaysOut d (without_naming num l)) (sym u.is) (namings_relaid old.now u.next l has u.step.tables _ (subst (AreRows values_of_naming two_columns _) (sym u.rows) left))
 
-no_sub_cells_works : (db : Trees) (ids : List ℤ) → works dss_schema Enforced 0 12 (taken_by db (edit_of db (subscription_cell 12) ids Given 0 [])) [] ≡ []
+no_sub_cells_works : (db : Trees) (ids : List ℤ) → works dss_schema Enforced 0 11 (taken_by db (edit_of db (subscription_cell 11) ids Given 0 [])) [] ≡ []
 unfolding everything
 no_sub_cells_works db ids = refl
 
@@ -86,9 +86,9 @@ pub clears_sub_cells : (old new : State) (num : ℤ) (r : Result ℕ Error) → 
 clears_sub_cells old new num (Err e) h = tt
 clears_sub_cells old new num (Ok count) h = λ l _ has.
     let db = old.now.trees in
-    let u = clears_table clear_sub_cells_text (Int num ∷ []) (subscription_cell 12) 6 (is_first 1) refl clear_sub_cells_is clear_sub_cells_plain old new count has.schema has.sub_cells.apart refl h
-    (λ ids next same wrote. one_step dss_schema Enforced db next (edit_of db (subscription_cell 12) ids Given 0 []) (no_sub_cells_works db ids) wrote) in
-    let left = rows_left 0 sub_cell_values (λ (r : SubCellRow). r.subscription) (λ r. refl) five_columns l.sub_cells (db 12) has.sub_cells num in
+    let u = clears_table clear_sub_cells_text (Int num ∷ []) (subscription_cell 11) 6 (is_first 1) refl clear_sub_cells_is clear_sub_cells_plain old new count has.schema has.sub_cells.apart refl h
+    (λ ids next same wrote. one_step dss_schema Enforced db next (edit_of db (subscription_cell 11) ids Given 0 []) (no_sub_cells_works db ids) wrote) in
+    let left = rows_left 0 sub_cell_values (λ (r : SubCellRow). r.subscription) (λ r. refl) five_columns l.sub_cells (db 11) has.sub_cells num in
     subst (λ d. LaysOut d (without_sub_cells num l)) (sym u.is) (sub_cells_relaid old.now u.next l has u.step.tables _ (subst (AreRows sub_cell_values five_columns _) (sym u.rows) left))
 
 -- ---- volumes without cells
@@ -112,7 +112,7 @@ row_cleared old new num count h l gone has =
     let db = old.now.trees in
     let pairs = pair_apart (db 1) has.entities.apart in
     let none = rows_other 0 volume_values (λ (v : VolumeRow). v.entity) (λ v. refl) six_columns l.volumes (db 3) has.volumes num gone.0 in
-    let unnamed = rows_other 0 values_of_naming (λ (n : Naming). n.0) (λ n. refl) two_columns l.namings (db 15) has.namings num gone.1 in
+    let unnamed = rows_other 0 values_of_naming (λ (n : Naming). n.0) (λ n. refl) two_columns l.namings (db 13) has.namings num gone.1 in
     let u = clears_table clear_row_text (Int num ∷ []) (entity 1) 1 (is_first 0) refl clear_row_is clear_row_plain old new count has.schema has.entities.apart refl h
     (λ ids next same wrote. entity_quiet db next ids num (taken_have (λ m. column m 0 ≡ Int num) (bears 0 num) (db 1) ids pairs same (λ r there e. head_number num r (pairs.numbers r there) e)) none unnamed wrote) in
     let left = rows_left 0 entity_values (λ (r : EntityRow). r.num) (λ r. refl) entity_columns l.entities (db 1) has.entities num in
@@ -127,12 +127,12 @@ clears_row old new num (Ok count) h = ((λ l gone has. (row_cleared old new num 
 sub_row_cleared : (old new : State) (num : ℤ) (count : ℕ) → Executes clear_sub_row_text (Int num ∷ []) old new (Ok count) → (l : Layout) → IsFree num l → LaysOut old.now l → LaysOut new.now (without_sub_row num l) × IsDatabase new.now
 sub_row_cleared old new num count h l gone has =
     let db = old.now.trees in
-    let pairs = pair_apart (db 10) has.subs.apart in
-    let none = rows_other 0 sub_cell_values (λ (c : SubCellRow). c.subscription) (λ c. refl) five_columns l.sub_cells (db 12) has.sub_cells num gone.0 in
-    let unnamed = rows_other 1 values_of_naming (λ (n : Naming). n.1) (λ n. refl) two_columns l.namings (db 15) has.namings num gone.1 in
-    let u = clears_table clear_sub_row_text (Int num ∷ []) (subscription 10) 5 (is_first 0) refl clear_sub_row_is clear_sub_row_plain old new count has.schema has.subs.apart refl h
-    (λ ids next same wrote. sub_quiet db next ids num (taken_have (λ m. column m 0 ≡ Int num) (bears 0 num) (db 10) ids pairs same (λ r there e. head_number num r (pairs.numbers r there) e)) none unnamed wrote) in
-    let left = rows_left 0 sub_values (λ (r : SubRow). r.num) (λ r. refl) sub_columns l.subs (db 10) has.subs num in
+    let pairs = pair_apart (db 9) has.subs.apart in
+    let none = rows_other 0 sub_cell_values (λ (c : SubCellRow). c.subscription) (λ c. refl) five_columns l.sub_cells (db 11) has.sub_cells num gone.0 in
+    let unnamed = rows_other 1 values_of_naming (λ (n : Naming). n.1) (λ n. refl) two_columns l.namings (db 13) has.namings num gone.1 in
+    let u = clears_table clear_sub_row_text (Int num ∷ []) (subscription 9) 5 (is_first 0) refl clear_sub_row_is clear_sub_row_plain old new count has.schema has.subs.apart refl h
+    (λ ids next same wrote. sub_quiet db next ids num (taken_have (λ m. column m 0 ≡ Int num) (bears 0 num) (db 9) ids pairs same (λ r there e. head_number num r (pairs.numbers r there) e)) none unnamed wrote) in
+    let left = rows_left 0 sub_values (λ (r : SubRow). r.num) (λ r. refl) sub_columns l.subs (db 9) has.subs num in
     (subst (λ d. LaysOut d (without_sub_row num l)) (sym u.is) (subs_relaid old.now u.next l has u.step.tables _ (subst (AreRows sub_values sub_columns _) (sym u.rows) left)), u.sound)
 
 pub clears_sub_row : (old new : State) (num : ℤ) (r : Result ℕ Error) → Executes clear_sub_row_text (Int num ∷ []) old new r → OnOk r (RelaysSound (IsFree num) (without_sub_row num) old.now new.now)

@@ -76,24 +76,24 @@ lay_out db a p = record {
   };
   availabilities = record { same = p.availabilities; apart = p.apart.2 };
   subs = record {
-    same = subst (λ k. IsPermutation k (map sub_columns (db.trees 10))) (sym (map-map sub_values (λ (s : SubGroup). s.row) p.subs)) p.sub_rows;
+    same = subst (λ k. IsPermutation k (map sub_columns (db.trees 9))) (sym (map-map sub_values (λ (s : SubGroup). s.row) p.subs)) p.sub_rows;
     apart = (
       map (λ (s : SubGroup). s.row.num) p.subs,
       ascending-map (λ m n. int_cmp m n ≡ Less) (λ (s : SubGroup). s.row.num) p.subs p.subs_rising,
-      subst₂ (λ x y. IsPermutation x y) (map-map (λ c. column c 0) (λ (s : SubGroup). sub_values s.row) p.subs ∙ sym (map-map (λ n. Int n) (λ (s : SubGroup). s.row.num) p.subs)) (map-map (λ c. column c 0) sub_columns (db.trees 10)) (IsPermutation-map (λ c. column c 0) _ _ p.sub_rows),
+      subst₂ (λ x y. IsPermutation x y) (map-map (λ c. column c 0) (λ (s : SubGroup). sub_values s.row) p.subs ∙ sym (map-map (λ n. Int n) (λ (s : SubGroup). s.row.num) p.subs)) (map-map (λ c. column c 0) sub_columns (db.trees 9)) (IsPermutation-map (λ c. column c 0) _ _ p.sub_rows),
     );
   };
   sub_cells = record {
-    same = subst (λ k. IsPermutation k (map five_columns (db.trees 12))) (sym (map-flat_map sub_cell_values (λ (s : SubGroup). s.cells) p.subs)) p.sub_cells;
+    same = subst (λ k. IsPermutation k (map five_columns (db.trees 11))) (sym (map-flat_map sub_cell_values (λ (s : SubGroup). s.cells) p.subs)) p.sub_cells;
     apart = p.apart.3;
   };
   namings = record {
-    same = subst (λ k. IsPermutation k (map two_columns (db.trees 15))) (sym (naming_rows_are p.groups)) p.namings;
+    same = subst (λ k. IsPermutation k (map two_columns (db.trees 13))) (sym (naming_rows_are p.groups)) p.namings;
     apart = (
       map (λ (n : Naming). n.0) (flat_map own_namings p.groups),
       ascending-map (λ m n. int_cmp m n ≡ Less) (λ (n : Naming). n.0) (flat_map own_namings p.groups) (namings_rise p.groups p.rising),
-      subst₂ (λ x y. IsPermutation x y) (map-map (λ c. column c 0) values_of_naming (flat_map own_namings p.groups) ∙ sym (map-map (λ n. Int n) (λ (n : Naming). n.0) (flat_map own_namings p.groups))) (map-map (λ c. column c 0) two_columns (db.trees 15))
-          (IsPermutation-map (λ c. column c 0) _ _ (subst (λ k. IsPermutation k (map two_columns (db.trees 15))) (sym (naming_rows_are p.groups)) p.namings)),
+      subst₂ (λ x y. IsPermutation x y) (map-map (λ c. column c 0) values_of_naming (flat_map own_namings p.groups) ∙ sym (map-map (λ n. Int n) (λ (n : Naming). n.0) (flat_map own_namings p.groups))) (map-map (λ c. column c 0) two_columns (db.trees 13))
+          (IsPermutation-map (λ c. column c 0) _ _ (subst (λ k. IsPermutation k (map two_columns (db.trees 13))) (sym (naming_rows_are p.groups)) p.namings)),
     );
   };
 }

@@ -43,10 +43,10 @@ use Rattle.space_sql_write.proofs.Rows.{bears, rows_left, rows_of, rows_passing,
 abbrev stored : SubRow → Row
 stored r = Int r.num ∷ Null ∷ Text r.id ∷ Text r.manager ∷ Int r.serial ∷ Text r.version ∷ Int r.notes ∷ Text r.url ∷ Int r.for_intents ∷ Int r.for_constraints ∷ Int r.alt_lower ∷ Int r.alt_upper ∷ Int r.time_start ∷ Int r.time_end ∷ []
 
-news_of : (db : Trees) (r : SubRow) → (edit_of db (subscription 10) (ids_of ((Int r.num ∷ stored r) ∷ [])) Given 1 ((Int r.num ∷ stored r) ∷ [])).news ≡ stored r ∷ []
+news_of : (db : Trees) (r : SubRow) → (edit_of db (subscription 9) (ids_of ((Int r.num ∷ stored r) ∷ [])) Given 1 ((Int r.num ∷ stored r) ∷ [])).news ≡ stored r ∷ []
 news_of db r = rw (cast_int r.num, cast_null, cast_int r.serial, cast_int r.notes, cast_int r.for_intents, cast_int r.for_constraints, cast_int r.alt_lower, cast_int r.alt_upper, cast_int r.time_start, cast_int r.time_end)
 
-no_works : (db : Trees) (r : SubRow) → works dss_schema Enforced 0 10 (taken_by db (edit_of db (subscription 10) (ids_of ((Int r.num ∷ stored r) ∷ [])) Given 1 ((Int r.num ∷ stored r) ∷ []))) (edit_of db (subscription 10) (ids_of ((Int r.num ∷ stored r) ∷ [])) Given 1 ((Int r.num ∷ stored r) ∷ [])).news ≡ []
+no_works : (db : Trees) (r : SubRow) → works dss_schema Enforced 0 9 (taken_by db (edit_of db (subscription 9) (ids_of ((Int r.num ∷ stored r) ∷ [])) Given 1 ((Int r.num ∷ stored r) ∷ []))) (edit_of db (subscription 9) (ids_of ((Int r.num ∷ stored r) ∷ [])) Given 1 ((Int r.num ∷ stored r) ∷ [])).news ≡ []
 no_works db r = refl
 
 -- ---- all its columns
@@ -59,12 +59,12 @@ updates_sub_row old new r (Err e) h = tt
 updates_sub_row old new r (Ok count) h = λ l one has.
     let db = old.now.trees in
     let num = r.num in
-    let found = subst (λ rs. IsPermutation (map sub_values rs) (map sub_columns (filter (λ row. bears 0 num (sub_columns row)) (db 10)))) one.alone (rows_of 0 sub_values (λ (s : SubRow). s.num) (λ s. refl) sub_columns l.subs (db 10) has.subs num) in
-    let row = one_row sub_columns (filter (λ row. bears 0 num (sub_columns row)) (db 10)) (sub_values one.row) (one_permutation (sub_values one.row) _ found) in
+    let found = subst (λ rs. IsPermutation (map sub_values rs) (map sub_columns (filter (λ row. bears 0 num (sub_columns row)) (db 9)))) one.alone (rows_of 0 sub_values (λ (s : SubRow). s.num) (λ s. refl) sub_columns l.subs (db 9) has.subs num) in
+    let row = one_row sub_columns (filter (λ row. bears 0 num (sub_columns row)) (db 9)) (sub_values one.row) (one_permutation (sub_values one.row) _ found) in
     let own : one.row.num ≡ num = same_int one.row.num num (one_passes (λ (s : SubRow). int_eq s.num num) l.subs one.row one.alone) in
     let first : column row.0 0 ≡ Int num = ap (λ c. column c 0) row.2 ∙ ap Int own in
-    let it = changes_one update_sub_row_text (sub_values r) (subscription 10) 5 (is_first 0) replaced_row refl update_sub_row_is update_sub_row_plain old new count row.0 (Int num ∷ stored r) (stored r) has.schema has.subs.apart refl h row.1 (replaced r row.0 first) (sym first) (news_of db r) (no_works db r) in
-    let left = rows_left 0 sub_values (λ (s : SubRow). s.num) (λ s. refl) sub_columns l.subs (db 10) has.subs num in
+    let it = changes_one update_sub_row_text (sub_values r) (subscription 9) 5 (is_first 0) replaced_row refl update_sub_row_is update_sub_row_plain old new count row.0 (Int num ∷ stored r) (stored r) has.schema has.subs.apart refl h row.1 (replaced r row.0 first) (sym first) (news_of db r) (no_works db r) in
+    let left = rows_left 0 sub_values (λ (s : SubRow). s.num) (λ s. refl) sub_columns l.subs (db 9) has.subs num in
     let more = one_more sub_values sub_columns _ r (stored r) num _ refl refl it.fresh left in
     subst (λ d. LaysOut d (with_sub_row r (without_sub_row num l))) (sym it.is) (subs_relaid old.now it.next l has it.stand _ (subst (AreRows sub_values sub_columns _) (sym it.rows) more))
 
@@ -94,12 +94,12 @@ raises_notes old new id (Ok count) h = (relays, λ l one has. (runs_as raise_not
     relays l one has =
         let db = old.now.trees in
         let told = notified_row one.row in
-        let found = subst (λ rs. IsPermutation (map sub_values rs) (map sub_columns (filter (λ row. names id (sub_columns row)) (db 10)))) one.alone (rows_passing sub_values sub_columns l.subs (db 10) has.subs.same (names id) (has_id id) (names_id id)) in
-        let row = one_row sub_columns (filter (λ row. names id (sub_columns row)) (db 10)) (sub_values one.row) (one_permutation (sub_values one.row) _ found) in
+        let found = subst (λ rs. IsPermutation (map sub_values rs) (map sub_columns (filter (λ row. names id (sub_columns row)) (db 9)))) one.alone (rows_passing sub_values sub_columns l.subs (db 9) has.subs.same (names id) (has_id id) (names_id id)) in
+        let row = one_row sub_columns (filter (λ row. names id (sub_columns row)) (db 9)) (sub_values one.row) (one_permutation (sub_values one.row) _ found) in
         let first : column row.0 0 ≡ Int one.row.num = ap (λ c. column c 0) row.2 in
         let shown = raised one.row row.0 row.2 (one_higher one.row.notes one.index one.notes one.below) id in
-        let it = changes_one raise_notes_text (Text id ∷ []) (subscription 10) 5 (is_first 2) notes_row refl raise_notes_is raise_notes_plain old new count row.0 (Int told.num ∷ stored told) (stored told) has.schema has.subs.apart refl h row.1 shown (sym first) (news_of db told) (no_works db told) in
-        let left = some_left sub_values sub_columns l.subs (db 10) has.subs (λ c. not (names id c)) (λ s. not (has_id id s)) (λ s. ap not (names_id id s)) in
+        let it = changes_one raise_notes_text (Text id ∷ []) (subscription 9) 5 (is_first 2) notes_row refl raise_notes_is raise_notes_plain old new count row.0 (Int told.num ∷ stored told) (stored told) has.schema has.subs.apart refl h row.1 shown (sym first) (news_of db told) (no_works db told) in
+        let left = some_left sub_values sub_columns l.subs (db 9) has.subs (λ c. not (names id c)) (λ s. not (has_id id s)) (λ s. ap not (names_id id s)) in
         let more = one_more sub_values sub_columns _ told (stored told) told.num _ refl refl it.fresh left in
         let same = IsPermutation-trans _ _ _ (IsPermutation-map sub_values _ _ (IsPermutation-sym _ _ (one_turned (has_id id) notified_row l.subs one.row one.alone))) more.same in
         subst (λ d. LaysOut d (with_notified_row id l)) (sym it.is) (subs_relaid old.now it.next l has it.stand _ (subst (AreRows sub_values sub_columns _) (sym it.rows) (record { same = same; apart = more.apart })))

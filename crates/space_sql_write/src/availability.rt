@@ -12,7 +12,8 @@ use entity_core::ovn::Ovn;
 use entity_core::uss_id::UssId;
 use sqlite::{Alter, Error, Transaction, params};
 
-fn availability_number(availability: Availability) -> i64
+/// Returns the number of an availability in the table `availability`.
+pub fn availability_number(availability: Availability) -> i64
     ensures { result ≡ availability_number availability }
 {
     match availability {

@@ -1,7 +1,7 @@
 //! Changes of the airspace in the tables, one or a batch, in one transaction.
 #![tactic(auto)]
 
-mod availability;
+pub mod availability;
 pub mod batch;
 pub mod change;
 mod insert;

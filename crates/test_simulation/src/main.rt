@@ -1,5 +1,5 @@
-//! Simulates services: `serve_clients` over sockets, a clock, a token file and a store in memory,
-//! whose behaviour is drawn.
+//! Simulates `serve_clients` over sockets, a clock, a token file and a store in memory, whose
+//! behaviour is drawn.
 //!
 //! The first argument is a seed, and the second one a number of simulations: one for that seed, and
 //! one for each of the next. Prints a line for each that fails, with its seed.

@@ -337,55 +337,55 @@ fn check_times(
     )
 }
 
-// The events of one client in the history.
+// How much of one client's events the history had so far: accepts, and bytes received and sent.
 #[derive(Clone, Copy)]
-struct Told {
+struct Progress {
     accepted: usize,
     read: usize,
     sent: usize,
 }
 
 // Adds an event of a client. Returns `None` if it is not what the client sent or took.
-fn add(peer: &Peer, name: usize, event: &Noted, told: Told) -> Option<Told> {
-    let mut told = told;
+fn add(peer: &Peer, name: usize, event: &Noted, progress: Progress) -> Option<Progress> {
+    let mut progress = progress;
     match event {
         Noted::Accepted(other) if *other == name => {
-            told.accepted = told.accepted.saturating_add(1);
+            progress.accepted = progress.accepted.saturating_add(1);
         }
         Noted::Received(other, bytes) if *other == name => {
-            let rest = peer.script.get(told.read..)?;
+            let rest = peer.script.get(progress.read..)?;
             if !begins_with(rest, bytes.as_slice()) {
                 return None;
             }
-            told.read = told.read.saturating_add(bytes.len());
+            progress.read = progress.read.saturating_add(bytes.len());
         }
         Noted::Sent(other, bytes) if *other == name => {
-            let rest = peer.taken.get(told.sent..)?;
+            let rest = peer.taken.get(progress.sent..)?;
             if !begins_with(rest, bytes.as_slice()) {
                 return None;
             }
-            told.sent = told.sent.saturating_add(bytes.len());
+            progress.sent = progress.sent.saturating_add(bytes.len());
         }
         _ => {}
     }
-    Some(told)
+    Some(progress)
 }
 
 // Returns true if the history has exactly what a client sent and took.
-fn is_told(peer: &Peer, name: usize, events: &[Noted]) -> bool {
-    let mut told = Told {
+fn is_in_history(peer: &Peer, name: usize, events: &[Noted]) -> bool {
+    let mut progress = Progress {
         accepted: 0,
         read: 0,
         sent: 0,
     };
     for event in events {
-        match add(peer, name, event, told) {
-            Some(more) => told = more,
+        match add(peer, name, event, progress) {
+            Some(more) => progress = more,
             None => return false,
         }
     }
     let accepted = if peer.connection.is_some() { 1 } else { 0 };
-    told.accepted == accepted && told.read == peer.read && told.sent == peer.taken.len()
+    progress.accepted == accepted && progress.read == peer.read && progress.sent == peer.taken.len()
 }
 
 // Checks one client.
@@ -399,7 +399,7 @@ fn check_peer(
     peer: &Peer,
 ) -> Result<(), Flaw> {
     check(
-        is_told(peer, name, sockets.events.as_slice()),
+        is_in_history(peer, name, sockets.events.as_slice()),
         Flaw::History,
     )?;
     let is_stopped = plan.course.operator != Operator::Absent;

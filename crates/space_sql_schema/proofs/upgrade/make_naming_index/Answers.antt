@@ -14,4 +14,4 @@ returns-clause-adds g c =
     let old = state g.S.Store c.args.tx.now.conn.now in
     let new = state g.S.Store c.execute.new.self.conn.now in
     steps_by old new naming_index_text _ c.execute.result _ _ AddsIndex c.execute.ensures.ended (λ off. ap (state g.S.Store) (c.execute.ensures.ended off).1) c.execute.ensures.runs c.execute.ensures.survives
-    (λ h. of_all c.execute.result (λ trees. HasRows unindexed_schema trees old.now) (λ trees. HasRows second_schema trees new.now × IsDatabase new.now) (λ trees. makes_sound_index unindexed_schema second_schema trees (naming 15) 7 (naming_subscription 0 15) naming_index_text old new c.execute.result naming_index_made.0 naming_index_made.1 naming_index_made.2 refl naming_index_is naming_index_made.3 refl h))
+    (λ h. of_all c.execute.result (λ trees. HasRows unindexed_schema trees old.now) (λ trees. HasRows second_schema trees new.now × IsDatabase new.now) (λ trees. makes_sound_index unindexed_schema second_schema trees (naming 13) 7 (naming_subscription 0 13) naming_index_text old new c.execute.result naming_index_made.0 naming_index_made.1 naming_index_made.2 refl naming_index_is naming_index_made.3 refl h))

@@ -1,0 +1,17 @@
+pub mod Lists
+pub mod Projections
+pub mod Served
+pub mod Readings
+pub mod Build
+pub mod States
+pub mod Once
+pub mod Given
+pub mod Facts
+pub mod Places
+pub mod Order
+pub mod Law
+pub mod Known
+pub mod Atomic
+pub mod Witness
+pub mod Unlogged
+pub mod Starts

@@ -1,0 +1,9 @@
+use Rattle.pool_core.proofs.Atomic.{atomic_pool}
+use Rattle.pool_core.proofs.Witness.{pool_answers}
+use Rattle.pool_core.proofs.laws.pools_exist.Goals as goal
+
+pub returns-clause-atomic : goal.returns-clause-atomic
+returns-clause-atomic c = atomic_pool
+
+pub returns-clause-answers : goal.returns-clause-answers
+returns-clause-answers c = pool_answers

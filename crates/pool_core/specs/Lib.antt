@@ -1,0 +1,9 @@
+pub mod Log
+pub mod Events
+pub mod Pool
+pub mod Serves
+pub mod OneList
+pub mod FromEmpty
+pub mod Atomic
+pub mod Unlogged
+pub mod Starts

@@ -1,0 +1,5 @@
+pub mod Spelling
+pub mod Reading
+pub mod Pushing
+pub mod Calls
+pub mod Laws

@@ -1,0 +1,5 @@
+pub mod FirstLines
+pub mod Followings
+pub mod Fronts
+pub mod Numbers
+pub mod OneKeys

@@ -1,0 +1,13 @@
+pub mod Following
+pub mod Given
+pub mod Lines
+pub mod LogValue
+pub mod Member
+pub mod Names
+pub mod Number
+pub mod OneKey
+pub mod OwnEntries
+pub mod Questions
+pub mod Request
+pub mod Response
+pub mod WatchLine

@@ -1,0 +1,176 @@
+//! A log over etcd.
+use crate::etcd_fault::{EtcdFault, Loss};
+use crate::following::Following;
+use crate::lane::Endpoint;
+use crate::log_value::{entry_value, fence_value};
+use crate::names::key_of;
+use crate::own_entries::{NotTaken, OwnEntries, OwnState};
+use crate::payload::Payload;
+use crate::questions::Questions;
+use crate::request_lane::RequestLane;
+use crate::settings::{EtcdSettings, User};
+use crate::watch_lane::WatchLane;
+use mio::{Registry, Token};
+use std::alloc::{AllocError, Global};
+use std::collections::VecDeque;
+use std::net::Net;
+use std::time::Duration;
+
+/// The maximum number of bytes of a batch. etcd takes requests of 1.5 MiB.
+pub const MAX_BATCH: usize = 1_100_000;
+
+// The maximum time, in milliseconds, until `advance` has to be called again.
+const MAX_PATIENCE: u64 = 500;
+
+/// What is known of the log, apart from the sockets.
+#[derive(Drop)]
+pub(crate) struct LogState {
+    pub(crate) alloc: Global,
+    pub(crate) endpoints: Vec<Endpoint>,
+    pub(crate) key: String,
+    pub(crate) user: Option<User>,
+    // The token of the user, if etcd has given one.
+    pub(crate) token: Option<Payload>,
+    pub(crate) own: OwnEntries,
+    pub(crate) following: Following,
+    pub(crate) questions: Questions,
+    pub(crate) loss: Option<Loss>,
+    // A revision that the watch has not reached, and since when it is known.
+    pub(crate) ahead: Option<(u64, Duration)>,
+    // When etcd last said something of the log's end.
+    pub(crate) checked: Duration,
+}
+
+impl LogState {
+    /// Returns true if a token is needed before any other request.
+    pub(crate) fn needs_token(&self) -> bool {
+        self.user.is_some() && self.token.is_none()
+    }
+
+    /// Drops the token if the status of a response says that it is not valid.
+    pub(crate) fn check_token(&mut self, status: u16) {
+        if self.user.is_some() && (status == 400 || status == 401) {
+            self.token = None;
+        }
+    }
+}
+
+/// A log over etcd, for one instance.
+///
+/// `advance` does all input and output. The other calls work on what it has received.
+#[derive(Drop)]
+pub struct EtcdLog {
+    pub(crate) number: u64,
+    pub(crate) state: LogState,
+    pub(crate) queue: VecDeque<Payload>,
+    requests: RequestLane,
+    watch: WatchLane,
+    // The last faults of requests and of the watch that were not returned yet.
+    request_fault: Option<EtcdFault>,
+    watch_fault: Option<EtcdFault>,
+}
+
+impl EtcdLog {
+    /// Creates a log. Its two connections are watched under these tokens.
+    ///
+    /// Returns `AllocError` if memory runs out.
+    pub fn new(
+        alloc: Global,
+        settings: EtcdSettings,
+        requests: Token,
+        watch: Token,
+    ) -> Result<EtcdLog, AllocError> {
+        let mut endpoints = Vec::new(alloc);
+        for address in &settings.endpoints {
+            endpoints.push(Endpoint::new(alloc, *address)?)?;
+        }
+        let key = key_of(alloc, settings.name.as_str())?;
+        let fence = fence_value(alloc, settings.number)?;
+        let following = Following::new(alloc, settings.revision, settings.count);
+        let number = settings.number;
+        let state = LogState {
+            alloc,
+            endpoints,
+            key,
+            user: settings.user,
+            token: None,
+            own: OwnEntries::new(fence, Payload::from_vec(Vec::new(alloc))),
+            following,
+            questions: Questions::new(),
+            loss: None,
+            ahead: None,
+            checked: Duration::ZERO,
+        };
+        Ok(EtcdLog {
+            number,
+            state,
+            queue: VecDeque::new(alloc),
+            requests: RequestLane::new(requests),
+            watch: WatchLane::new(alloc, watch),
+            request_fault: None,
+            watch_fault: None,
+        })
+    }
+
+    /// Sends and receives what is there, at a time of a clock that does not go back. Returns the
+    /// time within which it has to be called again, unless a connection is ready before.
+    pub fn advance(&mut self, net: &impl Net, registry: &Registry, now: Duration) -> Duration {
+        self.offer_next();
+        if self.state.loss.is_none() {
+            if let Err(fault) = self.requests.advance(net, registry, &mut self.state, now) {
+                self.requests.fail(now, &self.state);
+                self.request_fault = Some(fault);
+            }
+        }
+        if self.state.loss.is_none() {
+            if let Err(fault) = self.watch.advance(net, registry, &mut self.state, now) {
+                self.watch.fail(now, &mut self.state);
+                self.watch_fault = Some(fault);
+            }
+        }
+        if self.state.loss.is_some() {
+            self.requests.close();
+            self.watch.close();
+            return Duration::from_millis(MAX_PATIENCE);
+        }
+        let patience = self.requests.patience(&self.state, now);
+        let patience = patience.min(self.watch.patience(&self.state, now));
+        patience.min(Duration::from_millis(MAX_PATIENCE))
+    }
+
+    // Offers the next batch, if the outcome of the one before is known.
+    fn offer_next(&mut self) {
+        if self.state.own.is_idle()
+            && let Some(value) = self.queue.pop_front()
+        {
+            let _ = self.state.own.offer(value);
+        }
+    }
+
+    /// Returns the last fault of a request, or else of the watch, that was not returned yet.
+    pub fn take_fault(&mut self) -> Option<EtcdFault> {
+        match self.request_fault.take() {
+            Some(fault) => Some(fault),
+            None => self.watch_fault.take(),
+        }
+    }
+
+    /// Returns why the log is lost for this instance, if it is.
+    pub fn loss(&self) -> Option<Loss> {
+        self.state.loss
+    }
+
+    /// Returns the revision of the last change that was received, and the number of all entries up
+    /// to there.
+    pub fn position(&self) -> (u64, u64) {
+        (self.state.following.revision, self.state.following.count)
+    }
+
+    /// Returns the number of batches without an outcome.
+    pub fn open_batches(&self) -> usize {
+        match self.state.own.state {
+            OwnState::Sending(_) => self.queue.len().saturating_add(1),
+            _ => self.queue.len(),
+        }
+    }
+}

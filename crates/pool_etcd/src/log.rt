@@ -1,0 +1,58 @@
+//! The log, as an instance uses it.
+use crate::etcd_log::{EtcdLog, MAX_BATCH};
+use crate::log_value::entry_value;
+use pool_core::log::{Entry, Log, LogEnd, LogFault, OfferFault};
+
+impl Log for EtcdLog {
+    ghost use Rattle.std.specs.Prelude.{None};
+
+    ghost writer = { λ log. log.number };
+
+    // What etcd takes and gives is not known in advance.
+    ghost history = { λ _. None };
+
+    fn number(&self) -> u64 {
+        self.number
+    }
+
+    fn offer(&mut self, bytes: &[u8]) -> Result<(), OfferFault> {
+        if bytes.len() > MAX_BATCH {
+            return Err(OfferFault::TooLong);
+        }
+        let Ok(value) = entry_value(self.state.alloc, self.number, bytes) else {
+            return Err(OfferFault::NoMemory);
+        };
+        match self.queue.push_back(value) {
+            Ok(()) => Ok(()),
+            Err(_) => Err(OfferFault::NoMemory),
+        }
+    }
+
+    fn next(&mut self) -> Result<Option<Entry>, LogFault> {
+        if self.state.loss.is_some() {
+            return Err(LogFault::Lost);
+        }
+        match self.state.following.next() {
+            Some(entry) => Ok(Some(Entry {
+                writer: entry.writer,
+                bytes: entry.bytes.into_vec(),
+            })),
+            None => Ok(None),
+        }
+    }
+
+    fn ask_end(&mut self) -> Result<u64, LogFault> {
+        match self.state.questions.ask() {
+            Some(question) => Ok(question),
+            None => Err(LogFault::Lost),
+        }
+    }
+
+    fn end(&mut self) -> Option<LogEnd> {
+        let question = self.state.questions.answer(self.state.following.revision)?;
+        Some(LogEnd {
+            question,
+            count: self.state.following.count,
+        })
+    }
+}

@@ -1,0 +1,76 @@
+//! The values under the keys of a log.
+ghost use Rattle.std.specs.Prelude.{◌≡◌, IfOk, MatchOption};
+ghost use Rattle.pool_etcd.specs.LogValue.{IsEntry, IsNoEntry, entry_value, fence_value};
+ghost use Rattle.pool_etcd.specs.Number.{number_of};
+
+use crate::lines::{LINE_FEED, line_end};
+use crate::number::number_of;
+use crate::payload::Payload;
+use crate::response_fault::ResponseFault;
+use std::alloc::{AllocError, Global};
+use std::str;
+
+/// An entry: the number of the instance that wrote it, and its bytes.
+#[derive(Drop)]
+pub struct LogEntry {
+    pub writer: u64,
+    pub bytes: Payload,
+}
+
+/// Returns the value of a fence, which is no entry.
+///
+/// Returns `AllocError` if memory runs out.
+pub fn fence_value(alloc: Global, number: u64) -> Result<Payload, AllocError>
+    ensures { IfOk result (λ value. value ≡ fence_value number) }
+{
+    let text = format!(in alloc; "{number}")?;
+    Ok(Payload::from_vec(Vec::from_slice(alloc, text.as_bytes())?))
+}
+
+/// Returns the value of an entry.
+///
+/// Returns `AllocError` if memory runs out.
+pub fn entry_value(alloc: Global, number: u64, bytes: &[u8]) -> Result<Payload, AllocError>
+    ensures { IfOk result (λ value. value ≡ entry_value number bytes.now) }
+{
+    let text = format!(in alloc; "{number}")?;
+    let mut value = Vec::from_slice(alloc, text.as_bytes())?;
+    value.push(LINE_FEED)?;
+    value.extend_from_slice(bytes)?;
+    Ok(Payload::from_vec(value))
+}
+
+// Returns the number that the bytes are in decimal, if they are one.
+fn number_in_bytes(alloc: Global, bytes: &[u8]) -> Result<Option<u64>, AllocError>
+    ensures { IfOk result (λ number. number ≡ number_of bytes.now) }
+{
+    let Ok(text) = str::from_utf8(bytes) else {
+        return Ok(None);
+    };
+    match number_of(alloc, text) {
+        Ok(number) => Ok(Some(number)),
+        Err(ResponseFault::Memory) => Err(AllocError),
+        Err(_) => Ok(None),
+    }
+}
+
+/// Returns the entry that a value is, or `None` if it is none.
+///
+/// Returns `AllocError` if memory runs out.
+pub fn read_entry(alloc: Global, value: &[u8]) -> Result<Option<LogEntry>, AllocError>
+    ensures { IfOk result (λ entry. MatchOption entry
+        (IsNoEntry value.now)
+        (λ e. IsEntry value.now e.writer e.bytes)) }
+{
+    let Some(end) = line_end(value) else {
+        return Ok(None);
+    };
+    let Some(writer) = number_in_bytes(alloc, &value[..end])? else {
+        return Ok(None);
+    };
+    let bytes = Vec::from_slice(alloc, &value[end + 1..])?;
+    Ok(Some(LogEntry {
+        writer,
+        bytes: Payload::from_vec(bytes),
+    }))
+}

@@ -1,0 +1,140 @@
+//! The responses of etcd, from JSON.
+ghost use Rattle.std.specs.Prelude.{◌≡◌};
+ghost use Rattle.serde_json.specs.View.{items_view, view};
+ghost use Rattle.pool_etcd.specs.Given.{Gives, IsJson, Reads};
+ghost use Rattle.pool_etcd.specs.Response.{put_outcome, range_revision, range_value, refusal, store_revision, stored_value, token_of, put_outcome_by};
+
+use crate::json_value::json_of;
+use crate::member::{bytes_at, flag_at, items_at, required_number};
+use crate::payload::Payload;
+use crate::response_fault::ResponseFault;
+use serde_json::Value;
+use std::alloc::Global;
+
+/// The value of a key, with the revision of its last change.
+#[derive(Drop)]
+pub struct StoredValue {
+    pub revision: u64,
+    pub value: Payload,
+}
+
+/// The outcome of a put.
+#[derive(Drop)]
+pub enum PutOutcome {
+    /// The value is stored, at this revision.
+    Stored(u64),
+    /// The last change of the key was at another revision. This is its value, if it has one.
+    Refused(Option<StoredValue>),
+}
+
+// Returns the revision of the whole store.
+fn store_revision(alloc: Global, value: &Value) -> Result<u64, ResponseFault>
+    ensures { Gives result (store_revision (view value.now)) }
+{
+    match value.get("header") {
+        Some(header) => required_number(alloc, header, "revision"),
+        None => Err(ResponseFault::Unexpected),
+    }
+}
+
+#[tactic(auto, unfolding(crate::specs::Response::range_revision))]
+fn range_revision(alloc: Global, value: &Value) -> Result<u64, ResponseFault>
+    ensures { Gives result (range_revision (view value.now)) }
+{
+    let _store = store_revision(alloc, value)?;
+    match items_at(value, "kvs")? {
+        [] => Ok(0),
+        [key, ..] => required_number(alloc, key, "mod_revision"),
+    }
+}
+
+#[tactic(auto, unfolding(crate::specs::Response::stored_value))]
+pub(crate) fn stored_value(alloc: Global, value: &Value) -> Result<StoredValue, ResponseFault>
+    ensures { Gives result (stored_value (view value.now)) }
+{
+    let revision = required_number(alloc, value, "mod_revision")?;
+    let value = bytes_at(alloc, value, "value")?;
+    Ok(StoredValue { revision, value })
+}
+
+#[tactic(auto, unfolding(crate::specs::Response::range_value))]
+fn range_value(alloc: Global, value: &Value) -> Result<Option<StoredValue>, ResponseFault>
+    ensures { Gives result (range_value (view value.now)) }
+{
+    match items_at(value, "kvs")? {
+        [] => Ok(None),
+        [key, ..] => match stored_value(alloc, key) {
+            Ok(stored) => Ok(Some(stored)),
+            Err(fault) => Err(fault),
+        },
+    }
+}
+
+#[tactic(auto, unfolding(crate::specs::Response::refusal))]
+fn refusal(alloc: Global, value: &Value) -> Result<PutOutcome, ResponseFault>
+    ensures { Gives result (refusal (view value.now)) }
+{
+    let responses = items_at(value, "responses")?;
+    let [response, ..] = responses else {
+        return Err(ResponseFault::Unexpected);
+    };
+    let Some(range) = response.get("response_range") else {
+        return Err(ResponseFault::Unexpected);
+    };
+    match range_value(alloc, range) {
+        Ok(value) => Ok(PutOutcome::Refused(value)),
+        Err(fault) => Err(fault),
+    }
+}
+
+#[tactic(auto, unfolding(crate::specs::Response::put_outcome))]
+fn put_outcome(alloc: Global, value: &Value) -> Result<PutOutcome, ResponseFault>
+    ensures { Gives result (put_outcome (view value.now)) }
+{
+    let store = store_revision(alloc, value)?;
+    if flag_at(value, "succeeded")? {
+        Ok(PutOutcome::Stored(store))
+    } else {
+        refusal(alloc, value)
+    }
+}
+
+#[tactic(auto, unfolding(crate::specs::Response::token_of))]
+fn token_of(alloc: Global, value: &Value) -> Result<Payload, ResponseFault>
+    ensures { Gives result (token_of (view value.now)) }
+{
+    let Some(token) = value.get("token") else {
+        return Err(ResponseFault::Unexpected);
+    };
+    let Some(text) = token.as_str() else {
+        return Err(ResponseFault::Unexpected);
+    };
+    match Vec::from_slice(alloc, text.as_bytes()) {
+        Ok(bytes) => Ok(Payload::from_vec(bytes)),
+        Err(_) => Err(ResponseFault::Memory),
+    }
+}
+
+/// Reads the revision of the last change of a key, or of the log. It is 0 if there is none.
+pub fn read_range(alloc: Global, body: &[u8]) -> Result<u64, ResponseFault>
+    ensures { Reads range_revision body.now result }
+{
+    let value = json_of(alloc, body)?;
+    range_revision(alloc, &value)
+}
+
+/// Reads the outcome of a put.
+pub fn read_put(alloc: Global, body: &[u8]) -> Result<PutOutcome, ResponseFault>
+    ensures { Reads put_outcome body.now result }
+{
+    let value = json_of(alloc, body)?;
+    put_outcome(alloc, &value)
+}
+
+/// Reads a token.
+pub fn read_token(alloc: Global, body: &[u8]) -> Result<Payload, ResponseFault>
+    ensures { Reads token_of body.now result }
+{
+    let value = json_of(alloc, body)?;
+    token_of(alloc, &value)
+}

@@ -1,0 +1,255 @@
+//! The watch of the log's keys.
+use crate::connection::Arrived;
+use crate::etcd_fault::{EtcdFault, Loss};
+use crate::etcd_log::LogState;
+use crate::exchange::{Request, Step};
+use crate::following::FollowFault;
+use crate::lane::Lane;
+use crate::lines::Lines;
+use crate::request::{WATCH_PATH, watch_body};
+use crate::times::later;
+use crate::watch_line::{WatchLine, read_line};
+use mio::{Registry, Token};
+use std::alloc::Global;
+use std::net::Net;
+use std::time::Duration;
+
+// The time limit until the first line of a watch, and for a change that was made to come, in
+// milliseconds.
+const TIME_LIMIT: u64 = 2000;
+
+// The maximum length of a line.
+const MAX_LINE: usize = 16_000_000;
+
+// The maximum number of entries that wait to be taken, before no more is read.
+const MAX_ENTRIES: usize = 10_000;
+
+// The time until the reading goes on once the entries were taken, in milliseconds.
+const FULL_PATIENCE: u64 = 10;
+
+// The maximum number of parts read before others get their turn.
+const MAX_STEPS: usize = 1_000;
+
+/// The connection of the watch.
+#[derive(Drop)]
+pub(crate) struct WatchLane {
+    lane: Lane,
+    lines: Lines,
+    status: u16,
+    // Until when the first line has to come, if it has not.
+    limit: Option<Duration>,
+    // True if there may be more to read.
+    partly_read: bool,
+}
+
+impl WatchLane {
+    /// Creates a lane without a connection.
+    pub(crate) fn new(alloc: Global, token: Token) -> WatchLane {
+        WatchLane {
+            lane: Lane::new(token),
+            lines: Lines::new(alloc),
+            status: 0,
+            limit: None,
+            partly_read: false,
+        }
+    }
+
+    /// Sends and receives what is there.
+    pub(crate) fn advance(
+        &mut self,
+        net: &impl Net,
+        registry: &Registry,
+        state: &mut LogState,
+        now: Duration,
+    ) -> Result<(), EtcdFault> {
+        if state.following.entries.len() >= MAX_ENTRIES {
+            return Ok(());
+        }
+        self.receive(state, now)?;
+        if state.loss.is_some() {
+            return Ok(());
+        }
+        self.check_limits(state, now)?;
+        if self.lane.connection.is_none() && now >= self.lane.resume && !state.needs_token() {
+            self.begin(net, registry, state, now)?;
+        }
+        Ok(())
+    }
+
+    // Fails if no line has come, or not the changes that were made.
+    fn check_limits(&self, state: &mut LogState, now: Duration) -> Result<(), EtcdFault> {
+        if let Some(limit) = self.limit
+            && now >= limit
+        {
+            return Err(EtcdFault::TimeLimit);
+        }
+        if let Some((revision, since)) = state.ahead {
+            if state.following.revision >= revision {
+                state.ahead = None;
+            } else if now >= later(since, TIME_LIMIT) {
+                return Err(EtcdFault::WatchBehind);
+            }
+        }
+        Ok(())
+    }
+
+    // Begins the watch behind the last change.
+    fn begin(
+        &mut self,
+        net: &impl Net,
+        registry: &Registry,
+        state: &mut LogState,
+        now: Duration,
+    ) -> Result<(), EtcdFault> {
+        self.lane
+            .open(net, state.alloc, registry, state.endpoints.as_slice())?;
+        let from = state.following.revision.saturating_add(1);
+        let Ok(body) = watch_body(state.alloc, from) else {
+            return Err(EtcdFault::Memory);
+        };
+        let request = Request {
+            host: self.lane.host(state.endpoints.as_slice()),
+            path: WATCH_PATH,
+            token: state.token.as_ref().map(|token| token.bytes()),
+            body: body.as_str(),
+        };
+        self.lines = Lines::new(state.alloc);
+        self.status = 0;
+        self.limit = Some(later(now, TIME_LIMIT));
+        match &mut self.lane.connection {
+            Some(connection) => connection.begin(&request),
+            None => Err(EtcdFault::Connection),
+        }
+    }
+
+    // Reads what has arrived.
+    fn receive(&mut self, state: &mut LogState, now: Duration) -> Result<(), EtcdFault> {
+        let Some(connection) = &mut self.lane.connection else {
+            return Ok(());
+        };
+        connection.send()?;
+        let arrived = connection.receive()?;
+        self.partly_read = true;
+        for _ in 0..MAX_STEPS {
+            if self.step(state)? == Step::NeedsInput {
+                self.partly_read = arrived == Arrived::Part;
+                break;
+            }
+        }
+        self.take_lines(state, now)?;
+        if arrived == Arrived::Ended && state.loss.is_none() {
+            return Err(EtcdFault::Connection);
+        }
+        Ok(())
+    }
+
+    // Reads the next part of the response.
+    fn step(&mut self, state: &mut LogState) -> Result<Step, EtcdFault> {
+        let Some(connection) = &mut self.lane.connection else {
+            return Ok(Step::NeedsInput);
+        };
+        let step = connection.step()?;
+        match step {
+            Step::Head(status) => self.status = status,
+            Step::Data if self.status == 200 => {
+                if self.lines.push(connection.body()).is_err() {
+                    return Err(EtcdFault::Memory);
+                }
+                connection.clear_body();
+            }
+            Step::Data => connection.clear_body(),
+            Step::End | Step::Closed if self.status == 200 => return Err(EtcdFault::WatchEnded),
+            Step::End | Step::Closed => {
+                state.check_token(self.status);
+                return Err(EtcdFault::Status(self.status));
+            }
+            Step::NeedsInput => {}
+        }
+        Ok(step)
+    }
+
+    // Takes the lines that are whole.
+    fn take_lines(&mut self, state: &mut LogState, now: Duration) -> Result<(), EtcdFault> {
+        for _ in 0..u64::MAX {
+            match self.lines.next_line(state.alloc) {
+                Ok(Some(line)) => self.take_line(state, line.as_slice(), now)?,
+                Ok(None) => break,
+                Err(_) => return Err(EtcdFault::Memory),
+            }
+        }
+        if self.lines.len() > MAX_LINE {
+            return Err(EtcdFault::TooLong);
+        }
+        Ok(())
+    }
+
+    // Takes what a line says.
+    fn take_line(
+        &mut self,
+        state: &mut LogState,
+        line: &[u8],
+        now: Duration,
+    ) -> Result<(), EtcdFault> {
+        match read_line(state.alloc, line)? {
+            WatchLine::Failed => Err(EtcdFault::WatchEnded),
+            WatchLine::Canceled(0) => {
+                // A token that is not valid ends a watch without saying so.
+                state.token = None;
+                Err(EtcdFault::WatchEnded)
+            }
+            WatchLine::Canceled(revision) => {
+                state.loss = Some(Loss::Compacted(revision));
+                Ok(())
+            }
+            WatchLine::Changes(changes) => {
+                self.limit = None;
+                self.lane.succeed();
+                state.checked = now;
+                match state.following.receive(state.alloc, changes.items()) {
+                    Ok(()) => Ok(()),
+                    Err(FollowFault::Memory) => Err(EtcdFault::Memory),
+                    Err(FollowFault::OutOfOrder) => Err(EtcdFault::OutOfOrder),
+                    Err(FollowFault::Deleted) => {
+                        state.loss = Some(Loss::Deleted);
+                        Ok(())
+                    }
+                }
+            }
+        }
+    }
+
+    /// Drops the connection. The next endpoint has its turn.
+    pub(crate) fn fail(&mut self, now: Duration, state: &mut LogState) {
+        self.close();
+        state.ahead = None;
+        self.lane.fail(now, state.endpoints.len());
+    }
+
+    /// Drops the connection.
+    pub(crate) fn close(&mut self) {
+        self.limit = None;
+        self.partly_read = false;
+        self.lane.close();
+    }
+
+    /// Returns the time within which `advance` has to be called again.
+    pub(crate) fn patience(&self, state: &LogState, now: Duration) -> Duration {
+        if state.following.entries.len() >= MAX_ENTRIES {
+            return Duration::from_millis(FULL_PATIENCE);
+        }
+        if self.partly_read {
+            return Duration::ZERO;
+        }
+        let mut next = match self.limit {
+            Some(limit) => limit,
+            None => Duration::MAX,
+        };
+        if self.lane.connection.is_none() && !state.needs_token() {
+            next = self.lane.resume;
+        }
+        if let Some((_, since)) = state.ahead {
+            next = next.min(later(since, TIME_LIMIT));
+        }
+        next.saturating_sub(now)
+    }
+}

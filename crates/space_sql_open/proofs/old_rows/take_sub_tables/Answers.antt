@@ -1,0 +1,18 @@
+use Rattle.std.proofs.Common.{Ok, Err}
+use Rattle.sqlite.specs.Held.{state}
+use Rattle.space_sql_schema.specs.Tables.{old_unindexed_schema}
+use Rattle.space_sql_open.specs.OldRows.{HoldsCells, HoldsSubTables, HoldsSubs, WantsCells, WantsSubTables, WantsSubs}
+use Rattle.space_sql_open.proofs.OldReads.{both_taken, first_lacks, second_lacks}
+use Rattle.space_sql_open.proofs.old_rows.take_sub_tables.Goals as goal
+
+pub returns-in-Err-clause-takes : goal.returns-in-Err-clause-takes
+returns-in-Err-clause-takes g c =
+    first_lacks old_unindexed_schema WantsSubs WantsCells WantsSubTables HoldsSubs HoldsCells HoldsSubTables (λ trees want. want.0) (λ trees want. want.1) (state g.S.Store c.args.tx.now.conn.now) (state g.S.Store c.take_subs.new.tx.conn.now) c.in-Err.fault c.in-Err.ensures.takes
+
+pub returns-in-Ok-take_cells-clause-takes : goal.returns-in-Ok-take_cells-clause-takes
+returns-in-Ok-take_cells-clause-takes g c =
+    both_taken old_unindexed_schema WantsSubs WantsCells WantsSubTables HoldsSubs HoldsCells HoldsSubTables (λ trees want. want.0) (λ trees want. want.1) (state g.S.Store c.args.tx.now.conn.now) (state g.S.Store c.take_subs.new.tx.conn.now) (state g.S.Store c.take_cells.new.tx.conn.now) _ _ _ (λ trees x y. (x, y)) c.in-Ok.ensures.takes c.in-Ok-take_cells.ensures.takes
+
+pub returns-in-Err-take_cells-clause-takes : goal.returns-in-Err-take_cells-clause-takes
+returns-in-Err-take_cells-clause-takes g c =
+    second_lacks old_unindexed_schema WantsSubs WantsCells WantsSubTables HoldsSubs HoldsCells HoldsSubTables (λ trees want. want.0) (λ trees want. want.1) (state g.S.Store c.args.tx.now.conn.now) (state g.S.Store c.take_subs.new.tx.conn.now) (state g.S.Store c.take_cells.new.tx.conn.now) _ c.in-Err-take_cells.fault c.in-Ok.ensures.takes c.in-Err-take_cells.ensures.takes

@@ -1,0 +1,93 @@
+//! Commands, and the arguments of the program.
+use pool_etcd::settings::{EtcdSettings, User};
+use std::alloc::{AllocError, Global};
+use std::net::SocketAddr;
+
+/// A command.
+#[derive(Clone, Copy, Debug)]
+pub(crate) enum Command<'a> {
+    /// Offers a batch with this text.
+    Offer(&'a str),
+    /// Offers a batch of so many bytes.
+    Long(usize),
+    /// Asks for the end of the log.
+    End,
+    /// Goes on for so many milliseconds.
+    Wait(u64),
+    /// Goes on until nothing is open, at most so many milliseconds.
+    Settle(u64),
+    /// Ends the program.
+    Quit,
+}
+
+/// Returns the command that a line is.
+pub(crate) fn command_of(line: &str) -> Option<Command<'_>> {
+    match line.split_once(' ') {
+        Some(("offer", text)) => Some(Command::Offer(text)),
+        Some(("long", count)) => Some(Command::Long(count.parse::<usize>().ok()?)),
+        Some(("wait", time)) => Some(Command::Wait(time.parse::<u64>().ok()?)),
+        Some(("settle", time)) => Some(Command::Settle(time.parse::<u64>().ok()?)),
+        Some(_) => None,
+        None => match line {
+            "end" => Some(Command::End),
+            "quit" => Some(Command::Quit),
+            "offer" => Some(Command::Offer("")),
+            _ => None,
+        },
+    }
+}
+
+// Returns the addresses of a list that is separated by commas.
+fn addresses_of(alloc: Global, list: &str) -> Result<Option<Vec<SocketAddr>>, AllocError> {
+    let mut addresses = Vec::new(alloc);
+    for word in list.split(',') {
+        match word.parse::<SocketAddr>() {
+            Ok(address) => addresses.push(address)?,
+            Err(_) => return Ok(None),
+        }
+    }
+    Ok(Some(addresses))
+}
+
+// Returns the number in an argument, or 0 if there is none.
+fn number_at(words: &[String], index: usize) -> Option<u64> {
+    match words.get(index) {
+        Some(word) => word.as_str().parse::<u64>().ok(),
+        None => Some(0),
+    }
+}
+
+/// Returns the settings that the arguments give.
+pub(crate) fn settings_of(
+    alloc: Global,
+    words: &[String],
+) -> Result<Option<EtcdSettings>, AllocError> {
+    let (Some(list), Some(name), Some(_)) = (words.get(1), words.get(2), words.get(3)) else {
+        return Ok(None);
+    };
+    let Some(endpoints) = addresses_of(alloc, list.as_str())? else {
+        return Ok(None);
+    };
+    let (Some(number), Some(revision), Some(count)) = (
+        number_at(words, 3),
+        number_at(words, 4),
+        number_at(words, 5),
+    ) else {
+        return Ok(None);
+    };
+    let user = match (words.get(6), words.get(7)) {
+        (Some(name), Some(password)) => Some(User {
+            name: name.clone()?,
+            password: password.clone()?,
+        }),
+        _ => None,
+    };
+    Ok(Some(EtcdSettings {
+        endpoints,
+        user,
+        name: name.clone()?,
+        number,
+        revision,
+        count,
+    }))
+}

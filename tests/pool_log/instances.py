@@ -1,0 +1,110 @@
+"""Instances at a log: the program of crates/test_pool_etcd, driven by its standard input."""
+import itertools
+import os
+import pathlib
+import subprocess
+import threading
+import time
+
+TOP = pathlib.Path(__file__).resolve().parents[2]
+BUILT = os.environ.get("TEST_POOL_ETCD") or str(TOP / "crates" / "test_pool_etcd" / "out" / "test_pool_etcd")
+LIMIT = 60
+numbers = itertools.count(int.from_bytes(os.urandom(4), "big") << 16)
+
+
+class Instance:
+    """A process, with a number that no other has."""
+
+    def __init__(self, addresses, name, revision=0, count=0, user=None):
+        self.name, self.number = name, next(numbers)
+        words = [BUILT, addresses, name, str(self.number), str(revision), str(count), *(user or ())]
+        self.process = subprocess.Popen(words, stdin=subprocess.PIPE, stdout=subprocess.PIPE, text=True, bufsize=1)
+        self.lines, self.offered = [], []
+        # How often it was told to go on.
+        self.told = 0
+        self.news = threading.Condition()
+        threading.Thread(target=self.read, daemon=True).start()
+
+    def read(self):
+        for line in self.process.stdout:
+            with self.news:
+                self.lines.append(line.rstrip("\n"))
+                self.news.notify_all()
+        with self.news:
+            self.lines.append(f"ended {self.process.wait()}")
+            self.news.notify_all()
+
+    def say(self, line):
+        try:
+            self.process.stdin.write(line + "\n")
+            self.process.stdin.flush()
+        except OSError:
+            pass
+
+    def offer(self, text):
+        self.offered.append(text)
+        self.say(f"offer {text}")
+
+    def after(self, line, limit=LIMIT):
+        """Gives a command that goes on for a time, and returns its last line."""
+        self.begin(line)
+        end = time.monotonic() + limit
+        with self.news:
+            while True:
+                done = [it for it in self.lines if it.startswith("done")]
+                if len(done) >= self.told:
+                    return done[self.told - 1]
+                if self.lines and self.lines[-1].startswith("ended"):
+                    return self.lines[-1]
+                left = end - time.monotonic()
+                if left <= 0:
+                    raise AssertionError(f"{self.name}: no answer to {line!r} after {limit} s: {self.lines[-9:]}")
+                self.news.wait(left)
+
+    def begin(self, line):
+        """Gives a command that goes on for a time, without waiting for that."""
+        self.told += 1
+        self.say(line)
+
+    def settle(self, milliseconds=30_000):
+        """Goes on until no batch and no question is open."""
+        said = self.after(f"settle {milliseconds}")
+        if not said.startswith("done open 0"):
+            raise AssertionError(f"{self.name} is not settled: {said}; {self.faults()}")
+        return said
+
+    def wait(self, milliseconds):
+        return self.after(f"wait {milliseconds}")
+
+    def entries(self):
+        return [tuple(it.split(" ", 2)[1:]) for it in list(self.lines) if it.startswith("entry ")]
+
+    def texts(self):
+        return [text for _, text in self.entries()]
+
+    def own(self):
+        return [text for number, text in self.entries() if number == str(self.number)]
+
+    def faults(self):
+        return [it[6:] for it in list(self.lines) if it.startswith("fault ")]
+
+    def lost(self):
+        return next((it[5:] for it in list(self.lines) if it.startswith("lost ")), None)
+
+    def until(self, count, milliseconds=30_000):
+        """Goes on until so many entries have come."""
+        end = time.monotonic() + milliseconds / 1000
+        while len(self.entries()) < count and time.monotonic() < end and not self.lost():
+            self.wait(50)
+        return self.entries()
+
+    def close(self):
+        self.say("quit")
+        try:
+            self.process.wait(10)
+        except subprocess.TimeoutExpired:
+            self.process.kill()
+
+    def kill(self):
+        self.process.kill()
+        self.process.wait()
