@@ -25,7 +25,7 @@ gives_its_operation_lem path method body = let a = asked path method body in (a.
 pub operation_is : (path method body : List ℕ) (op : Operation) → GivesOperation path method body op → op ≡ operation_of path method body
 operation_is path method body op given =
     let own = gives_its_operation_lem path method body in
-    same_asked path method body own.0 given.0 (operation_of path method body) op own.1 given.1
+    (same_asked path method body own.0 given.0 (operation_of path method body) op own.1 given.1).1
 
 pub one_batch_lem : OneBatch
 one_batch_lem bytes calls others x y = ok_is others calls (sym (batch_again bytes others y) ∙ batch_again bytes calls x)

@@ -5,7 +5,7 @@ use Rattle.policy_core.specs.declared.call.Call.{Call}
 use Rattle.policy_core.specs.declared.scope.Caller.{Caller}
 use Rattle.token_conf.specs.TokenFile.{Callers}
 use Rattle.wire_route.specs.declared.endpoint.Endpoint.{Endpoint}
-use Rattle.wire_http.specs.Asked.{IsCallOf}
+use Rattle.wire_operation.specs.Asked.{IsCallOf}
 use Rattle.wire_operation.specs.Operation.{GivesOperation}
 use Rattle.pool_entry.specs.declared.pool_call.PoolCall.{PoolCall}
 use Rattle.pool_entry.specs.Spelling.{IsBatch, IsCall, SpellsBatch}

@@ -5,7 +5,7 @@ use Rattle.space_core.specs.declared.space.Space as spaces
 use Rattle.service_calls.specs.declared.service.Service.{Service}
 use Rattle.service_calls.specs.Batches.{CallRecord, CalledInOrder}
 use Rattle.token_conf.specs.TokenFile.{Callers}
-use Rattle.wire_http.specs.Asked.{IsCallOf}
+use Rattle.wire_operation.specs.Asked.{IsCallOf}
 use Rattle.wire_http.specs.Count.{one_more}
 use Rattle.wire_http.specs.Wire.{RequestCall, timed}
 use Rattle.wire_http.specs.declared.moments.Moments as moments

@@ -24,7 +24,7 @@ use Rattle.wire_head.specs.Rest.{IsKind, IsSoFar, EndsAs, has_line, whole, after
 use Rattle.wire_head.specs.FinalHead.{Covers, Finds}
 use Rattle.wire_head.specs.Fields.{Fields, values_of}
 use Rattle.wire_head.specs.Length.{is_number, content_length, reject_coded, length_by}
-use Rattle.wire_http.specs.Asked.{fields_of}
+use Rattle.wire_operation.specs.Asked.{fields_of}
 use Rattle.wire_http.specs.Input.{known_bytes}
 use Rattle.wire_http.specs.Next.{IsNext}
 use Rattle.wire_http.specs.Stop.{StopsAs}

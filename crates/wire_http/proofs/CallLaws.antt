@@ -11,7 +11,7 @@ use Rattle.wire_route.specs.declared.endpoint.Endpoint.{Endpoint}
 use Rattle.wire_head.specs.FinalHead.{Covers}
 use Rattle.wire_http.specs.Next.{body_at}
 use Rattle.wire_head.specs.Target.{path_of}
-use Rattle.wire_http.specs.Asked.{IsCallOf, IsAsked, caller_of}
+use Rattle.wire_operation.specs.Asked.{IsCallOf, IsAsked, caller_of}
 
 body_is : (buffer : List ℕ) (len size : ℕ) → take (len + size - len) (drop len buffer) ≡ body_at buffer len size
 body_is buffer len size = let e : len + size - len ≡ size = omega arith in ap (λ n. take n (drop len buffer)) e

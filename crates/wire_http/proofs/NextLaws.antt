@@ -17,7 +17,7 @@ use Rattle.wire_head.specs.Rest.{IsKind, whole, after}
 use Rattle.wire_head.specs.FinalHead.{Covers}
 use Rattle.wire_head.specs.Fields.{Fields, values_of}
 use Rattle.wire_head.specs.Length.{content_length, reject_coded, length_by, is_number}
-use Rattle.wire_http.specs.Asked.{fields_of}
+use Rattle.wire_operation.specs.Asked.{fields_of}
 use Rattle.wire_http.specs.Stop.{Breaks, HasRefused, StopsAs}
 use Rattle.wire_http.specs.Next.{IsNext, body_at}
 use Rattle.wire_head.proofs.KindLaws.{one_kind}

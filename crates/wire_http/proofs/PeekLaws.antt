@@ -16,7 +16,7 @@ use Rattle.wire_http.specs.declared.connection.Peeked.TheVariants as peeks
 use Rattle.wire_http.specs.declared.end.End.TheVariants as ends
 use Rattle.wire_http.specs.declared.request.Next.TheVariants.{Request}
 use Rattle.wire_http.specs.declared.buffered.BufferState.TheVariants.{Gives}
-use Rattle.wire_http.specs.Asked.{caller_of, fields_of}
+use Rattle.wire_operation.specs.Asked.{caller_of, fields_of}
 use Rattle.wire_http.specs.BufferState.{IsHeld}
 use Rattle.wire_http.specs.Next.{body_at}
 use Rattle.wire_http.specs.Peek.{IsPartPeek, IsPeek}

@@ -6,7 +6,7 @@ use Rattle.wire_http.specs.declared.end.End.{End}
 use Rattle.wire_http.specs.declared.end.End.TheVariants as ends
 use Rattle.wire_head.specs.declared.rule.WireRule.{WireRule}
 use Rattle.wire_head.specs.declared.rule.WireRule.TheVariants as rules
-use Rattle.wire_http.specs.Asked.{fields_of}
+use Rattle.wire_operation.specs.Asked.{fields_of}
 use Rattle.wire_head.specs.Length.{content_length}
 use Rattle.wire_head.specs.Rest.{Kind, nothing, cut, bad, large, whole, IsKind, AreSame, after}
 use Rattle.wire_http.specs.Stop.{StopsAs, HasRefused, AreSameEnds}

@@ -5,7 +5,7 @@ use Rattle.token_conf.specs.TokenFile.{Callers}
 use Rattle.httparse.specs.Grammar.{RequestHead}
 use Rattle.wire_http.specs.declared.end.End.{End}
 use Rattle.wire_head.specs.Rest.{after}
-use Rattle.wire_http.specs.Asked.{IsCallOf}
+use Rattle.wire_operation.specs.Asked.{IsCallOf}
 use Rattle.wire_http.specs.Stop.{StopsAs, AreSameEnds}
 use Rattle.wire_http.specs.Wire.{RequestCall, AsksCall, Finishes, Leads, left_after}
 use Rattle.wire_http.proofs.CallUnique.{one_request, one_call}

@@ -26,7 +26,7 @@ use Rattle.wire_http.specs.declared.request.Next.TheVariants.{Request, Stop}
 use Rattle.wire_http.specs.declared.serve.Turn.{Turn}
 use Rattle.wire_http.specs.declared.serve.Turn.TheVariants.{Answered, Ended}
 use Rattle.wire_http.specs.declared.source.Source.{Source}
-use Rattle.wire_http.specs.Asked.{IsCallOf}
+use Rattle.wire_operation.specs.Asked.{IsCallOf}
 use Rattle.wire_head.specs.Close.{closes_by}
 use Rattle.wire_http.specs.Fault.{AbortedResponse, AbortedCall, AbortedReading, IsOfAnswering, IsOfAsking}
 use Rattle.wire_http.specs.Input.{BufferGrew, known_bytes}

@@ -33,7 +33,7 @@ use Rattle.wire_route.specs.declared.endpoint.Endpoint.{Endpoint}
 use Rattle.wire_route.specs.Endpoint.{kind_at}
 use Rattle.wire_route.specs.Route.{IsRoute}
 use Rattle.wire_http.specs.declared.explaining.Explaining.{Explaining}
-use Rattle.wire_http.specs.Asked.{IsAsked, IsAskedAs, IsReadAs}
+use Rattle.wire_operation.specs.Asked.{IsAsked, IsAskedAs, IsReadAs}
 use Rattle.wire_http.specs.Reply.{Replies, RepliesPart}
 use Rattle.wire_http.specs.Unread.{AreDeniedAlike, IsMadeAs, IsMadeFor}
 

@@ -1,4 +1,3 @@
-pub mod Asked
 pub mod Input
 pub mod Count
 pub mod Connection

@@ -6,7 +6,7 @@ use Rattle.wire_head.specs.Rest.{IsKind, whole}
 use Rattle.wire_http.specs.declared.connection.Peeked.{Peeked}
 use Rattle.wire_http.specs.declared.connection.Peeked.TheVariants as peeks
 use Rattle.wire_http.specs.declared.end.End.{End}
-use Rattle.wire_http.specs.Asked.{caller_of, fields_of}
+use Rattle.wire_operation.specs.Asked.{caller_of, fields_of}
 use Rattle.wire_http.specs.BufferState.{HasNoRequest, MayCome}
 use Rattle.wire_http.specs.Wire.{Finishes, IsRequest}
 

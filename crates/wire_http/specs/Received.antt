@@ -9,7 +9,7 @@ use Rattle.wire_http.specs.declared.call.Received.{Received}
 use Rattle.wire_route.specs.declared.endpoint.Endpoint.{Endpoint}
 use Rattle.wire_head.specs.FinalHead.{Covers}
 use Rattle.wire_http.specs.Next.{body_at}
-use Rattle.wire_http.specs.Asked.{IsCallOf}
+use Rattle.wire_operation.specs.Asked.{IsCallOf}
 use Rattle.wire_head.specs.Target.{path_of}
 use Rattle.wire_http.specs.RequestInfo.{IsEntityNamed, requested_kind}
 use Rattle.wire_http.specs.Unread.{IsMadeFor}

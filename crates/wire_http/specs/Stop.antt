@@ -8,7 +8,7 @@ use Rattle.wire_head.specs.declared.rule.WireRule.{WireRule}
 use Rattle.wire_head.specs.declared.rule.WireRule.TheVariants as rules
 use Rattle.wire_head.specs.Rest.{IsKind, cut, bad, large, whole, after, window}
 use Rattle.wire_head.specs.Length.{content_length}
-use Rattle.wire_http.specs.Asked.{fields_of}
+use Rattle.wire_operation.specs.Asked.{fields_of}
 
 -- Holds if the rest begins with a complete head whose fields break this rule first.
 abbrev pub HasRefused : List ℕ → WireRule → Type 0

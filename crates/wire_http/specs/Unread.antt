@@ -8,7 +8,7 @@ use Rattle.policy_core.specs.declared.rule.Rule.{Rule}
 use Rattle.policy_core.specs.declared.scope.Caller.{Caller}
 use Rattle.policy_core.specs.Policy.{breaks, early_rules}
 use Rattle.wire_body.specs.Body.{Words}
-use Rattle.wire_http.specs.Asked.{IsReadAs}
+use Rattle.wire_operation.specs.Asked.{IsReadAs}
 
 -- Holds if both calls break the same stateless rule first, so that both are denied alike.
 pub record AreDeniedAlike (made call : Call) : Type 0 where

@@ -19,7 +19,7 @@ use Rattle.wire_route.specs.declared.endpoint.Endpoint.{Endpoint}
 use Rattle.wire_head.specs.Rest.{IsKind, whole, after}
 use Rattle.wire_head.specs.Length.{content_length}
 use Rattle.token_conf.specs.TokenFile.{Callers}
-use Rattle.wire_http.specs.Asked.{IsCallOf, fields_of}
+use Rattle.wire_operation.specs.Asked.{IsCallOf, fields_of}
 use Rattle.wire_http.specs.Text.{response_text, rule_text, end_texts}
 use Rattle.wire_head.specs.Close.{closes_by}
 use Rattle.wire_http.specs.Stop.{Breaks, StopsAs}

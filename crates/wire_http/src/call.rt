@@ -9,7 +9,7 @@ ghost use Rattle.wire_http.specs.Received.{IsKindIn, IsMadeForOne, IsNamedIn, Is
 ghost use Rattle.wire_http.specs.RequestInfo.{IsEntityNamed, entity_named, requested_kind};
 ghost use Rattle.wire_http.specs.Unread.{IsMadeAs, IsMadeFor};
 ghost use Rattle.wire_head.specs.Close.{closes_by};
-ghost use Rattle.wire_http.specs.Asked.{caller_of, IsReadAs, IsAsked};
+ghost use Rattle.wire_operation.specs.Asked.{caller_of, IsAsked};
 
 use crate::fault::StreamFault;
 use crate::moments::Moments;
@@ -21,30 +21,14 @@ use policy_core::rule::Rule;
 use policy_core::scope::Caller;
 use std::alloc::{AllocError, Global};
 use token_conf::token_table::TokenTable;
-use wire_body::body::{PathWords, read_body};
-use wire_body::body_fault::BodyFault;
+use wire_body::body::PathWords;
 use wire_body::laws::keeps_kind;
 use wire_head::bearer::bearer_token;
 use wire_head::close::closes_connection;
 use wire_head::target::path_of;
+use wire_operation::operation::read_as;
 use wire_route::endpoint::Endpoint;
 use wire_route::routes::{Route, Routes};
-
-// Returns the operation of the kind, or `Malformed` if path parameters and body give none.
-fn read_as(
-    alloc: Global,
-    kind: OpKind,
-    words: &PathWords<'_>,
-    body: &[u8],
-) -> Result<Operation, AllocError>
-    ensures { IfOk result (IsReadAs kind (words_of words.now) body.now) }
-{
-    match read_body(alloc, kind, words, body) {
-        Ok(op) => Ok(op),
-        Err(BodyFault::Malformed) => Ok(Operation::Malformed(kind)),
-        Err(BodyFault::Memory) => Err(AllocError),
-    }
-}
 
 // Returns the call of a kind. If P3 or P4 denies it whatever the body is, does not read the body.
 fn call_as(

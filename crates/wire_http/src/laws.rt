@@ -6,7 +6,7 @@ ghost use Rattle.policy_core.specs.declared.reference.Missing.{Missing};
 ghost use Rattle.policy_core.specs.declared.rule.Rule.{Rule};
 ghost use Rattle.service_step.specs.declared.reply.Reply.{Reply};
 ghost use Rattle.token_conf.specs.TokenFile.{Callers};
-ghost use Rattle.wire_http.specs.Asked.{IsCallOf};
+ghost use Rattle.wire_operation.specs.Asked.{IsCallOf};
 ghost use Rattle.wire_http.specs.Laws.{OneStream};
 ghost use Rattle.service_step.specs.declared.reply.Answer.{Answer};
 ghost use Rattle.service_step.specs.declared.reply.Reply.TheVariants.{Done, Denied, Fault, Stopped};

@@ -23,7 +23,7 @@ use Rattle.wire_route.specs.Endpoint.{front_of, kind_at}
 use Rattle.wire_route.specs.Route.{is_part, may_be_id, one_parameter, two_parameters, AreTwoWords, AreWordsOf, IsRoute, HasNoRoute}
 use Rattle.wire_route.specs.Table.{named_endpoint}
 use Rattle.wire_route.proofs.Paths.{lacks, around_slash, one_route, not_halved, not_named, not_part, nowhere, wrong_front, wrong_words, both}
-use Rattle.wire_http.specs.Asked.{IsAsked, IsAskedAs, IsReadAs}
+use Rattle.wire_operation.specs.Asked.{IsAsked, IsAskedAs, IsReadAs}
 use Rattle.wire_operation.specs.Operation.{GivesOperation}
 
 -- ---- the parameters of a path
@@ -171,15 +171,15 @@ same_asked_as : (kind : Option OpKind) (words : Words) (bytes : List ℕ) (p q :
 same_asked_as None words bytes p q x y = y ∙ sym x
 same_asked_as (Some kind) words bytes p q x y = same_read kind words bytes p q x y
 
-pub same_asked : (path method body : List ℕ) (a b : Option Endpoint) (p q : Operation) → IsAsked path method body a p → IsAsked path method body b q → q ≡ p
-same_asked path method body None None p q (none, e) (also, f) = f ∙ sym e
+pub same_asked : (path method body : List ℕ) (a b : Option Endpoint) (p q : Operation) → IsAsked path method body a p → IsAsked path method body b q → (b ≡ a) × (q ≡ p)
+same_asked path method body None None p q (none, e) (also, f) = (refl, f ∙ sym e)
 same_asked path method body None (Some b) p q (none, e) (w, y, asks) = absurd (none b w y)
 same_asked path method body (Some a) None p q (v, x, asks) (none, f) = absurd (none a v x)
 same_asked path method body (Some a) (Some b) p q (v, x, asks) (w, y, also) =
     let route : (b ≡ a) × (w ≡ v) = one_route path a b v w x y in
     let at_place : IsAskedAs (kind_at a method) w body q = subst (λ (c : Endpoint). IsAskedAs (kind_at c method) w body q) route.0 also in
     let at_words : IsAskedAs (kind_at a method) v body q = subst (λ (z : Words). IsAskedAs (kind_at a method) z body q) route.1 at_place in
-    same_asked_as (kind_at a method) v body p q asks at_words
+    (ap (λ c. Some c) route.0, same_asked_as (kind_at a method) v body p q asks at_words)
 
 -- ---- what the code finds
 

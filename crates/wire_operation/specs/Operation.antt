@@ -2,7 +2,7 @@
 use Rattle.std.specs.Prelude.{◌≡◌, ℕ, List, Option}
 use Rattle.policy_core.specs.declared.call.Operation.{Operation}
 use Rattle.wire_route.specs.declared.endpoint.Endpoint.{Endpoint}
-use Rattle.wire_http.specs.Asked.{IsAsked}
+use Rattle.wire_operation.specs.Asked.{IsAsked}
 
 -- Holds if path, method and body give this operation, at an endpoint or without a route.
 abbrev pub GivesOperation : List ℕ → List ℕ → List ℕ → Operation → Type 0

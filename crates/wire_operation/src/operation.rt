@@ -1,7 +1,7 @@
 //! The operation that a path, a method and a body give.
 ghost use Rattle.std.specs.Prelude.{IfOk};
 ghost use Rattle.wire_body.specs.Body.{words_of};
-ghost use Rattle.wire_http.specs.Asked.{IsReadAs};
+ghost use Rattle.wire_operation.specs.Asked.{IsReadAs};
 ghost use Rattle.wire_operation.specs.Operation.{GivesOperation};
 
 use policy_core::call::{OpKind, Operation};
@@ -10,8 +10,10 @@ use wire_body::body::{PathWords, read_body};
 use wire_body::body_fault::BodyFault;
 use wire_route::routes::Routes;
 
-// Returns the operation of the kind, or `Malformed` if path parameters and body give none.
-fn read_as(
+/// Returns the operation of the kind, or `Malformed` if path parameters and body give none.
+///
+/// Returns `AllocError` if memory runs out.
+pub fn read_as(
     alloc: Global,
     kind: OpKind,
     words: &PathWords<'_>,
@@ -26,7 +28,7 @@ fn read_as(
     }
 }
 
-/// Returns the operation that a path, a method and a body give, whoever the caller is.
+/// Returns the operation that a path, a method and a body give, for any caller.
 ///
 /// Returns `AllocError` if memory runs out.
 pub fn read_operation(

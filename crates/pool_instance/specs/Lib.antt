@@ -1,0 +1,5 @@
+pub mod Request
+pub mod Parts
+pub mod Lists
+pub mod State
+pub mod Does
