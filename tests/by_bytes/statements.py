@@ -2,18 +2,21 @@
 
 They select by position, by entity or by subscription, never all rows: the cost of a call depends on what it finds,
 not on what is stored. Only space_sql_load reads whole tables, in the module that opening a database and listing all
-entities of a kind need, and so does the upgrade of tables in the old order. Code that finds, reads single rows and
-changes them is in the other crates over tables, which must not call it."""
+entities of a kind need. So does the upgrade of tables in the old order, and space_sql_check reads them in pieces. Code
+that finds, reads single rows and changes them is in the other crates over tables, which must not call these."""
 import re
 
 from program import TOP
 
-WHOLE_TABLES = "crates/space_sql_load/src/tables.rt", "crates/space_sql_open/src/old_rows.rt"
+WHOLE_TABLES = (
+    "crates/space_sql_load/src/tables.rt", "crates/space_sql_open/src/old_rows.rt",
+    "crates/space_sql_check/src/source.rt", "crates/space_sql_check/src/ends.rt",
+)
 SOURCES = sorted(it for it in TOP.glob("crates/space_*/src/*.rt") if not str(it).endswith(WHOLE_TABLES))
 # The crates that select rows, and whose calls never need all.
 NARROW = ("space_sql_search", "space_sql_lookup", "space_sql_write")
 # Functions that read whole tables.
-READS_ALL = re.compile(r"\bread_(?:airspace(?:_in)?|tables)\b")
+READS_ALL = re.compile(r"\b(?:read_(?:airspace(?:_in)?|tables)|check_(?:airspace|in_pieces))\b")
 LITERAL = re.compile(r'"((?:[^"\\]|\\.)*)"', re.DOTALL)
 CELLS = r"(?:subscription_)?cell\b"
 ON_CELLS = re.compile(rf"\b(?:(?:from|join)\s+(?:\w+\s*,\s*)*|update\s+){CELLS}", re.IGNORECASE)

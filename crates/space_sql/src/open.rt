@@ -111,7 +111,7 @@ fn adopt_format_2<S: Alter>(alloc: Global, mut conn: Connection<S>) -> AdoptResu
         Survives (state S.Store conn) (state S.Store e.1) (λ _. ⊥)) }
 {
     match check_format_2(alloc, &mut conn) {
-        Ok(listed) => Ok((space_over(alloc, conn, false), Some(listed))),
+        Ok(loaded) => Ok((space_over(alloc, conn, false), loaded)),
         Err(fault) => Err((fault, conn)),
     }
 }
@@ -168,8 +168,9 @@ impl<S: Alter> SqlSpace<S> {
     /// in one transaction, with the same airspace. Tables of format 2 that lack the index on
     /// `naming` get it in the same way, and tables in the old order are created anew. If the tables
     /// were complete, of format 2 and in the new order, the loaded airspace is returned with the
-    /// space. The contract says that it is all that the space holds only if the tables are exactly
-    /// as `make_tables` creates them.
+    /// space, unless memory ran out for it: then the tables were checked in pieces. The contract says
+    /// that it is all that the space holds only if the tables are exactly as `make_tables` creates
+    /// them.
     ///
     /// Returns `Version` if `meta` has one row, of a format that is neither 1 nor 2. Otherwise
     /// returns `NotADss` if only some of the tables exist or their rows represent no airspace.
@@ -356,7 +357,7 @@ impl<S: Start> SqlSpace<FileStore<FileFrom<S>>> {
     ///
     /// `S` stands for the content of the file and its log. No clause ties it to the name. The name
     /// `:memory:` is rejected. All that the space holds is returned with it, unless the tables were
-    /// created or upgraded, or are not as created.
+    /// created or upgraded, or are not as created, or memory ran out for it.
     pub fn open(rt: &HostRuntime, path: &str, start: S) -> OpenResult<S>
         ensures fresh { IfOk result (λ t.
             IsFresh over_files ⟦<SqlSpace<FileStore<FileFrom<S>>> as Space>⟧ t.0) }

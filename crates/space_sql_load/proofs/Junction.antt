@@ -33,7 +33,7 @@ use Rattle.space_sql_load.proofs.Groups.{groups_from, gathers_from, parts_in, na
 
 -- ---- availabilities
 
-settled_from : (rows : List Row) (m all : Availabilities) → ReadsAvailabilities rows m all → (ss : List (List ℕ × VersionedAvailability)) × (rows ≡ map availability_values ss) × AllByRecursion IsStated ss × IsPermutation (ss ++ entries m) (entries all)
+pub settled_from : (rows : List Row) (m all : Availabilities) → ReadsAvailabilities rows m all → (ss : List (List ℕ × VersionedAvailability)) × (rows ≡ map availability_values ss) × AllByRecursion IsStated ss × IsPermutation (ss ++ entries m) (entries all)
 settled_from [] m all h = ([], refl, tt, IsPermutation-same _ _ (ap entries h))
 settled_from (r ∷ rows) m all h =
     let more = settled_from rows (insert m h.0.0 h.0.1) all h.2 in (
@@ -43,7 +43,7 @@ settled_from (r ∷ rows) m all h =
       IsPermutation-trans _ _ _ (IsPermutation-sym _ _ (moves_in text_cmp nat_list_cmp_total m h.0 more.0 h.1.new)) more.3,
     )
 
-settles_from : (ss : List (List ℕ × VersionedAvailability)) (m all : Availabilities) → AllByRecursion IsStated ss → IsPermutation (ss ++ entries m) (entries all) → ReadsAvailabilities (map availability_values ss) m all
+pub settles_from : (ss : List (List ℕ × VersionedAvailability)) (m all : Availabilities) → AllByRecursion IsStated ss → IsPermutation (ss ++ entries m) (entries all) → ReadsAvailabilities (map availability_values ss) m all
 settles_from [] m all each same = one_map text_cmp nat_list_cmp_total m all same
 settles_from (s ∷ ss) m all each same =
     let new = new_key text_cmp nat_list_cmp_total m all s ss same in (
@@ -66,7 +66,7 @@ swapped_back f g back xs ys same =
     whole [] all = refl
     whole (y ∷ ys) all = ap₂ ◌∷◌ all.0 (whole ys all.1)
 
-all_stated : (ss es : List (List ℕ × VersionedAvailability)) → IsPermutation ss es → AllByRecursion IsStated ss → AllByRecursion IsStated es
+pub all_stated : (ss es : List (List ℕ × VersionedAvailability)) → IsPermutation ss es → AllByRecursion IsStated ss → AllByRecursion IsStated es
 all_stated ss es same all = recursion_from_All IsStated es (All-permutation IsStated ss es same (All-from_recursion IsStated ss all))
 
 -- ---- rowids

@@ -57,7 +57,7 @@ fn check_our_tables(alloc: Global, tables: &Tables, serial: u64) -> Result<Table
 }
 
 /// Checks the rows of all tables.
-pub(crate) fn check_tables(alloc: Global, tables: &Tables) -> Result<TableCheck, Error>
+pub fn check_tables(alloc: Global, tables: &Tables) -> Result<TableCheck, Error>
     ensures { IfOk result (Judges tables.now) }
 {
     match meta_of(tables.metas.as_slice()) {

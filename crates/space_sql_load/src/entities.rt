@@ -158,7 +158,7 @@ fn gather_entities(
 
 /// Returns the entities that the rows of the four tables represent, if they do, with serials up to
 /// the given one.
-pub(crate) fn entities_in(
+pub fn entities_in(
     alloc: Global,
     serial: u64,
     numbers: &[Numbered],

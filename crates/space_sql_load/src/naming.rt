@@ -13,7 +13,7 @@ use space_sql_select::sub_rows::NamingRow;
 
 /// The number and the id of a subscription.
 #[derive(Clone, Copy, Debug)]
-pub(crate) struct Numbered {
+pub struct Numbered {
     pub num: i64,
     pub id: EntityId,
 }

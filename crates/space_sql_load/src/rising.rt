@@ -39,7 +39,7 @@ fn is_rising(ids: &[i64]) -> bool
 }
 
 /// Returns true if the rows are numbers, each less than the next one.
-pub(crate) fn are_rising(alloc: Global, rows: &[Row]) -> Result<bool, Error>
+pub fn are_rising(alloc: Global, rows: &[Row]) -> Result<bool, Error>
     ensures { IfOk result (λ b. IsTrue b ↔ AreRising rows.now) }
 {
     match number_rows(alloc, rows)? {

@@ -42,7 +42,7 @@ fn new_setting(
 }
 
 /// Returns the availabilities that USSs set, if each row gives one.
-pub(crate) fn settings_in(alloc: Global, rows: &[Row]) -> Result<Option<Availabilities>, AllocError>
+pub fn settings_in(alloc: Global, rows: &[Row]) -> Result<Option<Availabilities>, AllocError>
     ensures { let r = rows.now in
         IfOk result (λ o. MatchOption o ((m : Map) → ¬ ReadsAvailabilities r empty m)
         (λ es. ReadsAvailabilities r empty (availability_map es))) }

@@ -23,7 +23,7 @@ use std::alloc::{AllocError, Global};
 
 /// Subscriptions, and the number of each in ascending order.
 #[derive(Drop)]
-pub(crate) struct KnownSubs {
+pub struct KnownSubs {
     pub subscriptions: Subscriptions,
     pub numbers: Vec<Numbered>,
 }
@@ -126,7 +126,7 @@ fn gather_subs(
 
 /// Returns the subscriptions that the rows of the two tables represent, if they do, with serials
 /// and indexes up to the given serial.
-pub(crate) fn subs_in(
+pub fn subs_in(
     alloc: Global,
     serial: u64,
     tables: &SubTables,

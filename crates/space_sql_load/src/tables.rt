@@ -10,7 +10,7 @@ use sqlite::{Alter, Connection, Error, Row, Transaction};
 
 /// The rows of the tables that store subscriptions, in ascending order of keys.
 #[derive(Drop)]
-pub(crate) struct SubTables {
+pub struct SubTables {
     pub subscriptions: Vec<Row>,
     /// The rows of `subscription_cell`.
     pub cells: Vec<Row>,
@@ -18,7 +18,7 @@ pub(crate) struct SubTables {
 
 /// The rows of the tables that store entities, in ascending order of keys.
 #[derive(Drop)]
-pub(crate) struct EntityTables {
+pub struct EntityTables {
     pub entities: Vec<Row>,
     pub volumes: Vec<Row>,
     pub cells: Vec<Row>,
@@ -27,7 +27,7 @@ pub(crate) struct EntityTables {
 
 /// The rowids of the tables whose key is not a number, in ascending order.
 #[derive(Drop)]
-pub(crate) struct Rowids {
+pub struct Rowids {
     pub volumes: Vec<Row>,
     pub cells: Vec<Row>,
     pub settings: Vec<Row>,
@@ -36,7 +36,7 @@ pub(crate) struct Rowids {
 
 /// The rows of all tables.
 #[derive(Drop)]
-pub(crate) struct Tables {
+pub struct Tables {
     pub metas: Vec<Row>,
     pub subscriptions: SubTables,
     pub entities: EntityTables,
@@ -214,7 +214,7 @@ pub(crate) fn read_all<S: Alter>(tx: &mut Transaction<'_, S>) -> Result<Tables, 
 }
 
 /// Reads all tables, and leaves them unchanged.
-pub(crate) fn read_tables<S: Alter>(conn: &mut Connection<S>) -> Result<Tables, Error>
+pub fn read_tables<S: Alter>(conn: &mut Connection<S>) -> Result<Tables, Error>
     requires { conn.old.in_transaction ≡ false }
     ensures ended { conn.new.in_transaction ≡ false }
     ensures reads { ReadsAlone ShowsTables

@@ -1,5 +1,5 @@
 -- Definitions of the results and effects of opening a database.
-use Rattle.std.specs.Prelude.{◌≡◌, Result, Ok, Err}
+use Rattle.std.specs.Prelude.{◌≡◌, Option, Some, None, Result, Ok, Err}
 use Rattle.sqlite_trees.specs.Tree.{Trees}
 use Rattle.sqlite.specs.Effect.{Database, IsDatabase}
 use Rattle.sqlite.specs.State.{State}
@@ -30,6 +30,12 @@ Refuses format db Store = Unit {0}
 abbrev pub ChecksTables : Database → Result LoadedAirspace OpenFault → Type 0
 ChecksTables db (Ok listed) = Spells db (loaded_airspace listed)
 ChecksTables db (Err fault) = Refuses Two db fault
+
+-- The same if the airspace may not have been loaded. Without it, the tables represent one.
+abbrev pub ChecksWhole : Database → Result (Option LoadedAirspace) OpenFault → Type 0
+ChecksWhole db (Ok (Some loaded)) = Spells db (loaded_airspace loaded)
+ChecksWhole db (Ok None) = (a : Airspace) × Spells db a
+ChecksWhole db (Err fault) = Refuses Two db fault
 
 -- The format of tables that are upgraded.
 abbrev pub format_before : OldFormat → Format

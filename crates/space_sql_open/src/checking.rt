@@ -6,11 +6,12 @@ ghost use Rattle.sqlite.specs.State.{HasCleanDisk, Survives};
 ghost use Rattle.space_sql_schema.specs.Tables.{dss_schema};
 ghost use Rattle.space_sql_select.specs.Reading.{IsAsFound};
 ghost use Rattle.space_sql_load.specs.Checking.{JudgesDatabase};
-ghost use Rattle.space_sql_open.specs.Opening.{ChecksTables};
+ghost use Rattle.space_sql_check.specs.Checking.{JudgesAirspace};
+ghost use Rattle.space_sql_open.specs.Opening.{ChecksTables, ChecksWhole};
 ghost use Rattle.space_sql_open.specs.declared.open_fault.OpenFault.TheVariants.{Store};
 
 use crate::open_fault::OpenFault;
-use space_sql_load::reading::read_airspace;
+use space_sql_check::airspace::{AirspaceCheck, check_airspace};
 use space_sql_load::table_check::{LoadedAirspace, TableCheck};
 use space_sql_schema::presence::has_meta;
 use space_sql_select::meta::has_other_format;
@@ -41,16 +42,42 @@ pub(crate) fn airspace_or_fault(
     }
 }
 
-/// Returns the airspace of tables of format 2, if they represent one. It writes nothing.
+// Returns the airspace if it was loaded, `None` if it was checked in pieces, or the fault.
+fn loaded_or_fault(check: AirspaceCheck) -> Result<Option<LoadedAirspace>, OpenFault>
+    ensures { (db : Database) → JudgesAirspace db check → ChecksWhole db result }
+{
+    match check {
+        AirspaceCheck::Loaded(loaded) => Ok(Some(loaded)),
+        AirspaceCheck::Valid => Ok(None),
+        AirspaceCheck::OtherFormat => Err(OpenFault::Version),
+        AirspaceCheck::Invalid => Err(OpenFault::NotADss),
+    }
+}
+
+// Returns the loaded airspace if the tables were read and represent one, or the fault.
+fn checked_or_fault(
+    check: Result<AirspaceCheck, Error>,
+) -> Result<Option<LoadedAirspace>, OpenFault>
+    ensures examines { (db : Database) → IfOk check (JudgesAirspace db) → ChecksWhole db result }
+    ensures failed { IfErr check (λ _. result ≡ Err Store) }
+{
+    match check {
+        Ok(check) => loaded_or_fault(check),
+        Err(_) => Err(OpenFault::Store),
+    }
+}
+
+/// Returns the airspace of tables of format 2, if they represent one, or `None` if memory ran out
+/// for it: then they were checked in pieces. It writes nothing.
 pub fn check_format_2<S: Alter>(
     alloc: Global,
     conn: &mut Connection<S>,
-) -> Result<LoadedAirspace, OpenFault>
+) -> Result<Option<LoadedAirspace>, OpenFault>
     requires { conn.old.in_transaction ≡ false }
     ensures outside { conn.new.in_transaction ≡ false }
     ensures examines { HasCleanDisk (state S.Store conn.new)
         → (state S.Store conn.old).now.schema ≡ dss_schema
-        → ChecksTables (state S.Store conn.old).now result }
+        → ChecksWhole (state S.Store conn.old).now result }
     ensures open { HasCleanDisk (state S.Store conn.new)
         → OnOk result (IsTrue (state S.Store conn.new).is_open) }
     ensures at_rest { HasCleanDisk (state S.Store conn.new)
@@ -58,8 +85,8 @@ pub fn check_format_2<S: Alter>(
         → IsAsFound (state S.Store conn.old) (state S.Store conn.new) }
     ensures survives { Survives (state S.Store conn.old) (state S.Store conn.new) (λ _. ⊥) }
 {
-    let read = read_airspace(alloc, conn);
-    airspace_or_fault(read)
+    let check = check_airspace(alloc, conn);
+    checked_or_fault(check)
 }
 
 // Returns the fault for an error of reading `meta` in tables that can be foreign. A text that

@@ -1,0 +1,12 @@
+pub mod Numbers
+pub mod Filters
+pub mod Shown
+pub mod Keys
+pub mod Parting
+pub mod SubParts
+pub mod EntityParts
+pub mod Rowids
+pub mod StoredSettings
+pub mod Whole
+pub mod Sequences
+pub mod Loops

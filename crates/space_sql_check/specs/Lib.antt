@@ -1,0 +1,3 @@
+pub mod Source
+pub mod Parts
+pub mod Checking
