@@ -16,7 +16,7 @@ pub data Basis : Type 0 where
 -- An event at one instance. A request, which has an id, was received whole and makes this call. A
 -- batch of the calls of these requests was offered to the log, in these bytes. The log gave its
 -- next entry, was asked for its end, or answered. A request got this reply, or failed: then its
--- client is told nothing about its effect.
+-- client learns nothing about its effect.
 pub data InstanceEvent : Type 0 where
   Receives : (id : ℕ) → (call : Call) → InstanceEvent
   Offers : (ids : List ℕ) → (bytes : List ℕ) → InstanceEvent

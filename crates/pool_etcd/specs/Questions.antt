@@ -5,6 +5,6 @@ use Rattle.pool_etcd.specs.declared.questions.Questions.{Questions}
 -- Holds if no question has an answer before the revision of the end was known for it, was sent to
 -- etcd, and was asked.
 pub record IsOrdered (q : Questions) : Type 0 where
-  pub told : q.told ≤ q.known
+  pub answered : q.answered ≤ q.known
   pub known : q.known ≤ q.sent
   pub sent : q.sent ≤ q.asked

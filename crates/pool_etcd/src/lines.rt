@@ -59,7 +59,8 @@ impl Lines {
     pub fn next_line(&mut self, alloc: Global) -> Result<Option<Vec<u8>>, AllocError>
         ensures none { IfOk result (λ line. IfNone line
             (IsOneLine self.old × (self.new ≡ self.old))) }
-        ensures some { IfOk result (λ line. IfSome line (λ l. BeginsWith self.old l.items self.new)) }
+        ensures some { IfOk result
+            (λ line. IfSome line (λ l. BeginsWith self.old l.items self.new)) }
         ensures err { OnErr result (self.new ≡ self.old) }
     {
         let Some(end) = line_end(self.bytes.as_slice()) else {

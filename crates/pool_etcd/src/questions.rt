@@ -16,7 +16,7 @@ pub struct Questions {
     /// The revision of the end that etcd returned last.
     pub revision: u64,
     /// The last question that has its answer.
-    pub told: u64,
+    pub answered: u64,
 }
 
 impl Questions {
@@ -30,14 +30,15 @@ impl Questions {
             sent: 0,
             known: 0,
             revision: 0,
-            told: 0,
+            answered: 0,
         }
     }
 
     /// Asks a question, and returns its number, if there is a number left.
     pub fn ask(&mut self) -> Option<u64>
         ensures next { IfSome result (λ question. question ≡ self.old.asked + 1) }
-        ensures asked { IfSome result (λ question. self.new ≡ record self.old { asked = question }) }
+        ensures asked { IfSome result
+            (λ question. self.new ≡ record self.old { asked = question }) }
         ensures none { IfNone result (self.new ≡ self.old) }
         ensures ordered { IsOrdered self.old → IsOrdered self.new }
     {
@@ -63,7 +64,8 @@ impl Questions {
 
     /// Records the revision of the end that the last request returned.
     pub fn learn(&mut self, revision: u64)
-        ensures learned { self.new ≡ record self.old { known = self.old.sent; revision = revision } }
+        ensures learned { self.new
+            ≡ record self.old { known = self.old.sent; revision = revision } }
         ensures ordered { IsOrdered self.old → IsOrdered self.new }
     {
         self.known = self.sent;
@@ -72,17 +74,18 @@ impl Questions {
 
     /// Returns the next question that can be answered, if the log was received up to a revision.
     pub fn answer(&mut self, reached: u64) -> Option<u64>
-        ensures next { IfSome result (λ question. question ≡ self.old.told + 1) }
+        ensures next { IfSome result (λ question. question ≡ self.old.answered + 1) }
         ensures known { IfSome result (λ question. question ≤ self.old.known) }
         ensures reached { IfSome result (λ _. self.old.revision ≤ reached) }
-        ensures told { IfSome result (λ question. self.new ≡ record self.old { told = question }) }
+        ensures answered { IfSome result
+            (λ question. self.new ≡ record self.old { answered = question }) }
         ensures none { IfNone result (self.new ≡ self.old) }
         ensures ordered { IsOrdered self.old → IsOrdered self.new }
     {
-        if self.told >= self.known || self.revision > reached {
+        if self.answered >= self.known || self.revision > reached {
             return None;
         }
-        self.told += 1;
-        Some(self.told)
+        self.answered += 1;
+        Some(self.answered)
     }
 }
