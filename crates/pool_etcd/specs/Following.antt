@@ -25,7 +25,8 @@ HasEntry (Put stored) entries = ValueGives stored.value entries
 abbrev pub HasEntries : List Change → List LogEntry → Type 0
 HasEntries [] entries = entries ≡ []
 HasEntries (c ∷ changes) entries =
-    (front : List LogEntry) × (rest : List LogEntry) × (entries ≡ front ++ rest) × HasEntry c front × HasEntries changes rest
+    (front : List LogEntry) × (rest : List LogEntry) × (entries ≡ front ++ rest)
+    × HasEntry c front × HasEntries changes rest
 
 -- The revision of the last change, or the one before if there is none.
 abbrev pub last_revision : ℕ → List Change → ℕ

@@ -1,4 +1,4 @@
--- Members of JSON objects, as etcd writes them: it leaves out each member that is 0, false or empty.
+-- Members of JSON objects, as etcd writes them. It leaves out members that are 0, false or empty.
 use Rattle.std.specs.Prelude.{ℕ, List, [], ◌∷◌, Bool, false, Option, Some, None, option_map, option_and_then}
 use Rattle.std.specs.Result.{result_ok}
 use Rattle.serde_json.specs.Data.{Data, Items, no_items, item}

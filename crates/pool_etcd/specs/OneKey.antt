@@ -46,10 +46,12 @@ Among x (y ∷ ys) = (x ≡ y) ⊎ Among x ys
 abbrev pub IsAnswer : KeyState → Put → PutOutcome → Type 0
 IsAnswer k put (Stored revision) =
     (newer : List Write) × (older : List Write)
-    × (k.writes ≡ newer ++ record { revision = revision; value = put.value } ∷ older) × (last_revision older ≡ put.revision)
+    × (k.writes ≡ newer ++ record { revision = revision; value = put.value } ∷ older)
+    × (last_revision older ≡ put.revision)
 IsAnswer k put (Refused found) =
     (sent : SentPut) × (newer : List Write) × (seen : List Write) × (since : List Write)
-    × Among sent k.sent × (sent.put ≡ put) × (k.writes ≡ newer ++ seen) × (seen ≡ since ++ sent.writes)
+    × Among sent k.sent × (sent.put ≡ put)
+    × (k.writes ≡ newer ++ seen) × (seen ≡ since ++ sent.writes)
     × (last_revision seen ≢ put.revision) × (found ≡ stored_in seen)
 
 -- What happens at the key.
@@ -74,12 +76,15 @@ Leads mine k (Takes_value value) n =
     (next : OwnState) × (mine value ≡ true) × Takes k.own.state next
     × (n ≡ record k { own = record k.own { state = next; value = value }; taken = value ∷ k.taken })
 Leads mine k (Sends put) n =
-    (due_of k.own ≡ Some put) × (n ≡ record k { sent = record { put = put; writes = k.writes } ∷ k.sent })
+    (due_of k.own ≡ Some put)
+    × (n ≡ record k { sent = record { put = put; writes = k.writes } ∷ k.sent })
 Leads mine k (Stores sent revision) n =
-    Among sent k.sent × (sent.put.revision ≡ last_revision k.writes) × (last_revision k.writes < revision)
+    Among sent k.sent × (sent.put.revision ≡ last_revision k.writes)
+    × (last_revision k.writes < revision)
     × (n ≡ record k { writes = record { revision = revision; value = sent.put.value } ∷ k.writes })
 Leads mine k (Other write) n =
-    (mine write.value ≡ false) × (last_revision k.writes < write.revision) × (n ≡ record k { writes = write ∷ k.writes })
+    (mine write.value ≡ false) × (last_revision k.writes < write.revision)
+    × (n ≡ record k { writes = write ∷ k.writes })
 Leads mine k (Learns_revision revision) n =
     n ≡ record k { own = record k.own { state = after_revision k.own.state revision } }
 Leads mine k (Learns_outcome put outcome) n =
@@ -100,7 +105,8 @@ abbrev pub AreInOrder : List Write → Type 0
 AreInOrder [] = Unit {0}
 AreInOrder (w ∷ ws) = (last_revision ws < w.revision) × AreInOrder ws
 
--- Holds at the start of a process: it has sent and taken nothing, and nobody has written its values.
+-- Holds at the start of a process: it has sent and taken nothing, and nobody has written its
+-- values.
 pub record IsStart (mine : List ℕ → Bool) (k : KeyState) : Type 0 where
   pub state : k.own.state ≡ Unknown
   pub fence : mine k.own.fence ≡ false
@@ -117,5 +123,6 @@ IsAllOrAllButLast stored taken = (taken ≡ stored) ⊎ ((last : List ℕ) × (t
 -- taken, in order, each once, or all but the last one.
 abbrev pub EachValueOnce : Type 0
 EachValueOnce =
-    (mine : List ℕ → Bool) (start end : KeyState) (events : List KeyEvent) → IsStart mine start → Run mine start events end
+    (mine : List ℕ → Bool) (start end : KeyState) (events : List KeyEvent)
+    → IsStart mine start → Run mine start events end
     → IsAllOrAllButLast (own_values mine end.writes) end.taken

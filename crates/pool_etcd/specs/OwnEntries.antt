@@ -55,7 +55,8 @@ after_revision Lost revision = Lost
 abbrev pub stored_at : List ℕ → PutOutcome → Option ℕ
 stored_at value (Stored revision) = Some revision
 stored_at value (Refused None) = None
-stored_at value (Refused (Some other)) = if bytes_eq other.value value then Some other.revision else None
+stored_at value (Refused (Some other)) =
+    if bytes_eq other.value value then Some other.revision else None
 
 -- Idle where the value was stored, or another state.
 abbrev pub idle_or : OwnState → Option ℕ → OwnState

@@ -31,16 +31,19 @@ abbrev pub put_data : List ℕ → List ℕ → ℕ → Data
 put_data key value revision =
     object (member (codes "compare") (single (is_at key revision))
     (member (codes "failure")
-    (single (member (codes "request_range") (object (member (codes "key") (bytes_data key) no_members)) no_members))
+    (single (member (codes "request_range")
+    (object (member (codes "key") (bytes_data key) no_members)) no_members))
     (member (codes "success")
     (single (member (codes "request_put")
-    (object (member (codes "key") (bytes_data key) (member (codes "value") (bytes_data value) no_members))) no_members))
+    (object (member (codes "key") (bytes_data key)
+    (member (codes "value") (bytes_data value) no_members))) no_members))
     no_members)))
 
 -- The revision of the last change of the key.
 abbrev pub own_data : List ℕ → Data
 own_data key =
-    object (member (codes "key") (bytes_data key) (member (codes "keys_only") (boolean true) no_members))
+    object (member (codes "key") (bytes_data key)
+    (member (codes "keys_only") (boolean true) no_members))
 
 -- The key of the log that was changed last. The reading is linearizable.
 abbrev pub end_data : Data
@@ -66,7 +69,8 @@ watch_data from = object (member (codes "create_request") (object (create_member
 -- A token for a user.
 abbrev pub token_data : List ℕ → List ℕ → Data
 token_data user password =
-    object (member (codes "name") (string user) (member (codes "password") (string password) no_members))
+    object (member (codes "name") (string user)
+    (member (codes "password") (string password) no_members))
 
 -- All before a revision is removed, except the last value of each key.
 abbrev pub compact_data : ℕ → Data

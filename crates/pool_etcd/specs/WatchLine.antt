@@ -41,4 +41,7 @@ result_of d = option_and_then (λ canceled. result_by canceled d) (flag_at (code
 
 -- A line is a result, or an error.
 unfoldable pub line_of : Data → Option WatchLine
-line_of d = if is_some (get (codes "error") d) then Some Failed else option_and_then result_of (get (codes "result") d)
+line_of d =
+    if is_some (get (codes "error") d)
+    then Some Failed
+    else option_and_then result_of (get (codes "result") d)
