@@ -1,5 +1,5 @@
 -- Proofs that relate the content of files to the opened space.
-use Rattle.std.specs.Prelude.{◌≡◌, ◌≢◌, ◌⊎◌, ◌<◌, [], length, Bool, IsTrue, IfErr, IfOk, Result, Ok, Err, refl}
+use Rattle.std.specs.Prelude.{◌≡◌, ◌≢◌, ◌⊎◌, ◌<◌, [], length, Bool, IfErr, IfOk, Result, Ok, Err, refl}
 use Rattle.std.proofs.Common.{false, inl, inr, sym, ap, subst, ◌∙◌, arith}
 use Rattle.sqlite_trees.specs.Tree.{Trees}
 use Rattle.sqlite_trees.specs.declared.store.Store as stores
@@ -18,7 +18,6 @@ use Rattle.space_sql_schema.specs.Spelling.{SpellsAs, Spells}
 use Rattle.space_sql_schema.specs.Tables.{no_schema, schema_of}
 use Rattle.space_sql_schema.specs.declared.format.Format.{Format}
 use Rattle.space_sql_schema.specs.declared.format.Format.TheVariants.{One, TwoUnindexed, Two, OldOne, OldTwoUnindexed, OldTwo}
-use Rattle.space_sql_schema.specs.declared.presence.Presence.{Presence}
 use Rattle.space_sql_schema.specs.declared.presence.Presence.TheVariants.{Missing, Whole}
 use Rattle.space_sql_schema.proofs.OneAirspace.{one_airspace_of}
 use Rattle.space_sql_schema.proofs.Presences.{none_stands}

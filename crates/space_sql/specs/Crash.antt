@@ -33,8 +33,8 @@ LeavesContent g k =
 
 -- Holds if the connection is open, and its committed database may have been left by a crash of the
 -- space.
-pub record SeesLeft {S T : Type 0} (g : Ghosts S) (k : SqlSpaceModel S) (h : Ghosts T) (conn : Held T)
-    : Type 0 where
+pub record SeesLeft {S T : Type 0} (g : Ghosts S) (k : SqlSpaceModel S) (h : Ghosts T)
+    (conn : Held T) : Type 0 where
   pub is_open : IsTrue (state h conn).is_open
   pub left : ∥ may_leave_of g k (state h conn).committed.trees ∥₁
 
@@ -50,8 +50,8 @@ pub record FindsLeft {S T : Type 0} (g : Ghosts S) (k : SqlSpaceModel S) (h : Gh
 
 -- States that `FindsLeft` holds for each result that holds the represented airspace, or is a fault
 -- that is due, as each result of `adopt` does.
-abbrev pub LeftIsFound : {S T : Type 0} → Ghosts S → SqlSpaceModel S → Ghosts T → spaces.Ghosts (SqlSpaceModel T)
-    → Held T → Type 0
+abbrev pub LeftIsFound : {S T : Type 0} → Ghosts S → SqlSpaceModel S → Ghosts T
+    → spaces.Ghosts (SqlSpaceModel T) → Held T → Type 0
 LeftIsFound {S} {T} g k h space conn =
     (result : Result (SqlSpaceModel T × Option LoadedAirspace) (OpenFault × Held T))
     → IfOk result (λ t. HoldsSpelt space (state h conn) t.0)

@@ -35,8 +35,8 @@ HasTables format image db = HoldsDatabase image db × IsDatabase (tables_of form
 abbrev pub FilesSpell : Format → Image → Airspace → Type 0
 FilesSpell format image a = (db : Trees) × HoldsDatabase image db × KeepsAs format db a
 
--- Holds if the files are those of a database that was not made yet, and an opening finds no table in
--- them: the database file has no byte, or is what an opening left of its first page.
+-- Holds if the files are those of a database that was not made yet, and an opening finds no table
+-- in them: the database file has no byte, or is what an opening left of its first page.
 abbrev pub AreBlank : Image → Type 0
 AreBlank image = IsNothing image × ((db : Trees) → AreFoundIn image db → IsEmpty db)
 
@@ -63,8 +63,8 @@ IsOver image s = HasCleanDisk s → IsOpenedOver image s
 -- Holds if a space adopted over files with this content holds exactly the airspace represented
 -- there, or an empty one if there was no table. If it holds an airspace, it is whole. The space
 -- reports whether the tables were of format 1. New tables were not.
-pub record FindsSpelt {S : Type 0} (image : Image) (space : Ghosts (SqlSpaceModel S)) (k : SqlSpaceModel S)
-    : Type 0 where
+pub record FindsSpelt {S : Type 0} (image : Image) (space : Ghosts (SqlSpaceModel S))
+    (k : SqlSpaceModel S) : Type 0 where
   pub spelt : space.is_sound k → (format : Format) (a : Airspace) → FilesSpell format image a
       → IsContent space.holds k a
   pub new : space.is_sound k → AreUnmade image → IsContent space.holds k (empty_at 0)

@@ -7,6 +7,7 @@ use Rattle.space_sql_load.specs.declared.table_check.LoadedAirspace.{LoadedAirsp
 use Rattle.space_sql.specs.Holding.{SqlSpaceModel, holds_of, is_sound_of}
 
 -- Holds if the loaded airspace is all that an unbroken space holds.
-pub record IsAllOf {S : Type 0} (g : Ghosts S) (k : SqlSpaceModel S) (listed : LoadedAirspace) : Type 0 where
+pub record IsAllOf {S : Type 0} (g : Ghosts S) (k : SqlSpaceModel S) (listed : LoadedAirspace)
+    : Type 0 where
   pub works : k.broken ≡ false
   pub content : is_sound_of g k → IsContent (holds_of g) k (loaded_airspace listed)

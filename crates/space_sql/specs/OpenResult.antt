@@ -26,8 +26,8 @@ use Rattle.space_sql.specs.Holding.{SqlSpaceModel}
 
 -- Holds if a newly adopted space is sound while its disk has returned what was written, has failed
 -- no call, and is not broken.
-pub record IsFresh {S : Type 0} (g : stores.Ghosts S) (space : Ghosts (SqlSpaceModel S)) (k : SqlSpaceModel S)
-    : Type 0 where
+pub record IsFresh {S : Type 0} (g : stores.Ghosts S) (space : Ghosts (SqlSpaceModel S))
+    (k : SqlSpaceModel S) : Type 0 where
   pub sound : HasCleanDisk (state g k.conn) → space.is_sound k
   pub unrefused : space.refusals k ≡ 0
   pub works : space.is_broken k ≡ false
@@ -40,7 +40,8 @@ HoldsEmpty space opened s =
 -- ---- tables of one format
 
 -- Holds if the adopted space holds the airspace that the tables represent.
-abbrev pub HoldsSpeltAs : {S : Type 0} → Format → Ghosts (SqlSpaceModel S) → State → SqlSpaceModel S → Type 0
+abbrev pub HoldsSpeltAs : {S : Type 0} → Format → Ghosts (SqlSpaceModel S) → State
+    → SqlSpaceModel S → Type 0
 HoldsSpeltAs format space opened s =
     space.is_sound s → opened.now.schema ≡ schema_of format
     → (a : Airspace) × SpellsAs format opened.now a × IsContent space.holds s a
@@ -119,6 +120,7 @@ OneAirspaceAs = (format : Format) (D E : Database) (a b : Airspace) → D.trees 
 -- States that a space that holds the airspace of tables of a format holds each airspace that they
 -- represent, and no other.
 abbrev pub HoldsEachSpelt : {S : Type 0} → stores.Ghosts S → Ghosts (SqlSpaceModel S) → Type 0
-HoldsEachSpelt {S} g space = (opened : Held S) (k : SqlSpaceModel S) → HoldsSpelt space (state g opened) k
-    → space.is_sound k → (format : Format) (a : Airspace) → SpellsAs format (state g opened).now a
+HoldsEachSpelt {S} g space = (opened : Held S) (k : SqlSpaceModel S)
+    → HoldsSpelt space (state g opened) k → space.is_sound k
+    → (format : Format) (a : Airspace) → SpellsAs format (state g opened).now a
     → IsContent space.holds k a

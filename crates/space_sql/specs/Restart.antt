@@ -69,8 +69,8 @@ module _ {D : Type 0} {g : disk.Ghosts D} where
 
 -- Holds if the next run finds files that represent an airspace in format 2: a space adopted over
 -- them holds exactly that airspace, and the only fault of adopting is `Store`.
-pub record NextFinds {S : Type 0} (g : stores.Ghosts S) (space : Ghosts (SqlSpaceModel S)) (image : Image)
-    (a : Airspace) : Type 0 where
+pub record NextFinds {S : Type 0} (g : stores.Ghosts S) (space : Ghosts (SqlSpaceModel S))
+    (image : Image) (a : Airspace) : Type 0 where
   pub found : (next : SqlSpaceModel S) → FindsSpelt image space next → space.is_sound next
       → ∥ IsContent space.holds next a ∥₁
   pub refused : (back : Held S) (fault : OpenFault) → RefusesFound image (state g back) fault

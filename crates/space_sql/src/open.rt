@@ -168,9 +168,9 @@ impl<S: Alter> SqlSpace<S> {
     /// in one transaction, with the same airspace. Tables of format 2 that lack the index on
     /// `naming` get it in the same way, and tables in the old order are created anew. If the tables
     /// were complete, of format 2 and in the new order, the loaded airspace is returned with the
-    /// space, unless memory ran out for it: then the tables were checked in pieces. The contract says
-    /// that it is all that the space holds only if the tables are exactly as `make_tables` creates
-    /// them.
+    /// space. If memory runs out for that airspace, `None` is returned in its place, and the tables
+    /// are checked in ranges of numbers. The contract says that the airspace is all that the space
+    /// holds only if the tables are exactly as `make_tables` creates them.
     ///
     /// Returns `Version` if `meta` has one row, of a format that is neither 1 nor 2. Otherwise
     /// returns `NotADss` if only some of the tables exist or their rows represent no airspace.
@@ -380,8 +380,8 @@ impl<S: Start> SqlSpace<FileStore<FileFrom<S>>> {
 
     /// Closes the files and returns them.
     ///
-    /// Returns `Broken` if that fails, with the store that is left of the files. A crash then leaves
-    /// of them only what the space held.
+    /// Returns `Broken` if that fails, with the store that is left of the files. A crash then
+    /// leaves of them only what the space held.
     pub fn close_files(self) -> Result<Files<FileFrom<S>>, (SpaceFault, FileStore<FileFrom<S>>)>
         ensures broken { IfErr result (λ e. e.0 ≡ SpaceFault.Broken) }
         ensures closed { IfOk result (λ files. ClosesFiles self files) }

@@ -1,13 +1,12 @@
 -- Lemmas about the elements of a list that pass a test.
-use Rattle.std.proofs.Common.{◌≡◌, ◌≢◌, ◌⊎◌, inl, inr, List, [], ◌∷◌, ◌++◌, map, filter, flat_map, Bool, true, false, not, ◌||◌, cond, refl, sym, ap, ap₂, subst, subst₂, ◌∙◌, append-nil}
+use Rattle.std.proofs.Common.{◌≡◌, List, [], ◌∷◌, ◌++◌, map, filter, flat_map, Bool, true, false, not, ◌||◌, cond, refl, sym, ap, ap₂, subst, ◌∙◌}
 use Rattle.std.specs.Prelude.{IsPermutation}
 use Rattle.std.specs.List.{AllByRecursion}
-use Rattle.std.proofs.lemmas.List.Sorted.{IsPermutation-append, IsPermutation-cons, IsPermutation-middle, IsPermutation-refl, IsPermutation-trans, IsPermutation-sym, All-permutation}
+use Rattle.std.proofs.lemmas.List.Sorted.{IsPermutation-cons, IsPermutation-middle, IsPermutation-refl, IsPermutation-trans, All-permutation}
 use Rattle.std.proofs.lemmas.List.Elements.{All-from_recursion, recursion_from_All}
-use Rattle.sqlite_keyed.proofs.ListLemmas.{IsPermutation-filter, IsPermutation-same, filter-map}
 
 module _ {X : Type 0} (p q r : X → Bool) (joins : (x : X) → r x ≡ (p x || q x)) (apart : (x : X) → p x ≡ true → q x ≡ false) where
-  -- Two tests that no element passes both part the elements that pass one.
+  -- Two tests split the elements that pass one of them, if no element passes both.
   pub filters_join : (xs : List X) → IsPermutation (filter p xs ++ filter q xs) (filter r xs)
   filters_join [] = IsPermutation-refl []
   filters_join (x ∷ xs) = go (p x) (q x) refl refl (filters_join xs)
@@ -37,7 +36,7 @@ pub map_joined : {X Y : Type 0} (f : X → Y) (xs ys : List X) → map f (xs ++ 
 map_joined f [] ys = refl
 map_joined f (x ∷ xs) ys = ap (λ l. f x ∷ l) (map_joined f xs ys)
 
--- The parts of the elements that pass are what passes of all parts.
+-- The lists of the elements that pass are the sublist of all lists that passes.
 module _ {A B : Type 0} (p : A → Bool) (q : B → Bool) (f : A → List B) where
   pub parts_pass : (xs : List A) → AllByRecursion (λ a. AllByRecursion (λ b. q b ≡ p a) (f a)) xs → flat_map f (filter p xs) ≡ filter q (flat_map f xs)
   parts_pass [] all = refl
@@ -58,7 +57,7 @@ module _ {A B : Type 0} (p : A → Bool) (q : B → Bool) (f : A → List B) whe
       go true e own more = ap₂ ◌++◌ (sym (each true (f x) (subst (λ b. AllByRecursion (λ y. q y ≡ b) (f x)) e own))) more
       go false e own more = more ∙ ap (λ l. l ++ filter q (flat_map f xs)) (sym (each false (f x) (subst (λ b. AllByRecursion (λ y. q y ≡ b) (f x)) e own)))
 
--- If nothing passes but what passes another test, that is all that there is.
+-- If each element that passes one test passes another one, there are no further elements.
 pub nothing_else : {X : Type 0} (p : X → Bool) (xs : List X) → filter (λ x. not (p x)) xs ≡ [] → filter p xs ≡ xs
 nothing_else p [] none = refl
 nothing_else p (x ∷ xs) none = go (p x) refl none (λ h. nothing_else p xs h)

@@ -1,14 +1,14 @@
--- Proofs that the unique indexes of a database part the items that its rows represent, so that there
--- is a map of them.
-use Rattle.std.proofs.Common.{◌≡◌, ◌≢◌, ℕ, ℤ, List, [], ◌∷◌, ◌&&◌, map, filter, Bool, true, false, not, Option, Some, None, refl, sym, ap, ap₂, subst, ◌∙◌, Ordering, Less, Equal, Greater, is_eq, int_cmp, int_eq}
+-- Proofs that the items that the rows of a database represent have different keys, by its unique
+-- indexes, so that there is a map of them.
+use Rattle.std.proofs.Common.{◌≡◌, ◌≢◌, ℕ, ℤ, List, [], ◌∷◌, ◌&&◌, map, filter, Bool, true, false, not, Option, Some, None, refl, sym, ap, ap₂, subst, ◌∙◌, Ordering, Less, Equal, Greater, is_eq, int_cmp}
 use Rattle.std.specs.Prelude.{IsPermutation}
-use Rattle.std.specs.List.{AllByRecursion, list_any}
+use Rattle.std.specs.List.{AllByRecursion}
 use Rattle.std.specs.Ordering.{nat_cmp}
 use Rattle.std.specs.Cmp.{IsTotalOrder}
 use Rattle.std.specs.FinMap.{FinMap, IsAntisymmetric, get, insert, entries, empty, nat_cmp-IsAntisymmetric}
 use Rattle.std.specs.Cmp.Lexicographic.{slice_cmp}
 use Rattle.std.proofs.lemmas.Cmp.{nat_cmp_total, nat_list_cmp_total, int_cmp_total, tied_itself}
-use Rattle.std.proofs.lemmas.List.Sorted.{IsPermutation-trans, IsPermutation-cons, IsPermutation-sym, IsPermutation-refl}
+use Rattle.std.proofs.lemmas.List.Sorted.{IsPermutation-trans, IsPermutation-cons, IsPermutation-sym}
 use Rattle.sqlite_keyed.proofs.ListLemmas.{IsPermutation-filter, IsPermutation-same, filter_none, all-filter, all_map, all_unmap, none_from_any}
 use Rattle.sqlite_value.specs.declared.keys.Collation.TheVariants.{Binary}
 use Rattle.sqlite_value.specs.declared.value.Value.TheVariants.{Int, Text}
@@ -22,8 +22,6 @@ use Rattle.sqlite_schema.specs.Rules.{equal, differ, passes, clashes}
 use Rattle.sqlite_catalog.specs.Listing.{IsSound}
 use Rattle.sqlite.specs.Effect.{Database, IsDatabase}
 use Rattle.entity_core.specs.Airspace.{Entities as Map, EntityKey, Subscriptions as SubMap, key_cmp, key_of}
-use Rattle.entity_core.specs.declared.entity.Entity.{Entity}
-use Rattle.entity_core.specs.declared.subscription.Sub.{Sub}
 use Rattle.entity_core.specs.EntityId.{printed}
 use Rattle.entity_core.proofs.Keys.{key_total, key_exact}
 use Rattle.space_rows.specs.Rows.{kind_number}
@@ -35,7 +33,6 @@ use Rattle.space_sql_select.proofs.MapEntries.{hits, inserted}
 use Rattle.space_sql_lookup.proofs.Found.{entry_of, found_in}
 use Rattle.space_sql_lookup.proofs.Picked.{nothing_left}
 use Rattle.space_sql_lookup.proofs.OwnRows.{equal_numbers, other_numbers}
-use Rattle.space_sql_load.proofs.Fronts.{less}
 use Rattle.space_sql_check.specs.declared.source.Source.TheVariants.{Entities, Subscriptions}
 use Rattle.space_sql_check.specs.Parts.{AreSubs, AreEntities, rows_where}
 use Rattle.space_sql_check.proofs.Filters.{all_moved}
@@ -144,7 +141,7 @@ module _ (db : Database) (has : db.schema ≡ dss_schema) (sound : IsDatabase db
         let kind : h.row.kind ≡ g.row.kind = q.spelt.entity.kind ∙ (ap (λ (k : EntityKey). kind_number k.0) (sym e) ∙ sym p.spelt.entity.kind) in
         let id : h.row.id ≡ g.row.id = q.spelt.entity.id ∙ (ap (λ (k : EntityKey). printed k.1) (sym e) ∙ sym p.spelt.entity.id) in
         let all : same_key (entity_values g.row) (entity_values h.row) ≡ true =
-            ap₂ ◌&&◌ (ap₂ ◌&&◌ (same_number h.row.kind g.row.kind kind) (ap (λ b. b && true) (same_text h.row.id g.row.id id))) (other_number h.row.num g.row.num (not_less g.row.num h.row.num up)) in
+        ap₂ ◌&&◌ (ap₂ ◌&&◌ (same_number h.row.kind g.row.kind kind) (ap (λ b. b && true) (same_text h.row.id g.row.id id))) (other_number h.row.num g.row.num (not_less g.row.num h.row.num up)) in
         let bad = sym parted ∙ all in cc
 
     one_apart : (g : Group) (hs : List Group) → IsGroup serial subs g → AllByRecursion (IsGroup serial subs) hs → AllByRecursion (IsBefore g) hs → AllByRecursion (Parted g) hs → AllByRecursion (λ (h : Group). key_of g.entity ≢ key_of h.entity) hs

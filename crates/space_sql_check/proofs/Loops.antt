@@ -1,5 +1,5 @@
 -- Proofs about the pieces that are checked one after the other.
-use Rattle.std.proofs.Common.{◌≡◌, ◌≤ℤ◌, ℕ, ℤ, List, [], ◌∷◌, ◌++◌, map, filter, Bool, true, false, IsTrue, ◌↔◌, ◌&&◌, refl, sym, ap₂, subst, ◌∙◌, Ordering, Less, int_cmp, is_lt}
+use Rattle.std.proofs.Common.{◌≡◌, ◌≤ℤ◌, ℕ, ℤ, List, [], ◌∷◌, ◌++◌, map, Bool, true, false, IsTrue, ◌↔◌, ◌&&◌, refl, sym, ap₂, subst, ◌∙◌, Ordering, Less, int_cmp, is_lt}
 use Rattle.std.specs.Prelude.{IsPermutation, T}
 use Rattle.std.specs.FinMap.Entries.{below_all}
 use Rattle.std.specs.List.{AllByRecursion}
@@ -14,7 +14,7 @@ use Rattle.space_sql_load.specs.Gathering.{AreRising, number_pair, numbered}
 use Rattle.space_sql_check.specs.declared.source.Source.{Source}
 use Rattle.space_sql_check.specs.declared.source.Source.TheVariants.{Entities, Volumes, Cells, Namings, Subscriptions, SubCells}
 use Rattle.space_sql_check.specs.Source.{tree_of, columns_of}
-use Rattle.space_sql_check.specs.Parts.{AreIdsApart, AreSubs, HasSubs, HasEntities, HasNoneOutside, HasNoOtherEntities, HasNoOtherSubs, IsOfIds, ShowsWithin, any_value, is_within, least, greatest, nums_of, numbers_of, rows_where}
+use Rattle.space_sql_check.specs.Parts.{AreIdsApart, HasSubs, HasEntities, HasNoneOutside, HasNoOtherEntities, HasNoOtherSubs, IsOfIds, ShowsWithin, any_value, is_within, least, greatest, nums_of, rows_where}
 use Rattle.space_sql_check.proofs.Numbers.{within_none}
 use Rattle.space_sql_check.proofs.Filters.{map_joined}
 use Rattle.space_sql_check.proofs.Parting.{subs_join, subs_whole, entities_join, entities_part, entities_whole}

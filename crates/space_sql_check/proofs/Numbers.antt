@@ -1,19 +1,17 @@
 -- Lemmas about the numbers within a range, in the order of `sqlite`.
-use Rattle.std.proofs.Common.{◌≡◌, ◌⊎◌, inl, inr, Some, ◌≤ℤ◌, ℕ, ℤ, Bool, true, false, not, ◌&&◌, ◌||◌, cond, List, [], ◌∷◌, refl, sym, ap, ap₂, subst, ◌∙◌, arith, Ordering, Less, Equal, Greater, int_cmp, int_lt, int_le}
-use Rattle.std.specs.List.{list_all}
-use Rattle.std.specs.Ordering.{is_eq, is_gt, is_le, nat_cmp, ordering_reverse}
+use Rattle.std.proofs.Common.{◌≡◌, inl, inr, Some, ◌≤ℤ◌, ℤ, Bool, true, false, not, ◌&&◌, ◌||◌, cond, refl, sym, ap, ap₂, subst, ◌∙◌, arith, Ordering, Less, Equal, Greater, int_lt, int_le}
+use Rattle.std.specs.Ordering.{is_eq, is_gt, nat_cmp, ordering_reverse}
 use Rattle.std.proofs.lemmas.Int.{ints}
 use Rattle.std.proofs.lemmas.Bool.{cases_Bool}
 use Rattle.sqlite_value.specs.declared.value.Value.{Value}
 use Rattle.sqlite_value.specs.declared.value.Value.TheVariants.{Null, Int, Real, Text, Blob}
 use Rattle.sqlite_value.specs.declared.keys.Collation.TheVariants.{Binary}
-use Rattle.sqlite_value.specs.Order.{Row, class, column, value_cmp}
+use Rattle.sqlite_value.specs.Order.{class, value_cmp}
 use Rattle.sqlite_value.proofs.OrderLemmas.{value_cmp-Int, value_cmp-Null, value_cmp_total}
 use Rattle.sqlite_sql.specs.declared.ops.BinaryOp.TheVariants.{Compare, Or, Is}
 use Rattle.sqlite_sql.specs.declared.ops.CompareOp.TheVariants.{Gt, Le}
-use Rattle.sqlite_sql.specs.declared.ops.UnaryOp.TheVariants.{IsNull}
-use Rattle.sqlite_sql.specs.Ops.{binary, unary, is_true, is_null, truth, from_truth, test}
-use Rattle.sqlite_typed.proofs.TestLemmas.{at_ints, at_or, truth_or}
+use Rattle.sqlite_sql.specs.Ops.{binary, is_true, is_null, from_truth, test}
+use Rattle.sqlite_typed.proofs.TestLemmas.{at_ints, at_or}
 use Rattle.space_sql_check.specs.Parts.{is_within}
 
 -- ---- one bound
@@ -67,6 +65,7 @@ falls m n v le h = elim (cases_Bool (int_lt m n)) [
       let e : n ≡ m = grind (arith, ints, le, same) in
       subst (λ (k : ℤ). is_gt (value_cmp v (Int k)) ≡ true) e h
 ]
+
 -- ---- ranges
 
 within_is : (over end : ℤ) (v : Value) → is_within over end v ≡ ((not (is_null v) && is_gt (value_cmp v (Int over))) && (not (is_null v) && not (is_gt (value_cmp v (Int end)))))

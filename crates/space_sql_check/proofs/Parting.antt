@@ -1,6 +1,6 @@
--- Proofs that what the rows of two ranges of numbers represent is what those of both represent, and
--- that what all rows represent has a part for each range.
-use Rattle.std.proofs.Common.{◌≡◌, ◌≤ℤ◌, ◌<ℤ◌, ℕ, ℤ, List, [], ◌∷◌, ◌++◌, ◌&&◌, map, filter, flat_map, Bool, true, false, not, refl, sym, ap, ap₂, subst, subst₂, ◌∙◌, arith, Less, int_cmp, int_lt, int_le}
+-- Proofs that the items of two adjacent ranges of numbers are those of the joined range, and that
+-- the items of all rows have a part in each range.
+use Rattle.std.proofs.Common.{◌≡◌, ◌≤ℤ◌, ◌<ℤ◌, ℕ, ℤ, List, [], ◌∷◌, ◌++◌, map, filter, flat_map, Bool, true, refl, sym, ap, subst, ◌∙◌, arith, Less, int_cmp, int_lt, int_le}
 use Rattle.std.specs.Prelude.{IsPermutation}
 use Rattle.std.specs.List.{AllByRecursion}
 use Rattle.std.proofs.lemmas.Int.{ints}
@@ -9,7 +9,6 @@ use Rattle.std.proofs.lemmas.Grind.{flat_map-append}
 use Rattle.std.proofs.lemmas.List.Sorted.{IsPermutation-append, IsPermutation-trans, IsPermutation-sym}
 use Rattle.sqlite_keyed.proofs.ListLemmas.{IsPermutation-filter, filter-map, all_unmap, all_map, all-append, ascending-append, ascending-filter, all-filter}
 use Rattle.sqlite_keyed.proofs.KeyedLemmas.{Less-from_lt}
-use Rattle.sqlite_trees.specs.Tree.{IsAscending}
 use Rattle.sqlite_value.specs.declared.value.Value.{Value}
 use Rattle.sqlite_value.specs.declared.value.Value.TheVariants.{Int}
 use Rattle.sqlite_value.specs.Order.{Row, column}
@@ -24,7 +23,7 @@ use Rattle.std.specs.Prelude.{Option, Some, None}
 use Rattle.space_sql_check.specs.declared.source.Source.{Source}
 use Rattle.space_sql_check.specs.declared.source.Source.TheVariants.{Entities, Volumes, Cells, Namings, Subscriptions, SubCells}
 use Rattle.space_sql_check.specs.Source.{tree_of, columns_of}
-use Rattle.space_sql_check.specs.Parts.{AreSubs, AreEntities, HasEntities, HasNoneOutside, HasNoOtherEntities, any_value, is_within, least, greatest, rows_where}
+use Rattle.space_sql_check.specs.Parts.{AreSubs, HasEntities, HasNoneOutside, HasNoOtherEntities, any_value, is_within, least, greatest, rows_where}
 use Rattle.space_sql_check.proofs.Numbers.{within_int, within_joined, within_parted}
 use Rattle.space_sql_check.proofs.Filters.{filters_join, all_moved, filter_passes, map_joined, parts_pass, nothing_else, all_pass}
 
@@ -125,14 +124,17 @@ module _ (serial : ℕ) (db : Database) where
 
 module _ (serial : ℕ) (subs : List SubGroup) (db : Database) where
   pub entities_join : (over mid end : ℤ) → over ≤ℤ mid → mid ≤ℤ end → HasEntities serial subs (is_within over mid) db → HasEntities serial subs (is_within mid end) db → HasEntities serial subs (is_within over end) db
-  entities_join over mid end low high (xs, p) (ys, q) = (xs ++ ys, record {
-    rising = ascending-append IsBefore xs ys p.rising q.rising (all_before (λ (g : Group). g.row.num) over mid end xs ys (in_range (is_within over mid) Entities db (λ (g : Group). entity_values g.row) xs p.rows) (in_range (is_within mid end) Entities db (λ (g : Group). entity_values g.row) ys q.rows));
-    each = all-append (IsGroup serial subs) xs ys p.each q.each;
-    rows = mapped_join over mid end low high db Entities (λ (g : Group). entity_values g.row) xs ys p.rows q.rows;
-    volumes = flat_join over mid end low high db Volumes (λ (g : Group). map volume_values g.volumes) xs ys p.volumes q.volumes;
-    cells = flat_join over mid end low high db Cells (λ (g : Group). map cell_values g.cells) xs ys p.cells q.cells;
-    namings = flat_join over mid end low high db Namings naming_rows_of xs ys p.namings q.namings;
-  })
+  entities_join over mid end low high (xs, p) (ys, q) = (
+    xs ++ ys,
+    record {
+      rising = ascending-append IsBefore xs ys p.rising q.rising (all_before (λ (g : Group). g.row.num) over mid end xs ys (in_range (is_within over mid) Entities db (λ (g : Group). entity_values g.row) xs p.rows) (in_range (is_within mid end) Entities db (λ (g : Group). entity_values g.row) ys q.rows));
+      each = all-append (IsGroup serial subs) xs ys p.each q.each;
+      rows = mapped_join over mid end low high db Entities (λ (g : Group). entity_values g.row) xs ys p.rows q.rows;
+      volumes = flat_join over mid end low high db Volumes (λ (g : Group). map volume_values g.volumes) xs ys p.volumes q.volumes;
+      cells = flat_join over mid end low high db Cells (λ (g : Group). map cell_values g.cells) xs ys p.cells q.cells;
+      namings = flat_join over mid end low high db Namings naming_rows_of xs ys p.namings q.namings;
+    },
+  )
 
   own_volumes : (gs : List Group) → AllByRecursion (IsGroup serial subs) gs → AllByRecursion (λ (g : Group). AllByRecursion (λ c. column c 0 ≡ Int g.row.num) (map volume_values g.volumes)) gs
   own_volumes [] each = tt
@@ -157,21 +159,27 @@ module _ (serial : ℕ) (subs : List SubGroup) (db : Database) where
   own_namings (g ∷ gs) = (one_naming g.row.num g.naming, own_namings gs)
 
   pub entities_part : (keep : Value → Bool) → HasEntities serial subs any_value db → HasEntities serial subs keep db
-  entities_part keep (gs, p) = (filter (λ (g : Group). keep (Int g.row.num)) gs, record {
-    rising = ascending-filter IsBefore (λ (g : Group). keep (Int g.row.num)) gs p.rising;
-    each = all-filter (IsGroup serial subs) (λ (g : Group). keep (Int g.row.num)) gs p.each;
-    rows = mapped_part keep db Entities (λ (g : Group). entity_values g.row) gs p.rows;
-    volumes = flat_part keep db Volumes (λ (g : Group). g.row.num) (λ (g : Group). map volume_values g.volumes) gs (own_volumes gs p.each) p.volumes;
-    cells = flat_part keep db Cells (λ (g : Group). g.row.num) (λ (g : Group). map cell_values g.cells) gs (own_cells gs p.each) p.cells;
-    namings = flat_part keep db Namings (λ (g : Group). g.row.num) naming_rows_of gs (own_namings gs) p.namings;
-  })
+  entities_part keep (gs, p) = (
+    filter (λ (g : Group). keep (Int g.row.num)) gs,
+    record {
+      rising = ascending-filter IsBefore (λ (g : Group). keep (Int g.row.num)) gs p.rising;
+      each = all-filter (IsGroup serial subs) (λ (g : Group). keep (Int g.row.num)) gs p.each;
+      rows = mapped_part keep db Entities (λ (g : Group). entity_values g.row) gs p.rows;
+      volumes = flat_part keep db Volumes (λ (g : Group). g.row.num) (λ (g : Group). map volume_values g.volumes) gs (own_volumes gs p.each) p.volumes;
+      cells = flat_part keep db Cells (λ (g : Group). g.row.num) (λ (g : Group). map cell_values g.cells) gs (own_cells gs p.each) p.cells;
+      namings = flat_part keep db Namings (λ (g : Group). g.row.num) naming_rows_of gs (own_namings gs) p.namings;
+    },
+  )
 
   pub entities_whole : HasNoOtherEntities db → HasEntities serial subs (is_within least greatest) db → HasEntities serial subs any_value db
-  entities_whole none (gs, p) = (gs, record {
-    rising = p.rising;
-    each = p.each;
-    rows = subst (IsPermutation (map (λ (g : Group). entity_values g.row) gs)) (whole_rows Entities db none.entities) p.rows;
-    volumes = subst (IsPermutation (flat_map (λ (g : Group). map volume_values g.volumes) gs)) (whole_rows Volumes db none.volumes) p.volumes;
-    cells = subst (IsPermutation (flat_map (λ (g : Group). map cell_values g.cells) gs)) (whole_rows Cells db none.cells) p.cells;
-    namings = subst (IsPermutation (flat_map naming_rows_of gs)) (whole_rows Namings db none.namings) p.namings;
-  })
+  entities_whole none (gs, p) = (
+    gs,
+    record {
+      rising = p.rising;
+      each = p.each;
+      rows = subst (IsPermutation (map (λ (g : Group). entity_values g.row) gs)) (whole_rows Entities db none.entities) p.rows;
+      volumes = subst (IsPermutation (flat_map (λ (g : Group). map volume_values g.volumes) gs)) (whole_rows Volumes db none.volumes) p.volumes;
+      cells = subst (IsPermutation (flat_map (λ (g : Group). map cell_values g.cells) gs)) (whole_rows Cells db none.cells) p.cells;
+      namings = subst (IsPermutation (flat_map naming_rows_of gs)) (whole_rows Namings db none.namings) p.namings;
+    },
+  )

@@ -1,5 +1,5 @@
 -- Proofs that the rowids of a table are apart if those of each range rise.
-use Rattle.std.proofs.Common.{◌≡◌, ◌≤ℤ◌, ◌↔◌, ℤ, List, [], ◌∷◌, ◌++◌, map, filter, refl, sym, ap, subst, subst₂, ◌∙◌, Less, int_cmp}
+use Rattle.std.proofs.Common.{◌≡◌, ◌≤ℤ◌, ◌↔◌, ℤ, List, [], ◌∷◌, ◌++◌, map, filter, refl, sym, subst, subst₂, ◌∙◌, Less, int_cmp}
 use Rattle.std.specs.Prelude.{IsPermutation, Bool}
 use Rattle.std.proofs.lemmas.List.Sorted.{IsPermutation-sym, IsPermutation-map}
 use Rattle.sqlite_keyed.proofs.ListLemmas.{map-map, map_same, ascending-append, ascending-filter}

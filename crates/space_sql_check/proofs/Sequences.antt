@@ -1,6 +1,6 @@
 -- Lemmas about reads in sequence.
-use Rattle.std.proofs.Common.{◌≡◌, ◌⊎◌, inl, inr, Ok, Err, Result, IfOk, OnOk, refl, sym, ap, subst, ◌∙◌, arith}
-use Rattle.std.specs.Prelude.{IsTrue, IsErr, IfErr, IfSome, Option, Some, None}
+use Rattle.std.proofs.Common.{◌≡◌, Ok, Err, Result, IfOk, ap, subst, ◌∙◌, arith}
+use Rattle.std.specs.Prelude.{IsErr, IfSome, Option, Some, None}
 use Rattle.sqlite.specs.Effect.{Database, IsDatabase}
 use Rattle.sqlite.specs.declared.error.Error.{Error}
 use Rattle.sqlite.specs.State.{State, HasCleanDisk, IsLive}
@@ -10,7 +10,7 @@ use Rattle.space_sql_load.specs.declared.table_check.TableCheck.{TableCheck}
 use Rattle.space_sql_load.specs.Checking.{JudgesDatabase}
 use Rattle.space_sql_check.specs.declared.pieces.Verdict.{Verdict}
 use Rattle.space_sql_check.specs.Checking.{JudgesPieces, JudgesSound}
-use Rattle.space_sql_select.specs.Reading.{Reads, ReadsAlone, ReadsAlive, RestsAs}
+use Rattle.space_sql_select.specs.Reading.{Reads, ReadsAlone, ReadsAlive}
 
 -- A read, followed by a check of what was read, is a read.
 pub reads_so : {X Y : Type 0} (P : Database → X → Type 0) (Q : Database → Y → Type 0) (a d : State) (x : X) (r : Result Y Error) → ((db : Database) → db.schema ≡ dss_schema → P db x → IfOk r (Q db)) → Reads P a d (Ok x) → Reads Q a d r

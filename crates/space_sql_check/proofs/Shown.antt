@@ -1,23 +1,22 @@
 -- Proofs about the results of the statements that read the tables in pieces.
-use Rattle.std.proofs.Common.{◌≡◌, ℕ, ℤ, List, [], ◌∷◌, ◌&&◌, map, filter, Bool, true, not, codes, refl, sym, ap, subst, ◌∙◌, Less, Ordering}
+use Rattle.std.proofs.Common.{◌≡◌, ℕ, ℤ, List, [], ◌∷◌, map, filter, not, codes, refl, sym, ap, subst, ◌∙◌, Less}
 use Rattle.std.specs.Prelude.{IsPermutation}
 use Rattle.std.specs.List.{list_all}
 use Rattle.std.specs.Ordering.{int_cmp}
 use Rattle.std.proofs.lemmas.List.Sorted.{length_permutation}
-use Rattle.sqlite_keyed.proofs.ListLemmas.{filter-map, filter_same, map_same, map-map}
-use Rattle.sqlite_trees.specs.Tree.{IsAscending, Trees}
+use Rattle.sqlite_keyed.proofs.ListLemmas.{filter-map, filter_same, map_same}
+use Rattle.sqlite_trees.specs.Tree.{Trees}
 use Rattle.sqlite_value.proofs.OrderLemmas.{value_cmp-Int}
 use Rattle.sqlite_typed.proofs.TestLemmas.{then_term, last_term}
 use Rattle.sqlite_sql.specs.declared.ops.BinaryOp.TheVariants.{Compare, Or, Is}
 use Rattle.sqlite_sql.specs.declared.ops.CompareOp.TheVariants.{Gt, Le}
-use Rattle.sqlite_sql.specs.declared.ops.UnaryOp.TheVariants.{IsNull}
 use Rattle.sqlite_sql.specs.Query.{output, output_cmp}
 use Rattle.sqlite_tied.specs.Compute.{everything}
 use Rattle.sqlite_schema.specs.declared.command.Command.TheVariants.{Select}
 use Rattle.sqlite.specs.Collation.TheVariants.{Binary}
 use Rattle.sqlite.specs.declared.types.Value.TheVariants.{Null, Int}
 use Rattle.sqlite.specs.Order.{Row, column}
-use Rattle.sqlite.specs.Term.{Term, col, lit, op1, op2, holds, eval_all}
+use Rattle.sqlite.specs.Term.{Term, col, lit, op2, holds, eval_all}
 use Rattle.sqlite.specs.Effect.{Database, Reads}
 use Rattle.sqlite.specs.Listing.{understood}
 use Rattle.sqlite.specs.Program.{overlay}

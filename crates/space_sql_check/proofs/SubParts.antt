@@ -1,6 +1,6 @@
 -- Proofs that the rows of a range list subscriptions exactly if they represent them.
-use Rattle.std.proofs.Common.{◌≡◌, ℕ, ℤ, pos, List, [], ◌∷◌, ◌++◌, map, flat_map, Option, Some, None, refl, sym, ap, subst, ◌∙◌, arith, append-nil, Less}
-use Rattle.std.specs.Prelude.{IsPermutation, MatchOption, IfOk, Result, Ok, Err}
+use Rattle.std.proofs.Common.{◌≡◌, ℕ, ℤ, pos, List, [], ◌++◌, map, flat_map, refl, sym, ap, subst, ◌∙◌, arith, append-nil, Less}
+use Rattle.std.specs.Prelude.{IsPermutation}
 use Rattle.std.specs.List.{AllByRecursion}
 use Rattle.std.specs.Ordering.{int_cmp, nat_cmp}
 use Rattle.std.specs.FinMap.{empty, entries}
@@ -17,8 +17,7 @@ use Rattle.space_sql_schema.proofs.Rising.{all_sub_cells_rise}
 use Rattle.space_sql_schema.proofs.Making.{no_entries}
 use Rattle.space_sql_select.specs.Rows.{sub_order}
 use Rattle.space_sql_load.specs.declared.tables.SubTables.{SubTables}
-use Rattle.space_sql_load.specs.declared.subscriptions.KnownSubs.{KnownSubs}
-use Rattle.space_sql_load.specs.Gathering.{ListsSubs, Subs, subs_of}
+use Rattle.space_sql_load.specs.Gathering.{ListsSubs, Subs}
 use Rattle.space_sql_load.proofs.SubGroups.{sub_groups_from, gathers_subs_from}
 use Rattle.space_sql_check.specs.declared.source.Source.TheVariants.{Subscriptions, SubCells}
 use Rattle.space_sql_check.specs.Parts.{AreSubs, HasSubs, ShowsWithin, is_within, numbers_of, rows_where}

@@ -1,5 +1,5 @@
 -- Proofs that the tables represent an airspace exactly if all that is checked holds.
-use Rattle.std.proofs.Common.{◌≡◌, ℕ, List, [], ◌∷◌, map, flat_map, refl, sym, ap, subst, ◌∙◌}
+use Rattle.std.proofs.Common.{◌≡◌, ℕ, List, [], ◌∷◌, map, flat_map, refl, sym, subst}
 use Rattle.std.specs.Prelude.{IsPermutation, ◌≤◌}
 use Rattle.std.proofs.lemmas.List.Sorted.{IsPermutation-sym}
 use Rattle.sqlite_keyed.proofs.ListLemmas.{map-map, map-flat_map}
@@ -14,7 +14,7 @@ use Rattle.space_sql_schema.proofs.OneAirspace.{one_subs, one_table, sub_of_valu
 use Rattle.space_sql_select.specs.Meta.{ShowsMeta}
 use Rattle.space_sql_select.proofs.Metas.{one_serial}
 use Rattle.space_sql_check.specs.declared.source.Source.TheVariants.{Entities, Volumes, Cells, Namings, Subscriptions, SubCells}
-use Rattle.space_sql_check.specs.Parts.{AreSubs, HasEntities, any_value, rows_where}
+use Rattle.space_sql_check.specs.Parts.{AreSubs, any_value, rows_where}
 use Rattle.space_sql_check.specs.Checking.{HasAll, HasItems, HasSerial}
 use Rattle.space_sql_check.proofs.Keys.{entity_map_of, sub_map_of}
 use Rattle.space_sql_check.proofs.Parting.{any_rows}

@@ -1,6 +1,5 @@
--- Definitions of the result of checking a database.
+-- Definitions of the result of checking a database of format 2.
 use Rattle.std.specs.Prelude.{◌≡◌, ℕ, List, [], ◌∷◌, map}
-use Rattle.sqlite_value.specs.Order.{Row}
 use Rattle.sqlite.specs.Effect.{Database, IsDatabase}
 use Rattle.entity_core.specs.Airspace.{Airspace}
 use Rattle.space_sql_schema.specs.Spelling.{SubGroup, Spells, meta_columns, meta_values}
@@ -15,25 +14,27 @@ use Rattle.space_sql_check.specs.declared.airspace.AirspaceCheck.{AirspaceCheck}
 use Rattle.space_sql_check.specs.declared.airspace.AirspaceCheck.TheVariants.{Loaded, Valid, OtherFormat, Invalid}
 
 -- Holds if the rows represent subscriptions, and entities that reference them, with serials up to
--- this one.
+-- the given one.
 pub record HasItems (serial : ℕ) (db : Database) : Type 0 where
   pub subs : List SubGroup
   pub are_subs : AreSubs serial any_value db subs
   pub entities : HasEntities serial subs any_value db
 
+-- Holds if `availability` represents what USSs set, and rowids are different numbers.
 pub record HasOthers (db : Database) : Type 0 where
   pub settings : HasSettings db
   pub apart : AreAllIdsApart db
 
+-- Holds if the tables other than `meta` represent an airspace with the given serial.
 pub record HasAll (serial : ℕ) (db : Database) : Type 0 where
   pub items : HasItems serial db
   pub others : HasOthers db
 
--- Holds if `meta` has one row, of format 2, with this serial.
+-- Holds if `meta` has one row, of format 2, with the given serial.
 abbrev pub HasSerial : ℕ → Database → Type 0
 HasSerial serial db = map meta_columns (db.trees meta_tree) ≡ meta_values 2 serial ∷ []
 
--- Holds if the result of the check in pieces is right for the database. Only one result is.
+-- Holds if the result of the check in pieces is right for the database. At most one result is.
 abbrev pub JudgesPieces : Database → Verdict → Type 0
 JudgesPieces db verdict.Valid = (a : Airspace) × Spells db a
 JudgesPieces db verdict.OtherFormat = IsOtherFormat db
@@ -44,8 +45,9 @@ JudgesPieces db verdict.Invalid = ((a : Airspace) → ¬ Spells db a) × ¬ IsOt
 pub record JudgesSound (db : Database) (v : Verdict) : Type 0 where
   pub told : db.schema ≡ dss_schema → IsDatabase db → JudgesPieces db v
 
--- Holds if the result of the check is right for the database: the airspace that the tables
--- represent, that they represent one, or that they represent none.
+-- Holds if the result of the check is right for the database. `Loaded` has the airspace that the
+-- tables represent. `Valid` says that they represent one, and the other results that they represent
+-- none.
 abbrev pub JudgesAirspace : Database → AirspaceCheck → Type 0
 JudgesAirspace db (Loaded l) = Spells db (loaded_airspace l)
 JudgesAirspace db Valid = (a : Airspace) × Spells db a

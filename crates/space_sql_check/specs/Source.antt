@@ -1,5 +1,6 @@
--- The tables that are read in pieces, the texts that read them, and their positions in `sqlite`.
-use Rattle.std.specs.Prelude.{ℕ, ℤ, List, [], ◌∷◌, codes}
+-- Definitions of the rows that are read in pieces: the texts of their queries, their trees in
+-- `sqlite`, and the typed rows that they represent.
+use Rattle.std.specs.Prelude.{ℕ, ℤ, List, codes}
 use Rattle.std.specs.Ordering.{int_cmp}
 use Rattle.std.specs.declared.cmp.Ordering.{Ordering}
 use Rattle.sqlite_value.specs.Order.{Row}
@@ -20,6 +21,7 @@ use Rattle.space_sql_check.specs.declared.ends.Counted.TheVariants as counted
 
 -- ---- texts
 
+-- Returns the text of the query for the rows with a number in a range.
 abbrev pub within_text : Source → List ℕ
 within_text Entities = codes "SELECT num, kind, id, manager, state, version, serial, ovn, url FROM entity WHERE num > ?1 AND num <= ?2 ORDER BY num"
 within_text Volumes = codes "SELECT entity, place, alt_lower, alt_upper, time_start, time_end FROM volume WHERE entity > ?1 AND entity <= ?2 ORDER BY entity, place"
@@ -32,6 +34,7 @@ within_text CellIds = codes "SELECT rowid FROM cell WHERE rowid > ?1 AND rowid <
 within_text SettingIds = codes "SELECT rowid FROM availability WHERE rowid > ?1 AND rowid <= ?2 ORDER BY rowid"
 within_text SubCellIds = codes "SELECT rowid FROM subscription_cell WHERE rowid > ?1 AND rowid <= ?2 ORDER BY rowid"
 
+-- Returns the text of the query for the rows with a number outside of a range, or without one.
 abbrev pub outside_text : Source → List ℕ
 outside_text Entities = codes "SELECT num FROM entity WHERE num IS NULL OR num <= ?1 OR num > ?2"
 outside_text Volumes = codes "SELECT entity FROM volume WHERE entity IS NULL OR entity <= ?1 OR entity > ?2"
@@ -44,6 +47,7 @@ outside_text CellIds = codes "SELECT rowid FROM cell WHERE rowid IS NULL OR rowi
 outside_text SettingIds = codes "SELECT rowid FROM availability WHERE rowid IS NULL OR rowid <= ?1 OR rowid > ?2"
 outside_text SubCellIds = codes "SELECT rowid FROM subscription_cell WHERE rowid IS NULL OR rowid <= ?1 OR rowid > ?2"
 
+-- Returns the text of the query for the numbers of the next 1,024 rows.
 abbrev pub next_text : Counted → List ℕ
 next_text counted.CellsOfEntities = codes "SELECT entity FROM cell WHERE entity > ?1 ORDER BY entity LIMIT 1024"
 next_text counted.CellsOfSubscriptions = codes "SELECT subscription FROM subscription_cell WHERE subscription > ?1 ORDER BY subscription LIMIT 1024"
@@ -54,6 +58,7 @@ next_text counted.SubCellIds = codes "SELECT rowid FROM subscription_cell WHERE 
 
 -- ---- positions in `sqlite`
 
+-- Returns the tree of the table.
 abbrev pub tree_of : Source → ℕ
 tree_of Entities = entity_tree
 tree_of Volumes = volume_tree
@@ -66,7 +71,7 @@ tree_of CellIds = cell_tree
 tree_of SettingIds = availability_tree
 tree_of SubCellIds = subscription_cell_tree
 
--- The columns that are shown. The first one is the number by which the rows are read.
+-- Returns the columns that are read. The first one is the number by which the rows are read.
 abbrev pub columns_of : Source → Row → Row
 columns_of Entities r = entity_columns r
 columns_of Volumes r = six_columns r
@@ -81,6 +86,7 @@ columns_of SubCellIds r = rowid_column r
 
 -- ---- typed rows
 
+-- The type of a row.
 abbrev pub Typed : Source → Type 0
 Typed Entities = EntityRow
 Typed Volumes = VolumeRow
@@ -93,6 +99,7 @@ Typed CellIds = ℤ
 Typed SettingIds = ℤ
 Typed SubCellIds = ℤ
 
+-- Returns the values of a typed row.
 abbrev pub values_of : (s : Source) → Typed s → Row
 values_of Entities x = entity_values x
 values_of Volumes x = volume_values x
@@ -105,6 +112,7 @@ values_of CellIds x = number_values x
 values_of SettingIds x = number_values x
 values_of SubCellIds x = number_values x
 
+-- Returns the order of two typed rows by their keys.
 abbrev pub order_of : (s : Source) → Typed s → Typed s → Ordering
 order_of Entities x y = entity_order x y
 order_of Volumes x y = volume_order x y

@@ -1,5 +1,5 @@
 //! The check of a database with the schema of format 2, at once or in pieces.
-ghost use Rattle.std.specs.Prelude.{◌≡◌, false, IfOk, IfSome, IfErr, Ok};
+ghost use Rattle.std.specs.Prelude.{◌≡◌, false, IfOk, IfSome, Ok};
 ghost use Rattle.sqlite.specs.Effect.{Database};
 ghost use Rattle.sqlite.specs.Held.{state};
 ghost use Rattle.space_sql_select.specs.Reading.{ReadsAlive, ReadsAlone};
@@ -19,7 +19,8 @@ use std::alloc::Global;
 pub enum AirspaceCheck {
     /// The tables represent this airspace.
     Loaded(LoadedAirspace),
-    /// The tables represent an airspace. Memory ran out for the whole, so it was checked in pieces.
+    /// The tables represent an airspace. Memory ran out for all of it, so they were checked in
+    /// pieces.
     Valid,
     /// The tables represent no airspace: `meta` has one row, with another format.
     OtherFormat,
@@ -27,6 +28,7 @@ pub enum AirspaceCheck {
     Invalid,
 }
 
+// Reads all tables at once, and checks them.
 fn check_whole<S: Alter>(alloc: Global, conn: &mut Connection<S>) -> Result<TableCheck, Error>
     requires { conn.old.in_transaction ≡ false }
     ensures ended { conn.new.in_transaction ≡ false }
@@ -37,7 +39,7 @@ fn check_whole<S: Alter>(alloc: Global, conn: &mut Connection<S>) -> Result<Tabl
     check_tables(alloc, &tables)
 }
 
-// Returns `None` if memory ran out.
+// Returns the result of a check, or `None` if memory ran out.
 fn unless_lacking(read: Result<TableCheck, Error>) -> Result<Option<TableCheck>, Error>
     ensures { IfOk result (λ o. IfSome o (λ check. read ≡ Ok check)) }
 {
@@ -65,6 +67,7 @@ fn check_at_once<S: Alter>(
     Ok(check)
 }
 
+// Returns the result for tables that were read at once.
 fn of_whole(check: TableCheck) -> AirspaceCheck
     ensures { (db : Database) → JudgesDatabase db check → JudgesAirspace db result }
 {
@@ -75,6 +78,7 @@ fn of_whole(check: TableCheck) -> AirspaceCheck
     }
 }
 
+// Returns the result for tables that were checked in pieces.
 fn of_pieces(verdict: Verdict) -> AirspaceCheck
     ensures { (db : Database) → JudgesPieces db verdict → JudgesAirspace db result }
 {
@@ -87,12 +91,11 @@ fn of_pieces(verdict: Verdict) -> AirspaceCheck
 
 /// Checks whether the tables of format 2 represent an airspace, and leaves them unchanged.
 ///
-/// It loads the airspace. If memory runs out for that, it checks the tables in pieces, which needs
-/// memory only for one piece, and for the numbers and ids of all subscriptions.
+/// Loads the airspace. If memory runs out for that, checks the tables in pieces.
 ///
 /// The contract describes the result only for a database with the schema of format 2. `Invalid`
 /// also covers texts that are not UTF-8. Returns an error if the store fails, if memory runs out
-/// for a piece, or if a number of a row is out of range.
+/// for a piece, or if the check in pieces finds a row that belongs to no piece.
 pub fn check_airspace<S: Alter>(
     alloc: Global,
     conn: &mut Connection<S>,

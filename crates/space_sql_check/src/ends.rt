@@ -8,7 +8,7 @@ use space_sql_select::rows::number_in;
 use space_sql_select::select::query;
 use sqlite::{Alter, Error, Row, Transaction, params};
 
-/// The rows that count for the size of a piece.
+/// The rows by which the end of a piece is chosen.
 #[derive(Clone, Copy, Debug)]
 pub(crate) enum Counted {
     CellsOfEntities,
@@ -20,7 +20,7 @@ pub(crate) enum Counted {
 }
 
 impl Counted {
-    // Returns the text of the query for the numbers of the next rows.
+    // Returns the text of the query for the numbers of the next 1,024 rows.
     fn text_next(self) -> &'static str
         ensures { result.now ≡ next_text self }
     {
@@ -48,7 +48,8 @@ impl Counted {
     }
 }
 
-// Returns the last number of the next rows, or the greatest number if these are the last rows.
+// Returns the number of the last row if there are 1,024 rows and it is above `over`. Otherwise
+// returns the max number.
 fn end_of(rows: &[Row], over: i64) -> i64
     ensures { over ≤ℤ result }
 {
@@ -64,9 +65,9 @@ fn end_of(rows: &[Row], over: i64) -> i64
     }
 }
 
-/// Returns the number up to which the next piece reaches, so that it has few rows.
+/// Returns the number at which the next piece ends, after that with the number `over`.
 ///
-/// It is the greatest one for the last piece.
+/// The piece has about 1,024 of the given rows. The last piece ends at the max number.
 pub(crate) fn piece_end<S: Alter>(
     tx: &mut Transaction<'_, S>,
     counted: Counted,

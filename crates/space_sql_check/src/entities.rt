@@ -1,5 +1,5 @@
-//! The entities of the tables, in pieces.
-ghost use Rattle.std.specs.Prelude.{◌≡◌, ◌↔◌, IsTrue, List};
+//! The check of entities in pieces.
+ghost use Rattle.std.specs.Prelude.{◌↔◌, IsTrue, List};
 ghost use Rattle.std.specs.Ordering.{int_cmp};
 ghost use Rattle.sqlite.specs.Effect.{IsDatabase};
 ghost use Rattle.entity_maps.specs.Sorted.{Rise};
@@ -17,6 +17,7 @@ use space_sql_load::tables::EntityTables;
 use sqlite::{Alter, Error, Transaction};
 use std::alloc::Global;
 
+// Returns the rows of the four tables with a number greater than `over`, up to `end`.
 fn query_tables<S: Alter>(
     tx: &mut Transaction<'_, S>,
     over: i64,
@@ -35,7 +36,7 @@ fn query_tables<S: Alter>(
 }
 
 // Returns true if the rows with a number greater than `over`, up to `end`, represent entities that
-// reference some of the subscriptions with these numbers.
+// reference no other subscriptions than those with the given numbers.
 fn are_entities_within<S: Alter>(
     alloc: Global,
     tx: &mut Transaction<'_, S>,
@@ -54,6 +55,7 @@ fn are_entities_within<S: Alter>(
     Ok(entities_in(alloc, serial, numbers, &tables)?.is_some())
 }
 
+// Returns an error if a row of the four tables belongs to no piece.
 fn check_none_else<S: Alter>(tx: &mut Transaction<'_, S>) -> Result<(), Error>
     ensures same_reference { SameConnection tx.old tx.new }
     ensures reads { Within S.Store tx.old tx.new (Reads (λ db _. HasNoOtherEntities db)) result }
@@ -65,7 +67,10 @@ fn check_none_else<S: Alter>(tx: &mut Transaction<'_, S>) -> Result<(), Error>
 }
 
 /// Returns true if the rows of `entity`, `volume`, `cell` and `naming` represent entities, with
-/// serials up to the given one, that reference some of the subscriptions with these numbers.
+/// serials up to the given one, that reference no other subscriptions than those with the given
+/// numbers.
+///
+/// Returns an error if the store fails, if memory runs out, or if a row belongs to no piece.
 pub(crate) fn are_entities<S: Alter>(
     alloc: Global,
     tx: &mut Transaction<'_, S>,

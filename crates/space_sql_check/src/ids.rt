@@ -1,5 +1,5 @@
-//! The rowids of tables.
-ghost use Rattle.std.specs.Prelude.{◌≡◌, ◌↔◌, IsTrue};
+//! The check of rowids in pieces.
+ghost use Rattle.std.specs.Prelude.{◌↔◌, IsTrue};
 ghost use Rattle.space_sql_schema.specs.Within.{SameConnection, Within};
 ghost use Rattle.space_sql_select.specs.Reading.{Reads};
 ghost use Rattle.space_sql_check.specs.Parts.{AreAllIdsApart, AreIdsApart, IsOfIds};
@@ -10,7 +10,7 @@ use space_sql_load::rising::are_rising;
 use sqlite::{Alter, Error, Transaction};
 use std::alloc::Global;
 
-// Returns true if the rowids of a table are numbers, and no two rows share one.
+// Returns true if the rowids of a table are different numbers.
 fn are_ids_apart<S: Alter>(
     alloc: Global,
     tx: &mut Transaction<'_, S>,
@@ -38,8 +38,9 @@ fn are_ids_apart<S: Alter>(
     Err(Error::QueryReturnedNoRows)
 }
 
-/// Returns true if in each table whose key is not a number, the rowids are numbers, and no two rows
-/// share one.
+/// Returns true if the rowids of each table whose key is not a number are different numbers.
+///
+/// Returns an error if the store fails, if memory runs out, or if a row belongs to no piece.
 pub(crate) fn are_all_ids_apart<S: Alter>(
     alloc: Global,
     tx: &mut Transaction<'_, S>,

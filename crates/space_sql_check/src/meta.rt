@@ -1,5 +1,4 @@
 //! The content of the table `meta`, within an open transaction.
-ghost use Rattle.std.specs.Prelude.{◌≡◌};
 ghost use Rattle.space_sql_schema.specs.Within.{SameConnection, Within};
 ghost use Rattle.space_sql_select.specs.Reading.{Reads};
 ghost use Rattle.space_sql_select.specs.Meta.{ShowsMeta};

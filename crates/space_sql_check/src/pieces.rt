@@ -1,8 +1,7 @@
 //! The check of all tables in pieces, in one transaction that changes nothing.
-ghost use Rattle.std.specs.Prelude.{◌≡◌, ◌↔◌, ◌≤◌, false, IsTrue};
+ghost use Rattle.std.specs.Prelude.{◌≡◌, ◌↔◌, false, IsTrue};
 ghost use Rattle.sqlite.specs.Effect.{IsDatabase};
 ghost use Rattle.sqlite.specs.Held.{state};
-ghost use Rattle.entity_core.specs.Serial.{max_serial};
 ghost use Rattle.space_sql_schema.specs.Within.{SameConnection, Within};
 ghost use Rattle.space_sql_select.specs.Reading.{Reads, ReadsAlive, ReadsAlone};
 ghost use Rattle.space_sql_check.specs.Checking.{HasAll, HasItems, HasOthers, JudgesPieces, JudgesSound};
@@ -17,19 +16,19 @@ use space_sql_select::reading::{connection_facts, is_store_alive};
 use sqlite::{Alter, Connection, Error, Transaction};
 use std::alloc::Global;
 
-/// What tables of format 2 represent.
+/// The result of the check in pieces.
 #[derive(Clone, Copy, Debug)]
 pub(crate) enum Verdict {
-    /// They represent an airspace.
+    /// The tables represent an airspace.
     Valid,
-    /// They represent none: `meta` has one row, with another format.
+    /// The tables represent no airspace: `meta` has one row, with another format.
     OtherFormat,
-    /// They represent none, and `meta` gives no other format.
+    /// The tables represent no airspace, and `meta` gives no other format.
     Invalid,
 }
 
 // Returns true if the rows represent subscriptions, and entities that reference them, with serials
-// up to this one.
+// up to the given one.
 fn are_items<S: Alter>(
     alloc: Global,
     tx: &mut Transaction<'_, S>,
@@ -45,6 +44,7 @@ fn are_items<S: Alter>(
     }
 }
 
+// Returns true if `availability` represents what USSs set, and rowids are different numbers.
 fn are_others<S: Alter>(alloc: Global, tx: &mut Transaction<'_, S>) -> Result<bool, Error>
     ensures same_reference { SameConnection tx.old tx.new }
     ensures reads { Within S.Store tx.old tx.new
@@ -56,12 +56,8 @@ fn are_others<S: Alter>(alloc: Global, tx: &mut Transaction<'_, S>) -> Result<bo
     are_all_ids_apart(alloc, tx)
 }
 
-// Returns true if the tables beside `meta` represent an airspace with this serial.
-fn are_all<S: Alter>(
-    alloc: Global,
-    tx: &mut Transaction<'_, S>,
-    serial: u64,
-) -> Result<bool, Error>
+// Returns true if the tables other than `meta` represent an airspace with the given serial.
+fn are_all<S: Alter>(alloc: Global, tx: &mut Transaction<'_, S>, serial: u64) -> Result<bool, Error>
     ensures same_reference { SameConnection tx.old tx.new }
     ensures reads { Within S.Store tx.old tx.new
         (Reads (λ db b. IsDatabase db → IsTrue b ↔ HasAll serial db)) result }
@@ -72,6 +68,7 @@ fn are_all<S: Alter>(
     are_others(alloc, tx)
 }
 
+// Checks all tables, within an open transaction.
 fn check_all<S: Alter>(alloc: Global, tx: &mut Transaction<'_, S>) -> Result<Verdict, Error>
     ensures same_reference { SameConnection tx.old tx.new }
     ensures reads { Within S.Store tx.old tx.new (Reads JudgesSound) result }

@@ -1,5 +1,5 @@
-//! The availabilities that the table represents.
-ghost use Rattle.std.specs.Prelude.{◌≡◌, ◌↔◌, IsTrue};
+//! The check of availabilities.
+ghost use Rattle.std.specs.Prelude.{◌↔◌, IsTrue};
 ghost use Rattle.space_sql_schema.specs.Within.{SameConnection, Within};
 ghost use Rattle.space_sql_select.specs.Reading.{Reads};
 ghost use Rattle.space_sql_load.specs.Showing.{ShowsSettings};
@@ -9,6 +9,7 @@ use space_sql_load::settings::settings_in;
 use sqlite::{Alter, Error, Row, Transaction};
 use std::alloc::Global;
 
+// Returns the rows of `availability`.
 fn read_settings<S: Alter>(tx: &mut Transaction<'_, S>) -> Result<Vec<Row>, Error>
     ensures same_reference { SameConnection tx.old tx.new }
     ensures reads { Within S.Store tx.old tx.new
@@ -17,7 +18,7 @@ fn read_settings<S: Alter>(tx: &mut Transaction<'_, S>) -> Result<Vec<Row>, Erro
     tx.query_all("SELECT uss, state, version FROM availability", &[])
 }
 
-/// Returns true if each row of `availability` is what a USS has set.
+/// Returns true if the rows of `availability` represent what USSs set.
 pub(crate) fn are_settings<S: Alter>(
     alloc: Global,
     tx: &mut Transaction<'_, S>,

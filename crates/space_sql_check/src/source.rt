@@ -1,4 +1,4 @@
-//! What is read in pieces, by a number in the first column that is shown.
+//! The rows that are read in pieces, by the number in their first column.
 ghost use Rattle.std.specs.Prelude.{◌≡◌};
 ghost use Rattle.space_sql_schema.specs.Within.{SameConnection, Within};
 ghost use Rattle.space_sql_select.specs.Reading.{Reads};
@@ -25,7 +25,7 @@ pub(crate) enum Source {
 
 impl Source {
     // Returns the text of the query for the rows with a number greater than the first parameter,
-    // and at most the second one.
+    // up to the second one.
     fn text_within(self) -> &'static str
         ensures { result.now ≡ within_text self }
     {
@@ -71,7 +71,7 @@ impl Source {
         }
     }
 
-    // Returns the text of the query for the other numbers, and those that are NULL.
+    // Returns the text of the query for the other numbers, and for NULL.
     fn text_outside(self) -> &'static str
         ensures { result.now ≡ outside_text self }
     {
@@ -126,7 +126,8 @@ pub(crate) fn query_within<S: Alter>(
     query(tx, source.text_within(), params![over, end])
 }
 
-/// Checks that each row has a number, greater than the least one of 64 bits.
+/// Returns an error if a row belongs to no piece: if its number is NULL, at most `i64::MIN`, or
+/// greater than `i64::MAX`, in the order of `sqlite`.
 pub(crate) fn check_none_outside<S: Alter>(
     tx: &mut Transaction<'_, S>,
     source: Source,

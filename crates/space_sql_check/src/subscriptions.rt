@@ -1,4 +1,4 @@
-//! The subscriptions of the tables, in pieces.
+//! The check of subscriptions in pieces.
 ghost use Rattle.std.specs.Prelude.{◌≡◌, ◌∷◌, IfOk, IfSome, IsTrue};
 ghost use Rattle.std.specs.Ordering.{int_cmp};
 ghost use Rattle.std.specs.declared.cmp.Ordering.TheVariants.{Less};
@@ -41,6 +41,7 @@ fn subs_within<S: Alter>(
     }
 }
 
+// Returns an error if a row of the two tables belongs to no piece.
 fn check_none_else<S: Alter>(tx: &mut Transaction<'_, S>) -> Result<(), Error>
     ensures same_reference { SameConnection tx.old tx.new }
     ensures reads { Within S.Store tx.old tx.new (Reads (λ db _. HasNoOtherSubs db)) result }
@@ -49,6 +50,7 @@ fn check_none_else<S: Alter>(tx: &mut Transaction<'_, S>) -> Result<(), Error>
     check_none_outside(tx, Source::SubCells)
 }
 
+// Returns the numbers and ids of all subscriptions, piece by piece, if the rows represent them.
 fn all_subs<S: Alter>(
     alloc: Global,
     tx: &mut Transaction<'_, S>,
@@ -75,7 +77,8 @@ fn all_subs<S: Alter>(
     Err(Error::QueryReturnedNoRows)
 }
 
-// Returns true if the first number is less than the others, and each of them than the next one.
+// Returns true if `first` is less than the first number of `rest`, and each number is less than the
+// next one.
 fn is_rising_from(first: i64, rest: &[Numbered]) -> bool
     ensures { IsTrue result
         → IsAscending (λ m n. int_cmp m n ≡ Less) (first ∷ nums_of rest.now) }
@@ -90,6 +93,7 @@ fn is_rising_from(first: i64, rest: &[Numbered]) -> bool
     true
 }
 
+// Returns true if each number is less than the next one.
 fn is_rising(numbers: &[Numbered]) -> bool
     ensures { IsTrue result → Rise int_cmp number_pair numbers.now }
 {
@@ -102,6 +106,8 @@ fn is_rising(numbers: &[Numbered]) -> bool
 /// Returns the numbers and ids of all subscriptions, in ascending order of numbers, if the rows of
 /// `subscription` and `subscription_cell` represent them, with serials and indexes up to the given
 /// serial.
+///
+/// Returns an error if the store fails, if memory runs out, or if a row belongs to no piece.
 pub(crate) fn check_subs<S: Alter>(
     alloc: Global,
     tx: &mut Transaction<'_, S>,

@@ -1,6 +1,6 @@
 -- Proofs that the check of tables that were created anew decides whether those of the old order are
 -- accepted.
-use Rattle.std.proofs.Common.{◌≡◌, ℕ, ℤ, pos, List, [], ◌∷◌, map, flat_map, Ok, Err, Result, refl, sym, ap, subst, ◌∙◌}
+use Rattle.std.proofs.Common.{◌≡◌, ℕ, ℤ, List, [], ◌∷◌, map, flat_map, Ok, Err, Result, refl, sym, ap, subst, ◌∙◌}
 use Rattle.std.specs.Prelude.{IsPermutation, Vec}
 use Rattle.std.specs.Global.{Global}
 use Rattle.std.specs.List.{AllByRecursion}
@@ -12,26 +12,22 @@ use Rattle.sqlite.specs.Order.{Row}
 use Rattle.sqlite.specs.Schema.{Schema}
 use Rattle.sqlite.specs.Tree.{Trees}
 use Rattle.entity_core.specs.Airspace.{Airspace, VersionedAvailability}
-use Rattle.space_rows.specs.declared.rows.SubRow.{SubRow}
-use Rattle.space_rows.specs.declared.rows.SubCellRow.{SubCellRow}
 use Rattle.space_rows.proofs.Chunks.{all_joined}
-use Rattle.space_sql_schema.specs.declared.format.Format.{Format}
-use Rattle.space_sql_schema.specs.declared.format.Format.TheVariants.{One, TwoUnindexed, Two, OldOne, OldTwoUnindexed, OldTwo}
-use Rattle.space_sql_schema.specs.Making.{HasMeta, HasRows, IsUpgraded}
-use Rattle.space_sql_schema.specs.Spelling.{AreFit, Group, IsStated, IsSubGroup, SpellsAs, SubGroup, availability_rows, availability_values, sub_values, sub_cell_values, meta_columns, sub_columns, five_columns, two_columns, three_columns}
+use Rattle.space_sql_schema.specs.declared.format.Format.TheVariants.{One, Two, OldOne, OldTwoUnindexed, OldTwo}
+use Rattle.space_sql_schema.specs.Making.{HasMeta, HasRows}
+use Rattle.space_sql_schema.specs.Spelling.{IsStated, IsSubGroup, SpellsAs, SubGroup, availability_values, sub_values, sub_cell_values, meta_columns, sub_columns, five_columns, two_columns, three_columns}
 use Rattle.space_sql_schema.specs.Tables.{first_schema, second_schema, old_first_schema, old_second_schema, old_unindexed_schema}
 use Rattle.space_sql_schema.proofs.Making.{none_apart}
 use Rattle.space_sql_schema.proofs.OneAirspace.{stated_of_values, stated_back}
 use Rattle.space_sql_schema.proofs.Upgraded.{HasMovedRows, spells_bare, spelt_bare, spelt_moved}
 use Rattle.space_sql_select.specs.AvailabilityRecord.{SaysSetting, stated_by}
-use Rattle.space_sql_select.specs.Meta.{IsOtherFormat}
-use Rattle.space_sql_select.specs.Rows.{IsRowOf, IsWrittenSub, IsWrittenSubCell, IsWrittenNaming, values_of_naming}
+use Rattle.space_sql_select.specs.Rows.{IsRowOf, IsWrittenSub, IsWrittenSubCell}
 use Rattle.space_sql_select.specs.declared.availability_record.AvailabilityRecord.{AvailabilityRecord}
 use Rattle.space_sql_load.proofs.Groups.{naming_list_of, namings_as_rows}
 use Rattle.space_sql_load.proofs.Written.{all_written, sub_cells_written, sub_written}
 use Rattle.space_sql_open.specs.FirstMeta.{SaysMeta}
 use Rattle.space_sql_open.specs.Opening.{UpgradesFormat, format_before}
-use Rattle.space_sql_open.specs.OldRows.{HasAll, HoldsAside, HoldsSettings, Takes, WantsAside, WantsCells, WantsNamings, WantsSettings, WantsSubs, IsWrittenRecord, record_values}
+use Rattle.space_sql_open.specs.OldRows.{HoldsAside, HoldsSettings, Takes, WantsAside, WantsCells, WantsNamings, WantsSettings, WantsSubs, IsWrittenRecord, record_values}
 use Rattle.space_sql_open.specs.Relaying.{HasListed, MovesFirst, MovesSecond, TakesFirst, TakesSecond, listed, nothing, with_settings}
 use Rattle.space_sql_open.specs.Upgrading.{Judges}
 use Rattle.space_sql_open.specs.declared.old_format.OldFormat.{OldFormat}

@@ -10,7 +10,7 @@ use Rattle.space_sql_schema.specs.Spelling.{SpellsAs, meta_columns}
 use Rattle.space_sql_schema.specs.Tables.{first_schema, unindexed_schema, second_schema}
 use Rattle.space_sql_schema.proofs.Upgraded.{spells_indexed, spells_upgraded, spelt_before, spelt_unindexed}
 use Rattle.space_sql_open.specs.FirstMeta.{SaysMeta}
-use Rattle.space_sql_open.specs.Upgrading.{Indexes, Judges, Rewrites}
+use Rattle.space_sql_open.specs.Upgrading.{Judges, Rewrites}
 use Rattle.space_sql_open.specs.Opening.{UpgradesFormat}
 use Rattle.space_sql_open.specs.declared.old_format.OldFormat.TheVariants as old_format
 use Rattle.space_sql_open.specs.declared.open_fault.OpenFault.{OpenFault}

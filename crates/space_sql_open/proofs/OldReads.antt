@@ -2,7 +2,6 @@
 use Rattle.std.proofs.Common.{◌≡◌, ◌⊎◌, inl, inr, ℕ, List, [], ◌∷◌, map, Ok, Err, Result, IfOk, sym, subst, ◌∙◌}
 use Rattle.std.specs.Prelude.{IfErr, IsPermutation, Vec}
 use Rattle.std.specs.Global.{Global}
-use Rattle.std.specs.List.{AllByRecursion}
 use Rattle.std.proofs.lemmas.List.Elements.{All-from_recursion, recursion_from_All}
 use Rattle.std.proofs.lemmas.List.Sorted.{IsPermutation-trans, All-permutation}
 use Rattle.sqlite.specs.declared.types.Value.TheVariants.{Null}
@@ -21,10 +20,9 @@ use Rattle.space_sql_select.proofs.Means.{cols}
 use Rattle.space_sql_select.proofs.Readings.{query_kept, shown_same}
 use Rattle.space_sql_select.proofs.Selected.{selects_all}
 use Rattle.space_sql_select.proofs.Shown.{all_pass}
-use Rattle.space_sql_select.specs.Rows.{AreRowsOf}
 use Rattle.space_sql_load.proofs.Junction.{swapped_back}
 use Rattle.space_sql_open.specs.Inside.{Inside}
-use Rattle.space_sql_open.specs.OldRows.{AreAll, HasAll, IsTyped, Lacks, ReadsAll, Takes}
+use Rattle.space_sql_open.specs.OldRows.{AreAll, HasAll, IsTyped, Lacks, Takes}
 use Rattle.space_sql_open.specs.declared.open_fault.OpenFault.{OpenFault}
 use Rattle.space_sql_open.specs.declared.open_fault.OpenFault.TheVariants.{NotADss, Version, Store}
 use Rattle.space_sql_open.proofs.Insides.{inside_as, inside_then}

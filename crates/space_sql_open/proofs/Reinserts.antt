@@ -1,5 +1,5 @@
 -- Proofs that a row is inserted into a table that was created anew.
-use Rattle.std.proofs.Common.{◌≡◌, ℕ, List, [], ◌∷◌, Ok, Err, Result, OnOk, refl, sym, ap, subst, ◌∙◌}
+use Rattle.std.proofs.Common.{◌≡◌, ℕ, [], ◌∷◌, Ok, Err, Result, OnOk, refl, sym, ap, subst, ◌∙◌}
 use Rattle.sqlite.specs.Effect.{Database}
 use Rattle.sqlite.specs.Tree.{Trees}
 use Rattle.sqlite.specs.declared.error.Error.{Error}
@@ -14,7 +14,6 @@ use Rattle.space_sql_select.specs.declared.availability_record.AvailabilityRecor
 use Rattle.space_sql_select.specs.declared.sub_rows.NamingRow.{NamingRow}
 use Rattle.space_sql_write.specs.Layout.{AreRows}
 use Rattle.space_sql_write.proofs.Texts.{insert_naming_text, insert_sub_row_text, insert_sub_cell_text, insert_availability_text}
-use Rattle.space_sql_write.proofs.Relaying.{OthersStand}
 use Rattle.space_sql_write.proofs.Joining.{one_more}
 use Rattle.space_sql_write.proofs.Inserting.{joins_sub_row, joins_sub_cell, joins_naming, joins_availability, stored_sub_row, stored_sub_cell, stored_naming, stored_availability}
 use Rattle.space_sql_open.specs.OldRows.{record_values}

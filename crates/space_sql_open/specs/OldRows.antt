@@ -27,7 +27,8 @@ abbrev pub IsWrittenRecord : AvailabilityRecord → Type 0
 IsWrittenRecord s = IsStated (stated_by s)
 
 -- Holds if the rows of a table are those of typed rows, in any order.
-pub record HasAll {X : Type 0} (values : X → Row) (IsWritten : X → Type 0) (columns : Row → Row) (rows : List Row) : Type 0 where
+pub record HasAll {X : Type 0} (values : X → Row) (IsWritten : X → Type 0) (columns : Row → Row)
+    (rows : List Row) : Type 0 where
   pub typed : List X
   pub written : AllByRecursion IsWritten typed
   pub same : IsPermutation (map values typed) (map columns rows)
@@ -96,7 +97,8 @@ HoldsSettings trees v = AreAll record_values three_columns (trees old_availabili
 
 -- ---- taking rows out of several tables
 
-abbrev pub Both : {X Y : Type 0} → (Trees → X → Type 0) → (Trees → Y → Type 0) → Trees → X × Y → Type 0
+abbrev pub Both : {X Y : Type 0} → (Trees → X → Type 0) → (Trees → Y → Type 0)
+    → Trees → X × Y → Type 0
 Both P Q trees both = P trees both.0 × Q trees both.1
 
 abbrev pub WantsSubTables : Trees → Type 0

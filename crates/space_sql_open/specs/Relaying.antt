@@ -119,7 +119,8 @@ RelaysFormat settings old new =
 
 -- Holds if `meta` says format 1, and these are the rows of `availability`. The database is
 -- unchanged.
-abbrev pub TakesFirst : Database → Database → Result (Vec AvailabilityRecord Global) OpenFault → Type 0
+abbrev pub TakesFirst : Database → Database → Result (Vec AvailabilityRecord Global) OpenFault
+    → Type 0
 TakesFirst old new (Ok settings) =
     ((serial : ℤ) × HasMeta 1 serial (old.trees meta_tree))
     × HoldsSettings old.trees settings × (new ≡ old)

@@ -167,7 +167,8 @@ fn take_namings<S: Alter>(
     }
 }
 
-/// Returns the rows of `availability`, within an open transaction, if each one is what a USS has set.
+/// Returns the rows of `availability`, within an open transaction, if each one is what a USS has
+/// set.
 pub(crate) fn take_settings<S: Alter>(
     alloc: Global,
     tx: &mut Transaction<'_, S>,

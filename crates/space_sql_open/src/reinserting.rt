@@ -109,7 +109,8 @@ impl Reinserted for NamingRow {
 
     ghost none = { λ l i. record l { namings = append-nil l.namings i } };
 
-    ghost more = { λ rows row l i. record l { namings = append_assoc l.namings rows (row ∷ []) i } };
+    ghost more = { λ rows row l i.
+        record l { namings = append_assoc l.namings rows (row ∷ []) i } };
 
     fn reinsert<S: Alter>(&self, tx: &mut Transaction<'_, S>) -> Result<usize, Error> {
         tx.execute(

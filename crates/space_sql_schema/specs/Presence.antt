@@ -54,7 +54,8 @@ is_in_place own table = is_named own.name table && (table.tree == own.tree)
 
 -- Returns true if each table is one of format 2, and has its tree in the new order.
 abbrev pub are_in_place : List Table → Bool
-are_in_place tables = list_all (λ table. list_any (λ own. is_in_place own table) second_schema.tables) tables
+are_in_place tables =
+    list_all (λ table. list_any (λ own. is_in_place own table) second_schema.tables) tables
 
 -- Returns true if the table has the name of the expected one, and as many columns.
 abbrev pub is_like : Table → Table → Bool
@@ -62,12 +63,14 @@ is_like own table = is_named own.name table && (length table.columns == length o
 
 -- Returns true if each table is one of format 2, and has no further column.
 abbrev pub are_ours : List Table → Bool
-are_ours tables = list_all (λ table. list_any (λ own. is_like own table) second_schema.tables) tables
+are_ours tables =
+    list_all (λ table. list_any (λ own. is_like own table) second_schema.tables) tables
 
 -- Returns true if there is nothing beside the tables and indexes of the format, by their number.
 abbrev pub is_alone : Format → Schema → Bool
 is_alone format schema =
-    are_ours schema.tables && ((length schema.indexes == length (schema_of format).indexes) && (length schema.views == 0))
+    are_ours schema.tables
+    && ((length schema.indexes == length (schema_of format).indexes) && (length schema.views == 0))
 
 -- Returns true if the tables up to `cell` are there, with their trees.
 abbrev pub is_front_in_place : List Table → Bool

@@ -196,8 +196,8 @@ later_rows OldOne db tree = []
 later_rows OldTwoUnindexed db tree = db.trees (old_tree tree)
 later_rows OldTwo db tree = db.trees (old_tree tree)
 
--- Holds if the rowids of `availability` or `subscription_cell` fit the format. In the old order they
--- do not matter, since an upgrade inserts the rows anew.
+-- Holds if the rowids of `availability` or `subscription_cell` fit the format. In the old order
+-- they do not matter, since an upgrade inserts the rows anew.
 abbrev pub AreFit : Format → List Row → Type 0
 AreFit One rows = AreApart rows
 AreFit TwoUnindexed rows = AreApart rows

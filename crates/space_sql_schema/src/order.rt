@@ -1,7 +1,7 @@
 //! Tables of the old order, dropped and created anew in the new order.
 //!
-//! The number of a new tree is one above the largest, and a dropped tree leaves a gap. So the tables
-//! and indexes after the keys of `cell` are all dropped before the first one is created.
+//! The number of a new tree is one above the largest, and a dropped tree leaves a gap. So the
+//! tables and indexes after the keys of `cell` are all dropped before the first one is created.
 ghost use Rattle.space_sql_schema.specs.Making.{AddsToCells, KeepsTables, LaysAnew, Steps};
 ghost use Rattle.space_sql_schema.specs.Tables.{schema_4, old_first_schema, old_unindexed_schema, old_second_schema, old_schema_4, old_schema_6, old_schema_7};
 ghost use Rattle.space_sql_schema.specs.Within.{SameConnection, Within};

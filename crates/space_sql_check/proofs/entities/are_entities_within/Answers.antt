@@ -1,4 +1,4 @@
-use Rattle.std.proofs.Common.{◌≡◌, ◌∙◌, ◌↔◌, ℕ, ℤ, List, Option, Some, None, Bool, true, false, IsTrue, refl, subst, sym, to_z, of_z, w64, rules}
+use Rattle.std.proofs.Common.{◌≡◌, ◌↔◌, ℕ, ℤ, List, Option, Some, None, Bool, true, false, IsTrue, refl, subst, to_z, of_z, w64, rules}
 use Rattle.std.specs.Prelude.{MatchOption, is_some}
 use Rattle.sqlite_trees.specs.Tree.{IsAscending}
 use Rattle.sqlite.specs.Effect.{Database, IsDatabase}

@@ -1,4 +1,4 @@
-use Rattle.std.proofs.Common.{◌≡◌, ◌≤ℤ◌, ◌∙◌, ◌↔◌, ℤ, true, false, IsTrue, Ok, refl, ap, subst, sym, to_z, of_z, w64, rules, arith}
+use Rattle.std.proofs.Common.{◌≡◌, ◌∙◌, ◌↔◌, ℤ, true, false, IsTrue, Ok, refl, ap, subst, sym, to_z, of_z, w64, rules, arith}
 use Rattle.std.proofs.lemmas.Int.{ints}
 use Rattle.sqlite.specs.Held.{state}
 use Rattle.space_sql_select.proofs.Readings.{reads_then}

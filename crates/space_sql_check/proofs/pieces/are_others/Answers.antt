@@ -1,4 +1,4 @@
-use Rattle.std.proofs.Common.{◌≡◌, ◌↔◌, IsTrue}
+use Rattle.std.proofs.Common.{◌↔◌, IsTrue}
 use Rattle.sqlite.specs.Held.{state}
 use Rattle.space_sql_select.proofs.Readings.{reads_then}
 use Rattle.space_sql_lookup.proofs.Still.{reads_weaker}

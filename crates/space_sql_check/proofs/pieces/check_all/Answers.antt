@@ -1,12 +1,11 @@
-use Rattle.std.proofs.Common.{◌≡◌, ◌≢◌, ◌≤◌, ◌∙◌, ◌↔◌, List, [], ◌∷◌, ℕ, Bool, false, IsTrue, Ok, sym, subst}
+use Rattle.std.proofs.Common.{◌≡◌, ◌≢◌, ◌≤◌, ◌∙◌, ◌↔◌, List, [], ◌∷◌, ℕ, Bool, false, IsTrue, sym, subst}
 use Rattle.std.specs.Prelude.{IsPermutation}
 use Rattle.sqlite.specs.Order.{Row}
 use Rattle.sqlite.proofs.Callers.{one_permutation}
 use Rattle.entity_core.specs.Serial.{max_serial}
 use Rattle.space_sql_schema.specs.Spelling.{meta_values}
-use Rattle.sqlite.specs.Effect.{Database, IsDatabase}
+use Rattle.sqlite.specs.Effect.{IsDatabase}
 use Rattle.sqlite.specs.Held.{state}
-use Rattle.space_sql_schema.specs.Tables.{dss_schema}
 use Rattle.space_sql_select.specs.Meta.{ShowsMeta, AreOtherFormat}
 use Rattle.space_sql_select.proofs.Metas.{other_database, other_rows, not_other}
 use Rattle.space_sql_select.proofs.Readings.{reads_then}

@@ -1,4 +1,4 @@
-use Rattle.std.proofs.Common.{◌≡◌, ◌∙◌, ◌↔◌, List, Option, Some, None, Bool, true, false, IsTrue, refl, subst, sym}
+use Rattle.std.proofs.Common.{◌≡◌, ◌↔◌, List, Option, Some, None, Bool, true, false, IsTrue, refl, subst}
 use Rattle.std.specs.Prelude.{MatchOption, is_some}
 use Rattle.std.specs.FinMap.{empty}
 use Rattle.sqlite.specs.Held.{state}

@@ -2,7 +2,6 @@ use Rattle.std.proofs.Common.{◌≡◌, ◌∙◌, [], ◌∷◌, length, ℕ, 
 use Rattle.std.proofs.Math.Dec.{eqb-suc-zero}
 use Rattle.std.specs.Prelude.{◌==◌}
 use Rattle.sqlite.specs.Held.{state}
-use Rattle.sqlite.specs.Order.{Row}
 use Rattle.sqlite.specs.declared.types.Value.TheVariants.{Int}
 use Rattle.space_sql_select.specs.Selecting.{Answers, IsSelect}
 use Rattle.space_sql_select.proofs.Readings.{reads_asked}
@@ -11,7 +10,6 @@ use Rattle.space_sql_check.specs.Parts.{HasNoneOutside, least, greatest}
 use Rattle.space_sql_check.proofs.Sequences.{reads_so}
 use Rattle.space_sql_check.proofs.Shown.{outside_select, outside_shown}
 use Rattle.space_sql_check.proofs.source.check_none_outside.Goals as goal
-
 
 is_none : {X : Type 0} (xs : List X) (n : ℕ) (b : Bool) → n ≡ length xs → b ≡ (n == 0) → b ≡ true → xs ≡ []
 is_none [] n b long is t = refl

@@ -1,10 +1,9 @@
-use Rattle.std.proofs.Common.{◌≡◌, ◌≤ℤ◌, ◌∙◌, ◌++◌, [], ℕ, ℤ, List, Option, Some, None, Ok, arith, refl, ap, subst, sym, pos, to_z, of_z, w64, rules}
+use Rattle.std.proofs.Common.{◌≡◌, ◌∙◌, ◌++◌, ℤ, Some, None, Ok, arith, refl, ap, subst, sym, to_z, of_z, w64, rules}
 use Rattle.std.proofs.lemmas.Int.{ints}
-use Rattle.sqlite.specs.Effect.{Database, IsDatabase}
+use Rattle.sqlite.specs.Effect.{IsDatabase}
 use Rattle.sqlite.specs.Held.{state}
 use Rattle.space_sql_select.proofs.Readings.{reads_then}
 use Rattle.space_sql_lookup.proofs.Still.{reads_still}
-use Rattle.space_sql_load.specs.declared.naming.Numbered.{Numbered}
 use Rattle.space_sql_check.specs.Parts.{FindsSubs, HasSubs, HasNoOtherSubs, any_value, is_within, least, greatest}
 use Rattle.space_sql_check.proofs.Loops.{subs_begun, subs_more, subs_all}
 use Rattle.space_sql_check.proofs.Parting.{subs_part}

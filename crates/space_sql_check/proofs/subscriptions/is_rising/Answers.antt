@@ -1,10 +1,7 @@
-use Rattle.std.proofs.Common.{◌≡◌, ℤ, ◌∷◌, subst, sym, to_z, of_z, w64, rules, List, Less, int_cmp}
-use Rattle.sqlite_trees.specs.Tree.{IsAscending}
-use Rattle.std.specs.Prelude.{T}
+use Rattle.std.proofs.Common.{◌≡◌, ◌∷◌, subst, sym, to_z, of_z, w64, rules, List, int_cmp}
 use Rattle.entity_maps.specs.Sorted.{Rise}
 use Rattle.space_sql_load.specs.declared.naming.Numbered.{Numbered}
 use Rattle.space_sql_load.specs.Gathering.{number_pair}
-use Rattle.space_sql_check.specs.Parts.{nums_of}
 use Rattle.space_sql_check.proofs.Loops.{numbers_rise}
 use Rattle.space_sql_check.proofs.subscriptions.is_rising.Goals as goal
 

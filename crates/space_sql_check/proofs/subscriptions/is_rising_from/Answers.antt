@@ -1,4 +1,4 @@
-use Rattle.std.proofs.Common.{◌≡◌, ◌∙◌, ◌+◌, ◌∷◌, [], List, sym, ap, ℕ, ℤ, drop, get_or, pos, to_z, of_z, w64, rules, arith, Less, int_cmp}
+use Rattle.std.proofs.Common.{◌≡◌, ◌∙◌, ◌+◌, ◌∷◌, sym, ap, ℕ, drop, to_z, of_z, w64, rules, arith, Less, int_cmp}
 use Rattle.std.proofs.lemmas.Int.{ints}
 use Rattle.space_rows.proofs.ReadSoFar.{front_at}
 use Rattle.space_sql_load.specs.declared.naming.Numbered.{Numbered}

@@ -1,4 +1,4 @@
-use Rattle.std.proofs.Common.{◌≡◌, ℕ, ℤ, List, refl, subst, sym, to_z, of_z, w64, rules, Some, Ok}
+use Rattle.std.proofs.Common.{◌≡◌, to_z, of_z, w64, rules}
 use Rattle.sqlite.specs.Effect.{IsDatabase}
 use Rattle.sqlite.specs.Held.{state}
 use Rattle.space_sql_select.proofs.Readings.{reads_then}

@@ -1,5 +1,4 @@
-use Rattle.std.proofs.Common.{Ok, ap, ◌∙◌}
-use Rattle.sqlite.specs.Effect.{Database}
+use Rattle.std.proofs.Common.{Ok}
 use Rattle.sqlite.specs.Held.{state}
 use Rattle.space_sql_schema.specs.Tables.{dss_schema, old_unindexed_schema}
 use Rattle.space_sql_open.specs.Opening.{UpgradesFormat}

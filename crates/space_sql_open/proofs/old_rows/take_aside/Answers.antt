@@ -1,4 +1,3 @@
-use Rattle.std.proofs.Common.{Ok, Err}
 use Rattle.sqlite.specs.Held.{state}
 use Rattle.space_sql_schema.specs.Tables.{old_unindexed_schema}
 use Rattle.space_sql_open.specs.OldRows.{HoldsAside, HoldsOthers, HoldsSubTables, WantsAside, WantsOthers, WantsSubTables}
