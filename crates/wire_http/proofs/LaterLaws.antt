@@ -1,5 +1,6 @@
 -- Lemmas: requests that are answered later.
-use Rattle.std.proofs.Common.{◌≡◌, ℕ, ◌+◌, ◌-◌, ◌≤◌, List, [], ◌++◌, length, take, drop, map, Bool, cond, Option, Some, refl, sym, ap, subst, ◌∙◌, arith}
+use Rattle.std.proofs.Common.{◌≡◌, ℕ, ◌+◌, ◌-◌, ◌<◌, ◌≤◌, List, [], ◌++◌, length, take, drop, map, Bool, cond, Option, Some, refl, sym, ap, subst, ◌∙◌, arith}
+use Rattle.std.specs.List.{concat}
 use Rattle.std.proofs.lemmas.List.{append-nil, drop-drop}
 use Rattle.httparse.specs.declared.spans.HeaderSpan.{HeaderSpan}
 use Rattle.httparse.specs.declared.spans.RequestSpans.{RequestSpans}
@@ -15,12 +16,15 @@ use Rattle.wire_http.specs.BufferState.{HasNoRequest, IsHeld, MayCome}
 use Rattle.wire_http.specs.Later.{AreParts, IsAppended, OneParts, info_of}
 use Rattle.wire_http.specs.Next.{body_at}
 use Rattle.wire_http.specs.RequestInfo.{IsEntityNamed, LeadsTo, requested_kind}
-use Rattle.wire_http.specs.Stop.{StopsAs}
+use Rattle.wire_http.specs.Stop.{Breaks, StopsAs}
 use Rattle.wire_http.specs.Wire.{IsRequest, left_after}
 use Rattle.wire_http.specs.declared.buffered.BufferState.TheVariants.{Gives}
 use Rattle.wire_http.specs.declared.connection.later.Response.{Response}
 use Rattle.wire_http.specs.declared.connection.later.Response.TheVariants.{Replied, Unreplied}
 use Rattle.wire_http.specs.declared.end.End.{End}
+use Rattle.wire_http.specs.declared.end.End.TheVariants as ends
+use Rattle.wire_http.specs.Text.{end_texts}
+use Rattle.wire_head.specs.declared.rule.WireRule.{WireRule}
 use Rattle.wire_http.specs.declared.explaining.Explaining.TheVariants.{Off, On}
 use Rattle.wire_http.specs.declared.request.Next.TheVariants.{Request}
 use Rattle.wire_http.specs.declared.request_info.Outcome.{Outcome}
@@ -102,3 +106,11 @@ one_parts callers rest parts has head body request =
     let one = one_request rest has.head head has.body body has.request request in
     subst (λ (b : List ℕ). AreParts callers head b parts) (sym one.1)
     (subst (λ (h : RequestHead). AreParts callers h has.body parts) (sym one.0) has.parts_are)
+
+-- An end with a text is by a rule that the bytes break.
+pub breaks_some : (bytes : List ℕ) (over : Bool) (end : End) → 0 < length (concat (end_texts end)) → ((later : List ℕ) → MayCome over later → StopsAs (bytes ++ later) end)
+    → (rule : WireRule) × ((later : List ℕ) → MayCome over later → Breaks (bytes ++ later) rule)
+breaks_some bytes over (ends.Wire rule) some stops = (rule, stops)
+breaks_some bytes over ends.End some stops = absurd (omega (arith, some))
+breaks_some bytes over ends.Cut some stops = absurd (omega (arith, some))
+breaks_some bytes over ends.Close some stops = absurd (omega (arith, some))
