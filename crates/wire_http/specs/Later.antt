@@ -102,13 +102,20 @@ pub record FindsNone (c c' : Connection) : Type 0 where
   pub same : IsSame c c'
   pub noted : noted_of c' ≡ noted_of c
 
+-- Holds if the connection answered its next request, or there is none.
+abbrev pub AnswersOrNone : Connection → Connection → (supplier : Option (List ℕ)) → Outcome
+    → (Writes : Option Endpoint → Bool → Type 0) → Step → Type 0
+AnswersOrNone c c' supplier outcome Writes steps.NeedsInput = FindsNone c c'
+AnswersOrNone c c' supplier outcome Writes (steps.Answered n) =
+    AnswersNext c c' supplier outcome n Writes
+AnswersOrNone c c' supplier outcome Writes (steps.Ended end) = ⊥
+
 -- Holds if the connection answered its next request with this reply, or there is none.
-abbrev pub IsReplied : Explaining → Reply → Option (List ℕ) → Connection → Connection → Step → Type 0
-IsReplied explaining reply supplier c c' steps.NeedsInput = FindsNone c c'
-IsReplied explaining reply supplier c c' (steps.Answered n) =
-    AnswersNext c c' supplier (outcome_of reply) n (λ endpoint closing.
+abbrev pub IsReplied : Explaining → Reply → (supplier : Option (List ℕ)) → Connection → Connection
+    → Step → Type 0
+IsReplied explaining reply supplier c c' =
+    AnswersOrNone c c' supplier (outcome_of reply) (λ endpoint closing.
     IsWritten explaining (Some (output_of c)) (Some (output_of c')) endpoint closing reply)
-IsReplied explaining reply supplier c c' (steps.Ended end) = ⊥
 
 -- The recorded outcome of a request without a reply.
 abbrev pub outcome_without : Unavailable → Outcome
@@ -116,12 +123,11 @@ outcome_without unavailable.Unreachable = outcomes.Stopped
 outcome_without unavailable.Unknown = outcomes.Fault
 
 -- Holds if the connection answered its next request with status 503, or there is none.
-abbrev pub IsUnreplied : Unavailable → Option (List ℕ) → Connection → Connection → Step → Type 0
-IsUnreplied reason supplier c c' steps.NeedsInput = FindsNone c c'
-IsUnreplied reason supplier c c' (steps.Answered n) =
-    AnswersNext c c' supplier (outcome_without reason) n (λ endpoint closing.
+abbrev pub IsUnreplied : Unavailable → (supplier : Option (List ℕ)) → Connection → Connection → Step
+    → Type 0
+IsUnreplied reason supplier c c' =
+    AnswersOrNone c c' supplier (outcome_without reason) (λ endpoint closing.
     output_of c' ≡ output_of c ++ unavailable_text closing reason)
-IsUnreplied reason supplier c c' (steps.Ended end) = ⊥
 
 -- Holds if memory ran out: nothing was appended to the output, the buffer is unchanged, and no more
 -- requests are answered.
@@ -189,9 +195,8 @@ outcome_in (responses.Replied explaining moment reply) = outcome_of reply.now
 outcome_in (responses.Unreplied reason) = outcome_without reason
 
 -- Holds if the connection answered its next request with this response, or there is none.
-abbrev pub IsResponded : Response → Option (List ℕ) → Connection → Connection → Step → Type 0
-IsResponded response supplier c c' steps.NeedsInput = FindsNone c c'
-IsResponded response supplier c c' (steps.Answered n) =
-    AnswersNext c c' supplier (outcome_in response) n (λ endpoint closing.
+abbrev pub IsResponded : Response → (supplier : Option (List ℕ)) → Connection → Connection → Step
+    → Type 0
+IsResponded response supplier c c' =
+    AnswersOrNone c c' supplier (outcome_in response) (λ endpoint closing.
     IsAppended response (output_of c) (output_of c') endpoint closing)
-IsResponded response supplier c c' (steps.Ended end) = ⊥
