@@ -1,5 +1,6 @@
 -- Lemmas: requests that are answered later.
 use Rattle.std.proofs.Common.{◌≡◌, ℕ, ◌+◌, ◌-◌, ◌<◌, ◌≤◌, List, [], ◌++◌, length, take, drop, map, Bool, cond, Option, Some, refl, sym, ap, subst, ◌∙◌, arith}
+use Rattle.std.specs.Prelude.{OnOk, Result}
 use Rattle.std.specs.List.{concat}
 use Rattle.std.proofs.lemmas.List.{append-nil, drop-drop}
 use Rattle.httparse.specs.declared.spans.HeaderSpan.{HeaderSpan}
@@ -7,13 +8,14 @@ use Rattle.httparse.specs.declared.spans.RequestSpans.{RequestSpans}
 use Rattle.httparse.specs.Grammar.{RequestHead, print_request}
 use Rattle.httparse.specs.Spans.{header_bytes, span_bytes}
 use Rattle.policy_core.specs.declared.call.OpKind.{OpKind}
+use Rattle.token_conf.specs.TokenFile.{Callers}
 use Rattle.wire_head.specs.Close.{closes_by}
 use Rattle.wire_head.specs.FinalHead.{Covers}
 use Rattle.wire_head.specs.Rest.{after}
 use Rattle.wire_head.specs.Target.{path_of}
 use Rattle.wire_route.specs.declared.endpoint.Endpoint.{Endpoint}
 use Rattle.wire_http.specs.BufferState.{HasNoRequest, IsHeld, MayCome}
-use Rattle.wire_http.specs.Later.{AreParts, IsAppended, OneParts, info_of}
+use Rattle.wire_http.specs.Later.{AreParts, HasParts, IsAppended, OneParts, info_of}
 use Rattle.wire_http.specs.Next.{body_at}
 use Rattle.wire_http.specs.RequestInfo.{IsEntityNamed, LeadsTo, requested_kind}
 use Rattle.wire_http.specs.Stop.{Breaks, StopsAs}
@@ -29,6 +31,7 @@ use Rattle.wire_http.specs.declared.explaining.Explaining.TheVariants.{Off, On}
 use Rattle.wire_http.specs.declared.request.Next.TheVariants.{Request}
 use Rattle.wire_http.specs.declared.request_info.Outcome.{Outcome}
 use Rattle.wire_http.specs.declared.request_info.RequestInfo.{RequestInfo}
+use Rattle.wire_http.specs.declared.request_parts.RequestParts.{RequestParts}
 use Rattle.wire_http.proofs.CallUnique.{one_request}
 use Rattle.wire_http.proofs.NextLaws.{body_size}
 use Rattle.wire_http.proofs.StepLaws.{unsent_more}
@@ -40,6 +43,19 @@ pub request_here : (bytes : List ℕ) (over : Bool) (fields : List HeaderSpan) (
 request_here bytes over fields spans size held =
     let found = held [] (λ _. refl) in
     (found.0, subst (λ (v : List ℕ). IsRequest v found.0 (body_at bytes spans.len size)) (append-nil bytes) (found.1 []), found.2)
+
+-- The parts of the request that was found.
+pub parts_here : (callers : Callers) (bytes at : List ℕ) (over : Bool) (fields : List HeaderSpan) (spans : RequestSpans) (size : ℕ) (parts : RequestParts) → at ≡ bytes
+    → IsHeld bytes over fields (Gives (Request spans size))
+    → ((h : RequestHead) → Covers at fields spans h → AreParts callers h (body_at at spans.len size) parts) → HasParts callers bytes parts
+parts_here callers bytes at over fields spans size parts e held are =
+    let here = request_here bytes over fields spans size held in
+    record {
+      head = here.0;
+      body = body_at bytes spans.len size;
+      request = here.1;
+      parts_are = subst (λ (v : List ℕ). Covers v fields spans here.0 → AreParts callers here.0 (body_at v spans.len size) parts) e (are here.0) here.2;
+    }
 
 -- No request is complete if the bytes stop the stream.
 pub none_stops : (bytes : List ℕ) (over : Bool) (end : End) → ((later : List ℕ) → MayCome over later → StopsAs (bytes ++ later) end) → HasNoRequest bytes
@@ -93,6 +109,10 @@ pub appended_unsent : (response : Response) (sent : ℕ) (p q : List ℕ) (endpo
 appended_unsent (Replied Off moment reply) sent p q endpoint closing fits w = unsent_more sent p q _ fits w
 appended_unsent (Replied On moment reply) sent p q endpoint closing fits w = (w.0, unsent_more sent p q _ fits w.1)
 appended_unsent (Unreplied reason) sent p q endpoint closing fits w = unsent_more sent p q _ fits w
+
+pub appended_as : {X E : Type 0} (r : Result X E) (response other : Response) (p q : List ℕ) (endpoint : Option Endpoint) (closing : Bool) → response ≡ other
+    → OnOk r (IsAppended other p q endpoint closing) → OnOk r (IsAppended response p q endpoint closing)
+appended_as r response other p q endpoint closing e h = subst (λ (v : Response). OnOk r (IsAppended v p q endpoint closing)) (sym e) h
 
 pub appended_at : (response : Response) (p q r : List ℕ) (endpoint : Option Endpoint) (closing : Bool) → r ≡ q → IsAppended response p q endpoint closing → IsAppended response p r endpoint closing
 appended_at response p q r endpoint closing e w = subst (λ (v : List ℕ). IsAppended response p v endpoint closing) (sym e) w

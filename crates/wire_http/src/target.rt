@@ -1,4 +1,6 @@
 //! What the path and the method of a request name.
+ghost use Rattle.std.specs.Prelude.{◌≡◌};
+ghost use Rattle.wire_http.specs.RequestInfo.{IsEntityNamed, LeadsTo, requested_kind};
 ghost use Rattle.wire_http.specs.Received.{IsKindIn, IsNamedIn, IsReceived, LeadsIn};
 
 use crate::call::{Received, entity_named};
@@ -15,6 +17,33 @@ pub(crate) struct RequestTarget {
     pub(crate) endpoint: Option<Endpoint>,
     pub(crate) kind: Option<OpKind>,
     pub(crate) entity: Option<EntityId>,
+}
+
+// Returns what a path and a method name.
+fn target_at(routes: &Routes, path: &str, method: &[u8]) -> RequestTarget
+    ensures leads { LeadsTo path.now result.endpoint }
+    ensures kind { result.kind ≡ requested_kind result.endpoint method.now }
+    ensures entity { IsEntityNamed path.now method.now result.endpoint result.entity }
+{
+    let Some(Route { endpoint, words }) = routes.find(path) else {
+        return RequestTarget {
+            endpoint: None,
+            kind: None,
+            entity: None,
+        };
+    };
+    let Some(kind) = endpoint.kind(method) else {
+        return RequestTarget {
+            endpoint: Some(endpoint),
+            kind: None,
+            entity: None,
+        };
+    };
+    RequestTarget {
+        endpoint: Some(endpoint),
+        kind: Some(kind),
+        entity: entity_named(kind, &words),
+    }
 }
 
 /// Returns what the path and the method of a request name. Allocates nothing.
@@ -34,21 +63,5 @@ pub(crate) fn find_target(routes: &Routes, received: Received<'_>) -> RequestTar
         unreachable!();
     };
     let path = path_of(target);
-    let Some(Route { endpoint, words }) = routes.find(path) else {
-        return RequestTarget {
-            endpoint: None,
-            kind: None,
-            entity: None,
-        };
-    };
-    let kind = endpoint.kind(spans.method.of(buffer));
-    let entity = match kind {
-        Some(kind) => entity_named(kind, &words),
-        None => None,
-    };
-    RequestTarget {
-        endpoint: Some(endpoint),
-        kind,
-        entity,
-    }
+    target_at(routes, path, spans.method.of(buffer))
 }

@@ -1,12 +1,14 @@
 //! Requests that a connection answers later. Between a request and its response the caller may do
 //! anything.
-ghost use Rattle.std.specs.Prelude.{◌≡◌, ◌<◌, ◌≤◌, IfOk, OnOk, OnErr, length};
+ghost use Rattle.std.specs.Prelude.{◌≡◌, ◌<◌, ◌≤◌, ◌++◌, IfOk, OnOk, OnErr, Some, length};
 ghost use Rattle.std.specs.Prelude.{vec_len, vec_capacity};
 ghost use Rattle.token_conf.specs.TokenFile.{callers_of};
 ghost use Rattle.wire_http.specs.BufferState.{BufferedFits, IsHeld, IsLight};
 ghost use Rattle.wire_http.specs.Later.{AreParts, IsAppended, outcome_in};
 ghost use Rattle.wire_http.specs.Next.{NextFits, body_at};
+ghost use Rattle.wire_http.specs.Notes.{IsWritten};
 ghost use Rattle.wire_http.specs.Received.{IsReceived};
+ghost use Rattle.wire_http.specs.Text.{unavailable_text};
 ghost use Rattle.wire_head.specs.FinalHead.{Covers};
 ghost use Rattle.httparse.specs.Grammar.{RequestHead};
 
@@ -73,6 +75,57 @@ fn parts_of<'c>(
     }
 }
 
+// Appends the response to a reply to the output. If memory runs out, appends nothing.
+fn replied_behind(
+    alloc: Global,
+    output: &mut Vec<u8>,
+    routes: &Routes,
+    received: Received<'_>,
+    target: RequestTarget,
+    closing: bool,
+    explaining: Explaining,
+    moment: u64,
+    reply: &Reply,
+) -> Result<(), AllocError>
+    requires received { IsReceived received }
+    requires light { IsLight (vec_len output.old) (vec_capacity output.old) }
+    ensures whole { OnOk result (IsWritten explaining
+        (Some output.old.items) (Some output.new.items) target.endpoint closing reply.now) }
+    ensures same { OnErr result (output.new.items ≡ output.old.items) }
+    ensures grows { length output.old.items ≤ length output.new.items }
+    ensures light { IsLight (vec_len output.new) (vec_capacity output.new) }
+{
+    let notes = notes_on(alloc, explaining, routes, received, target.kind, moment, reply);
+    let texts = notes.as_slice();
+    match noted_behind(alloc, output, texts, target.endpoint, closing, reply) {
+        Ok(()) => Ok(()),
+        Err(_) => Err(AllocError),
+    }
+}
+
+// Appends a response without a reply to the output. If memory runs out, appends nothing.
+fn unreplied_behind(
+    alloc: Global,
+    output: &mut Vec<u8>,
+    closing: bool,
+    reason: Unavailable,
+) -> Result<(), AllocError>
+    requires light { IsLight (vec_len output.old) (vec_capacity output.old) }
+    ensures whole { OnOk result
+        (output.new.items ≡ output.old.items ++ unavailable_text closing reason) }
+    ensures same { OnErr result (output.new.items ≡ output.old.items) }
+    ensures grows { length output.old.items ≤ length output.new.items }
+    ensures light { IsLight (vec_len output.new) (vec_capacity output.new) }
+{
+    let Ok(text) = unavailable_text(alloc, closing, reason) else {
+        return Err(AllocError);
+    };
+    match put_behind(output, text.as_slice()) {
+        Ok(()) => Ok(()),
+        Err(_) => Err(AllocError),
+    }
+}
+
 // Appends a response to the output. If memory runs out, appends nothing.
 fn response_behind(
     alloc: Global,
@@ -92,36 +145,15 @@ fn response_behind(
     ensures light { IsLight (vec_len output.new) (vec_capacity output.new) }
 {
     match response {
-        Response::Replied(explaining, moment, reply) => {
-            let notes = notes_on(
-                alloc,
-                explaining,
-                routes,
-                received,
-                target.kind,
-                moment,
-                reply,
-            );
-            let texts = notes.as_slice();
-            match noted_behind(alloc, output, texts, target.endpoint, closing, reply) {
-                Ok(()) => Ok(()),
-                Err(_) => Err(AllocError),
-            }
-        }
-        Response::Unreplied(reason) => {
-            let Ok(text) = unavailable_text(alloc, closing, reason) else {
-                return Err(AllocError);
-            };
-            match put_behind(output, text.as_slice()) {
-                Ok(()) => Ok(()),
-                Err(_) => Err(AllocError),
-            }
-        }
+        Response::Replied(explaining, moment, reply) => replied_behind(
+            alloc, output, routes, received, target, closing, explaining, moment, reply,
+        ),
+        Response::Unreplied(reason) => unreplied_behind(alloc, output, closing, reason),
     }
 }
 
 impl Connection {
-    ghost use Rattle.std.specs.Prelude.{false, true, drop, option_map, IfErr, Some, None};
+    ghost use Rattle.std.specs.Prelude.{false, drop, IfErr};
     ghost use Rattle.wire_http.specs.Connection.{buffered_of, left_of, has_ended, is_done};
     ghost use Rattle.wire_http.specs.Connection.{output_of, ready_of, holds_back, slot_of};
     ghost use Rattle.wire_http.specs.Connection.{noted_of};
@@ -155,8 +187,8 @@ impl Connection {
         requires fits { count ≤ length (buffered_of self.old) }
         ensures held { buffered_of self.new ≡ drop count (buffered_of self.old) }
         ensures output { output_of self.new ≡ output_of self.old }
-        ensures ready { ready_of self.new ≡ output_of self.old }
-        ensures slot { slot_of self.new ≡ None }
+        ensures ready { ready_of self.new ≡ ready_of self.old }
+        ensures slot { slot_of self.new ≡ slot_of self.old }
         ensures left { left_of self.new ≡ left }
         ensures ended { has_ended self.new ≡ has_ended self.old }
         ensures done { is_done self.new ≡ is_done self.old }
@@ -166,7 +198,6 @@ impl Connection {
         shrink(&mut self.held);
         self.wanted = 0;
         self.left = left;
-        self.deferred_response = None;
         self.noted = Some(noted);
     }
 
@@ -208,6 +239,7 @@ impl Connection {
                     entity: target.entity,
                     outcome: outcome_in(response),
                 };
+                self.deferred_response = None;
                 self.leave(spans.len + size, left, noted);
                 Ok(Step::Answered(left))
             }
@@ -246,8 +278,8 @@ impl Connection {
         }
     }
 
-    /// Answers the next request with this reply to its call, which was made at a time in
-    /// nanoseconds. The response is not deferred. The recorded supplier is `supplier`.
+    /// Answers the next request with this reply to its call, which was made at a time in Unix
+    /// seconds. The response is not deferred. The recorded supplier is `supplier`.
     ///
     /// Returns `NeedsInput` and does nothing if none may come or none is complete.
     ///

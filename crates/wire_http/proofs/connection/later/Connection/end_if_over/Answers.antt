@@ -1,10 +1,24 @@
-use Rattle.std.proofs.Common.{◌<◌, length, drop, ap, arith, inl, inr, refl}
+use Rattle.std.proofs.Common.{◌<◌, append-nil, length, drop, ap, arith, inl, inr, refl, sym}
 use Rattle.wire_http.proofs.BufferedLaws.{none_here}
 use Rattle.wire_http.proofs.LaterLaws.{breaks_some, request_here}
 use Rattle.wire_http.proofs.PeekLaws.{closes_at}
 use Rattle.wire_http.proofs.StepLaws.{finishes, held_request, held_stops, held_wants, unsent_more}
 use Rattle.wire_http.specs.DeferredResponse.{before_last}
 use Rattle.wire_http.proofs.connection.later.Connection.end_if_over.Goals as goal
+
+pub returns-then-self-eq0-clause-step : goal.returns-then-self-eq0-clause-step
+returns-then-self-eq0-clause-step c =
+    let self = c.args.self.now in
+    record {
+      finishes = λ later may. closes_at self.left _ (omega (arith, c.if-self-eq0.true));
+      output = sym (append-nil (drop self.sent self.answers.items));
+      held = refl;
+      left = refl;
+      done = refl;
+      slot = refl;
+      ended = refl;
+      noted = refl;
+    }
 
 pub returns-then-len-self-clause-step : goal.returns-then-len-self-clause-step
 returns-then-len-self-clause-step c =

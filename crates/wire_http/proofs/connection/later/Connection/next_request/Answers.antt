@@ -1,6 +1,7 @@
 use Rattle.std.proofs.Common.{◌<◌, length, arith, inl, inr}
+use Rattle.token_conf.specs.TokenFile.{callers_of}
 use Rattle.wire_http.proofs.BufferedLaws.{none_here}
-use Rattle.wire_http.proofs.LaterLaws.{none_stops, request_here}
+use Rattle.wire_http.proofs.LaterLaws.{none_stops, parts_here}
 use Rattle.wire_http.proofs.StepLaws.{held_request, held_stops, held_wants}
 use Rattle.wire_http.proofs.connection.later.Connection.next_request.Goals as goal
 
@@ -15,17 +16,12 @@ returns-then-len-self c =
 
 pub returns-in-Gives-Request : goal.returns-in-Gives-Request
 returns-in-Gives-Request c =
-    let self = c.args.self.now in
-    let at = request_here self.held.items self.ended c.next_buffered.new.fields c.in-Gives-Request.spans c.in-Gives-Request.size
-    (held_request self.held.items self.ended c.next_buffered.new.fields c.next_buffered.result c.in-Gives-Request.field-0 c.in-Gives-Request.spans c.in-Gives-Request.size
-    c.in-Gives-Request.is c.in-Gives-Request.field-0-is (rw c.as_slice-held.ensures.value at c.next_buffered.ensures.held)) in (
+    let self = c.args.self.now in (
       omega (arith, c.if-self-eq0.false),
-      record {
-        head = at.0;
-        body = _;
-        request = at.1;
-        parts_are = (rw c.as_slice-held.ensures.value at c.parts_of.ensures) at.0 at.2;
-      },
+      parts_here (callers_of c.args.tokens.now) self.held.items c.as_slice-held.result.now self.ended c.next_buffered.new.fields c.in-Gives-Request.spans c.in-Gives-Request.size c.parts_of.result c.as_slice-held.ensures.value
+          (held_request self.held.items self.ended c.next_buffered.new.fields c.next_buffered.result c.in-Gives-Request.field-0 c.in-Gives-Request.spans c.in-Gives-Request.size
+          c.in-Gives-Request.is c.in-Gives-Request.field-0-is (rw c.as_slice-held.ensures.value at c.next_buffered.ensures.held))
+          c.parts_of.ensures,
     )
 
 pub returns-in-Gives-Stop : goal.returns-in-Gives-Stop

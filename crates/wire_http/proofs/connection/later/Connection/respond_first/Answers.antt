@@ -1,6 +1,8 @@
 use Rattle.std.proofs.Common.{◌≡◌, ◌-◌, ◌∙◌, drop, refl, ap, sym, arith}
 use Rattle.std.specs.Prelude.{◌==◌}
 use Rattle.httparse.specs.Spans.{span_bytes}
+use Rattle.wire_http.specs.DeferredResponse.{before_last}
+use Rattle.wire_http.specs.Next.{body_at}
 use Rattle.wire_http.proofs.LaterLaws.{appended_at, appended_unsent, leads_here, left_here, named_here, noted_here, request_here, rest_after}
 use Rattle.wire_http.proofs.connection.later.Connection.respond_first.Goals as goal
 
@@ -14,7 +16,7 @@ returns-in-Ok-clause-step c =
     let method : span_bytes c.as_slice.result.now c.args.spans.method ≡ at.0.method = ap (λ v. span_bytes v c.args.spans.method) value ∙ at.2.method in
     record {
       head = at.0;
-      body = _;
+      body = body_at self.held.items c.args.spans.len c.args.size;
       endpoint = target.endpoint;
       entity = target.entity;
       some = c.requires.some;
@@ -31,4 +33,19 @@ returns-in-Ok-clause-step c =
       ended = c.leave.ensures.ended;
       done = c.leave.ensures.done;
       noted = c.leave.ensures.noted ∙ noted_here target.kind target.endpoint _ at.0 target.entity c.args.supplier c.outcome_in.result _ c.find_target-target.ensures.kind method c.outcome_in.ensures;
+    }
+
+pub returns-in-Err-clause-part : goal.returns-in-Err-clause-part
+returns-in-Err-clause-part c =
+    let self = c.args.self.now in
+    record {
+      fault_is = refl;
+      held = refl;
+      output = ap (λ v. drop self.sent v) c.in-Err.ensures.same;
+      ready = ap (λ v. before_last self.sent (drop self.sent v) self.deferred_response) c.in-Err.ensures.same;
+      slot = refl;
+      left = refl;
+      ended = refl;
+      done = refl;
+      noted = refl;
     }
