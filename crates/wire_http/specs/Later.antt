@@ -156,7 +156,7 @@ pub record EndsStream (c c' : Connection) (end : End) : Type 0 where
 
 -- Holds if more input may arrive: no request is complete, and there is room.
 pub record MayGrow (c : Connection) : Type 0 where
-  pub open : has_ended c ≡ false
+  pub more : has_ended c ≡ false
   pub none : HasNoRequest (buffered_of c)
   pub room : length (buffered_of c) < max_buffered
 

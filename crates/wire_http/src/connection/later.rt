@@ -43,7 +43,7 @@ enum Response<'r> {
 
 // Returns the outcome that is recorded for a response.
 fn outcome_in(response: Response<'_>) -> Outcome
-    ensures { result ≡ outcome_in response }
+    ensures { result ≡ outcome_in response.entry }
 {
     match response {
         Response::Replied(_, _, reply) => outcome_of(reply),
@@ -139,7 +139,7 @@ fn response_behind(
     requires received { IsReceived received }
     requires light { IsLight (vec_len output.old) (vec_capacity output.old) }
     ensures whole { OnOk result
-        (IsAppended response output.old.items output.new.items target.endpoint closing) }
+        (IsAppended response.entry output.old.items output.new.items target.endpoint closing) }
     ensures same { OnErr result (output.new.items ≡ output.old.items) }
     ensures grows { length output.old.items ≤ length output.new.items }
     ensures light { IsLight (vec_len output.new) (vec_capacity output.new) }
@@ -218,27 +218,35 @@ impl Connection {
             (BufferState.Gives (Next.Request spans size)) }
         requires fits { BufferedFits (buffered_of self.old) fields.now
             (BufferState.Gives (Next.Request spans size)) }
-        ensures step { IfOk result (IsResponded response supplier self.old self.new) }
+        ensures step { IfOk result (IsResponded response.entry supplier self.old self.new) }
         ensures part { IfErr result (IsAborted self.old self.new) }
     {
+        let count = self.left - 1;
         let received = Received {
             buffer: self.held.as_slice(),
             fields,
             spans,
             size,
         };
-        let left = left_after(received, self.left - 1);
+        let left = left_after(received, count);
         let target = find_target(routes, received);
         let closing = left == 0;
-        let output = &mut self.answers;
-        match response_behind(alloc, output, routes, received, target, closing, response) {
+        let noted = RequestInfo {
+            operation: target.kind,
+            supplier,
+            entity: target.entity,
+            outcome: outcome_in(response),
+        };
+        match response_behind(
+            alloc,
+            &mut self.answers,
+            routes,
+            received,
+            target,
+            closing,
+            response,
+        ) {
             Ok(()) => {
-                let noted = RequestInfo {
-                    operation: target.kind,
-                    supplier,
-                    entity: target.entity,
-                    outcome: outcome_in(response),
-                };
                 self.deferred_response = None;
                 self.leave(spans.len + size, left, noted);
                 Ok(Step::Answered(left))
@@ -259,7 +267,7 @@ impl Connection {
         response: Response<'_>,
     ) -> Result<Step, StreamFault>
         requires none_back { holds_back self.old ≡ false }
-        ensures step { IfOk result (IsResponded response supplier self.old self.new) }
+        ensures step { IfOk result (IsResponded response.entry supplier self.old self.new) }
         ensures part { IfErr result (IsAborted self.old self.new) }
     {
         if self.left == 0 {

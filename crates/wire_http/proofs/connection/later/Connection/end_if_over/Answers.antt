@@ -27,7 +27,7 @@ returns-then-len-self-clause-step c =
     record {
       some = omega (arith, c.if-self-eq0.false);
       why = inr (record {
-        open = c.if-not-self.true;
+        more = c.if-not-self.true;
         none = none_here self.held.items self.wanted self.none_below fewer;
         room = omega (arith, fewer, self.wanted_fits);
       });
@@ -55,7 +55,7 @@ returns-in-Wants-clause-step c =
     record {
       some = omega (arith, c.if-self-eq0.false);
       why = inr (record {
-        open = h.0;
+        more = h.0;
         none = none_here self.held.items c.in-Wants.count h.3 h.1;
         room = omega (arith, h.1, h.2);
       });
