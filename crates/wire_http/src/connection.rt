@@ -165,7 +165,15 @@ fn reply_behind<S: Space + Drop>(
     ensures light { IsLight (vec_len output.new) (vec_capacity output.new) }
 {
     let reply = service.call(alloc, pending.moment, &pending.call);
-    let notes = notes_on(alloc, explaining, routes, received, pending.kind, pending.moment, &reply);
+    let notes = notes_on(
+        alloc,
+        explaining,
+        routes,
+        received,
+        pending.kind,
+        pending.moment,
+        &reply,
+    );
     let texts = notes.as_slice();
     match noted_behind(alloc, output, texts, pending.endpoint, closing, &reply) {
         Ok(()) => Ok(outcome_of(&reply)),

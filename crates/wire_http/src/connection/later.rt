@@ -95,7 +95,15 @@ fn replied_behind(
     ensures grows { length output.old.items ≤ length output.new.items }
     ensures light { IsLight (vec_len output.new) (vec_capacity output.new) }
 {
-    let notes = notes_on(alloc, explaining, routes, received, target.kind, moment, reply);
+    let notes = notes_on(
+        alloc,
+        explaining,
+        routes,
+        received,
+        target.kind,
+        moment,
+        reply,
+    );
     let texts = notes.as_slice();
     match noted_behind(alloc, output, texts, target.endpoint, closing, reply) {
         Ok(()) => Ok(()),
