@@ -24,7 +24,8 @@ serve::serve_clients
         call::ask
           routes::find
           endpoint::kind
-          body::read_body
+          operation::read_as
+            body::read_body
           token_table::caller
         service::call
           early::early
