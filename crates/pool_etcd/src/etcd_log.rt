@@ -10,6 +10,7 @@ use crate::questions::Questions;
 use crate::request_lane::RequestLane;
 use crate::settings::{EtcdSettings, User};
 use crate::watch_lane::WatchLane;
+use crate::writer::writer_of;
 use mio::{Registry, Token};
 use std::alloc::{AllocError, Global};
 use std::collections::VecDeque;
@@ -60,6 +61,8 @@ impl LogState {
 /// `advance` does all input and output. The other calls work on what it has received.
 #[derive(Drop)]
 pub struct EtcdLog {
+    // The number in its values, and its number as a writer.
+    pub(crate) run: u64,
     pub(crate) number: u64,
     pub(crate) state: LogState,
     pub(crate) queue: VecDeque<Payload>,
@@ -87,7 +90,8 @@ impl EtcdLog {
         let key = key_of(alloc, settings.name.as_str())?;
         let fence = fence_value(alloc, settings.number)?;
         let following = Following::new(alloc, settings.revision, settings.count);
-        let number = settings.number;
+        let run = settings.number;
+        let number = writer_of(alloc, key.as_bytes(), run)?;
         let state = LogState {
             alloc,
             endpoints,
@@ -102,6 +106,7 @@ impl EtcdLog {
             checked: Duration::ZERO,
         };
         Ok(EtcdLog {
+            run,
             number,
             state,
             queue: VecDeque::new(alloc),
