@@ -126,11 +126,7 @@ fn gather_subs(
 
 /// Returns the subscriptions that the rows of the two tables represent, if they do, with serials
 /// and indexes up to the given serial.
-pub fn subs_in(
-    alloc: Global,
-    serial: u64,
-    tables: &SubTables,
-) -> Result<Option<KnownSubs>, Error>
+pub fn subs_in(alloc: Global, serial: u64, tables: &SubTables) -> Result<Option<KnownSubs>, Error>
     ensures lists { let t = tables.now in
         IfOk result (λ o. MatchOption o ((a : Subs) → ¬ ListsSubs serial t a)
         (λ k. ListsSubs serial t (subs_of k))) }

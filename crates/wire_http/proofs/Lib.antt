@@ -3,6 +3,7 @@ pub mod CallUnique
 pub mod DeferredLaws
 pub mod BufferedLaws
 pub mod KnownBytes
+pub mod LaterLaws
 pub mod ManyLaws
 pub mod NextLaws
 pub mod PeekLaws

@@ -1,4 +1,5 @@
 pub mod Input
+pub mod Later
 pub mod Count
 pub mod Connection
 pub mod Counted

@@ -11,7 +11,7 @@ use Rattle.wire_head.specs.FinalHead.{Covers}
 use Rattle.wire_http.specs.Next.{body_at}
 use Rattle.wire_operation.specs.Asked.{IsCallOf}
 use Rattle.wire_head.specs.Target.{path_of}
-use Rattle.wire_http.specs.RequestInfo.{IsEntityNamed, requested_kind}
+use Rattle.wire_http.specs.RequestInfo.{IsEntityNamed, LeadsTo, requested_kind}
 use Rattle.wire_http.specs.Unread.{IsMadeFor}
 
 -- Holds if the request is within the bytes, and its target is UTF-8.
@@ -36,6 +36,10 @@ IsMadeForOne callers r endpoint made =
 abbrev pub IsNamedIn : Received → Option Endpoint → Option ℕ → Type 0
 IsNamedIn r endpoint entity = IsEntityNamed (path_of (span_bytes r.buffer.now r.spans.path))
     (span_bytes r.buffer.now r.spans.method) endpoint entity
+
+-- Holds if the path leads to this endpoint, or to none.
+abbrev pub LeadsIn : Received → Option Endpoint → Type 0
+LeadsIn r endpoint = LeadsTo (path_of (span_bytes r.buffer.now r.spans.path)) endpoint
 
 -- Holds if this is the kind of operation of the method at the endpoint.
 abbrev pub IsKindIn : Received → Option Endpoint → Option OpKind → Type 0

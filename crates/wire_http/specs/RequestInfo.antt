@@ -15,7 +15,7 @@ use Rattle.wire_http.specs.declared.request_info.Outcome.TheVariants as outcomes
 use Rattle.wire_http.specs.Wire.{RequestCall}
 use Rattle.wire_route.specs.declared.endpoint.Endpoint.{Endpoint}
 use Rattle.wire_route.specs.Endpoint.{kind_at}
-use Rattle.wire_route.specs.Route.{IsRoute}
+use Rattle.wire_route.specs.Route.{HasNoRoute, IsRoute}
 use Rattle.wire_body.specs.Body.{Words}
 use Rattle.wire_head.specs.Target.{path_of}
 
@@ -37,6 +37,11 @@ entity_named kinds.CreateSub words = spelled words.first
 entity_named kinds.UpdateSub words = spelled words.first
 entity_named kinds.DeleteSub words = spelled words.first
 entity_named kind words = None
+
+-- Holds if the path leads to this endpoint, or to none.
+abbrev pub LeadsTo : List ℕ → Option Endpoint → Type 0
+LeadsTo path None = HasNoRoute path
+LeadsTo path (Some endpoint) = (words : Words) × IsRoute path endpoint words
 
 -- Holds if path and method name this entity or subscription, or none.
 abbrev pub IsEntityNamed : List ℕ → List ℕ → Option Endpoint → Option ℕ → Type 0

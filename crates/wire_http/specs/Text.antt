@@ -14,6 +14,8 @@ use Rattle.wire_route.specs.Endpoint.{allow_of}
 use Rattle.wire_http.specs.declared.end.End.{End}
 use Rattle.wire_http.specs.declared.end.End.TheVariants as ends
 use Rattle.wire_head.specs.declared.rule.WireRule.{WireRule}
+use Rattle.wire_http.specs.declared.unavailable.Unavailable.{Unavailable}
+use Rattle.wire_http.specs.declared.unavailable.Unavailable.TheVariants.{Unreachable, Unknown}
 use Rattle.wire_head.specs.Rule as rule
 use Rattle.wire_head.specs.Lines.{length_line, line, status_line}
 
@@ -91,3 +93,12 @@ end_texts (ends.Wire r) = rule_text r ∷ []
 end_texts ends.End = []
 end_texts ends.Cut = []
 end_texts ends.Close = []
+
+-- The body of a response without a reply: why none is known.
+abbrev pub unavailable_body : Unavailable → List ℕ
+unavailable_body Unreachable = codes "{\"message\":\"unreachable\"}"
+unavailable_body Unknown = codes "{\"message\":\"unknown\"}"
+
+-- The text of the response to a request to which no reply is known.
+abbrev pub unavailable_text : Bool → Unavailable → List ℕ
+unavailable_text closing unavailable = message 503 [] closing (unavailable_body unavailable)

@@ -55,8 +55,8 @@ fn call_as(
     Ok(Call { caller, op })
 }
 
-// Returns the id that the first path parameter represents, if operations of the kind have one.
-fn entity_named(kind: OpKind, words: &PathWords<'_>) -> Option<EntityId>
+/// Returns the id that the first path parameter represents, if operations of the kind have one.
+pub(crate) fn entity_named(kind: OpKind, words: &PathWords<'_>) -> Option<EntityId>
     ensures { result ≡ entity_named kind (words_of words.now) }
 {
     match kind {

@@ -13,6 +13,8 @@ ghost use Rattle.wire_http.specs.RequestInfo.{outcome_of};
 ghost use Rattle.wire_http.specs.Reply.{Replies, RepliesPart};
 ghost use Rattle.wire_http.specs.Text.{noted_text, response_text, end_texts};
 
+mod later;
+
 use crate::buffered::{BufferState, HEAD_LIMIT, next_buffered};
 use crate::call::{Received, RoutedCall, ask, find_caller, left_after};
 use crate::end::End;
@@ -163,7 +165,15 @@ fn reply_behind<S: Space + Drop>(
     ensures light { IsLight (vec_len output.new) (vec_capacity output.new) }
 {
     let reply = service.call(alloc, pending.moment, &pending.call);
-    let notes = notes_on(alloc, explaining, routes, received, pending, &reply);
+    let notes = notes_on(
+        alloc,
+        explaining,
+        routes,
+        received,
+        pending.kind,
+        pending.moment,
+        &reply,
+    );
     let texts = notes.as_slice();
     match noted_behind(alloc, output, texts, pending.endpoint, closing, &reply) {
         Ok(()) => Ok(outcome_of(&reply)),

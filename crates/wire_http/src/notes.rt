@@ -3,7 +3,7 @@ ghost use Rattle.std.specs.Prelude.{map, string_bytes};
 ghost use Rattle.wire_http.specs.Notes.{MayBeNotes};
 ghost use Rattle.wire_http.specs.Received.{IsReceived};
 
-use crate::call::{Received, RoutedCall};
+use crate::call::Received;
 use crate::explaining::Explaining;
 use policy_core::call::OpKind;
 use service_step::reply::Reply;
@@ -72,27 +72,28 @@ fn warn(alloc: Global, received: Received<'_>, kind: OpKind) -> Result<Vec<Strin
     Ok(notes)
 }
 
-// Returns the texts for the reply to a request, with the option.
+// Returns the texts for the reply to a request of a kind at a time, with the option.
 fn notes_for(
     alloc: Global,
     routes: &Routes,
     received: Received<'_>,
-    pending: &RoutedCall,
+    kind: Option<OpKind>,
+    moment: u64,
     reply: &Reply,
 ) -> Result<Vec<String>, AllocError>
     requires { IsReceived received }
 {
-    match (reply, pending.kind) {
+    match (reply, kind) {
         (Reply::Denied(rule, _), _) if is_explained(*rule) => {
-            explain(alloc, routes, received, pending.moment)
+            explain(alloc, routes, received, moment)
         }
         (Reply::Done(_), Some(kind)) => warn(alloc, received, kind),
         _ => Ok(Vec::new(alloc)),
     }
 }
 
-/// Returns the texts for the reply to a request. They depend on the request, its time, and whether
-/// the reply is a success or by which rule it is a denial.
+/// Returns the texts for the reply to a request of a kind at a time. They depend on the request, its
+/// time, and whether the reply is a success or by which rule it is a denial.
 ///
 /// There are none for other replies, and if memory runs out.
 pub(crate) fn notes_on(
@@ -100,7 +101,8 @@ pub(crate) fn notes_on(
     explaining: Explaining,
     routes: &Routes,
     received: Received<'_>,
-    pending: &RoutedCall,
+    kind: Option<OpKind>,
+    moment: u64,
     reply: &Reply,
 ) -> Vec<String>
     requires { IsReceived received }
@@ -108,7 +110,7 @@ pub(crate) fn notes_on(
 {
     match explaining {
         Explaining::Off => Vec::new(alloc),
-        Explaining::On => match notes_for(alloc, routes, received, pending, reply) {
+        Explaining::On => match notes_for(alloc, routes, received, kind, moment, reply) {
             Ok(notes) => notes,
             Err(_) => Vec::new(alloc),
         },

@@ -5,7 +5,9 @@ ghost use Rattle.wire_reply.specs.Answer.{status_of};
 ghost use Rattle.wire_http.specs.Text.{message, noted_text, response_text, rule_field, reply_field};
 ghost use Rattle.wire_http.specs.Text.{close_field, front_of, rule_body, rule_text};
 ghost use Rattle.wire_http.specs.Text.{ignored_field, is_field_value, noted_field};
+ghost use Rattle.wire_http.specs.Text.{unavailable_text};
 
+use crate::unavailable::Unavailable;
 use policy_core::rule::Rule;
 use service_step::reply::Reply;
 use std::alloc::{AllocError, Global};
@@ -190,5 +192,19 @@ pub(crate) fn rule_text(alloc: Global, rule: WireRule) -> Result<Vec<u8>, AllocE
     let body = rule_body(alloc, rule)?;
     let mut text = front_of(alloc, rule.status(), "", true, body.len())?;
     text.push_str(body.as_str())?;
+    Ok(text.into_bytes())
+}
+
+/// Returns the text of the response to a request to which no reply is known.
+pub(crate) fn unavailable_text(
+    alloc: Global,
+    closing: bool,
+    unavailable: Unavailable,
+) -> Result<Vec<u8>, AllocError>
+    ensures { IfOk result (λ text. text.items ≡ unavailable_text closing unavailable) }
+{
+    let body = unavailable.body();
+    let mut text = front_of(alloc, 503, "", closing, body.len())?;
+    text.push_str(body)?;
     Ok(text.into_bytes())
 }
