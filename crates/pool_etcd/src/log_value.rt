@@ -59,11 +59,7 @@ fn number_in_bytes(alloc: Global, bytes: &[u8]) -> Result<Option<u64>, AllocErro
 /// Returns the entry that the value of a key is, or `None` if it is none.
 ///
 /// Returns `AllocError` if memory runs out.
-pub fn read_entry(
-    alloc: Global,
-    key: &[u8],
-    value: &[u8],
-) -> Result<Option<LogEntry>, AllocError>
+pub fn read_entry(alloc: Global, key: &[u8], value: &[u8]) -> Result<Option<LogEntry>, AllocError>
     ensures { IfOk result (λ entry. MatchOption entry
         (IsNoEntry value.now)
         (λ e. IsEntryBy key.now value.now e.writer e.bytes)) }
