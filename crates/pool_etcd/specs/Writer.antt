@@ -1,7 +1,7 @@
 -- The numbers of writers.
 use Rattle.std.specs.Prelude.{◌≡◌, ℕ, List, ◌∷◌, ◌++◌, take}
 use Rattle.std.specs.Fmt.{decimal}
-use Rattle.core.specs.Int.{from_be_bytes, w64}
+use Rattle.std.specs.Int.{from_be_bytes, w64}
 use Rattle.sha2.specs.Sha256.{sha256}
 use Rattle.pool_etcd.specs.LogValue.{IsEntry}
 
