@@ -4,7 +4,7 @@ use Rattle.wire_http.proofs.LaterLaws.{breaks_some, request_here}
 use Rattle.wire_http.proofs.PeekLaws.{closes_at}
 use Rattle.wire_http.proofs.StepLaws.{finishes, held_request, held_stops, held_wants, unsent_more}
 use Rattle.wire_http.specs.DeferredResponse.{before_last}
-use Rattle.wire_http.proofs.connection.later.Connection.end_if_over.Goals as goal
+use Rattle.wire_http.proofs.connection.Connection.end_if_over.Goals as goal
 
 pub returns-then-self-eq0-clause-step : goal.returns-then-self-eq0-clause-step
 returns-then-self-eq0-clause-step c =

@@ -1,4 +1,4 @@
-use Rattle.wire_http.proofs.connection.later.Connection.answer_next.Goals as goal
+use Rattle.wire_http.proofs.connection.Connection.answer_unavailable.Goals as goal
 
 pub returns-clause-step : goal.returns-clause-step
 returns-clause-step c = c.respond.ensures.step

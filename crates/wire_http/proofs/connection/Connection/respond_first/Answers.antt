@@ -4,7 +4,7 @@ use Rattle.httparse.specs.Spans.{span_bytes}
 use Rattle.wire_http.specs.DeferredResponse.{before_last}
 use Rattle.wire_http.specs.Next.{body_at}
 use Rattle.wire_http.proofs.LaterLaws.{appended_at, appended_unsent, leads_here, left_here, named_here, noted_here, request_here, rest_after}
-use Rattle.wire_http.proofs.connection.later.Connection.respond_first.Goals as goal
+use Rattle.wire_http.proofs.connection.Connection.respond_first.Goals as goal
 
 pub returns-in-Ok-clause-step : goal.returns-in-Ok-clause-step
 returns-in-Ok-clause-step c =

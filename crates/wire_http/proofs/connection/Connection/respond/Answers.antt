@@ -2,7 +2,7 @@ use Rattle.std.proofs.Common.{◌<◌, length, arith, inl, inr, refl}
 use Rattle.wire_http.proofs.BufferedLaws.{none_here}
 use Rattle.wire_http.proofs.LaterLaws.{none_stops}
 use Rattle.wire_http.proofs.StepLaws.{held_request, held_stops, held_wants}
-use Rattle.wire_http.proofs.connection.later.Connection.respond.Goals as goal
+use Rattle.wire_http.proofs.connection.Connection.respond.Goals as goal
 
 pub returns-then-self-eq0-clause-step : goal.returns-then-self-eq0-clause-step
 returns-then-self-eq0-clause-step c = record {

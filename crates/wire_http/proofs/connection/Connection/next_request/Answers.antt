@@ -3,7 +3,7 @@ use Rattle.token_conf.specs.TokenFile.{callers_of}
 use Rattle.wire_http.proofs.BufferedLaws.{none_here}
 use Rattle.wire_http.proofs.LaterLaws.{none_stops, parts_here}
 use Rattle.wire_http.proofs.StepLaws.{held_request, held_stops, held_wants}
-use Rattle.wire_http.proofs.connection.later.Connection.next_request.Goals as goal
+use Rattle.wire_http.proofs.connection.Connection.next_request.Goals as goal
 
 pub returns-then-self-eq0 : goal.returns-then-self-eq0
 returns-then-self-eq0 c = inl (omega (arith, c.if-self-eq0.true))
