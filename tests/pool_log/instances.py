@@ -1,4 +1,5 @@
 """Instances at a log: the program of crates/test_pool_etcd, driven by its standard input."""
+import hashlib
 import itertools
 import os
 import pathlib
@@ -82,8 +83,13 @@ class Instance:
     def texts(self):
         return [text for _, text in self.entries()]
 
+    def writer(self):
+        """The number of the writer of its entries."""
+        digest = hashlib.sha256(f"in/{self.name}\n{self.number}".encode()).digest()
+        return int.from_bytes(digest[:8], "big")
+
     def own(self):
-        return [text for number, text in self.entries() if number == str(self.number)]
+        return [text for writer, text in self.entries() if writer == str(self.writer())]
 
     def faults(self):
         return [it[6:] for it in list(self.lines) if it.startswith("fault ")]

@@ -188,6 +188,20 @@ def other_keys():
     one.close()
 
 
+def numbers_of_others():
+    """A value under another key with the number of a process is no entry of that process."""
+    fake = Fake()
+    one = Instance(fake.addresses(), "a")
+    offer_all(one, fake, 1)
+    fake.put_from_outside(b"in/b", f"{one.number}\nanother's".encode())
+    one.offer("last")
+    one.settle()
+    one.until(3)
+    same(["t0", "another's", "last"], one.texts(), "entries")
+    same(["t0", "last"], one.own(), "own entries")
+    one.close()
+
+
 def deleted_keys():
     fake = Fake()
     one = Instance(fake.addresses(), "a")
@@ -315,7 +329,7 @@ def cases(seeds=6):
     """All cases, by name."""
     found = {it.__name__: it for it in (
         batches_in_order, bodies_of_requests, fences_that_are_lost, puts_that_come_late, two_processes_of_one_name, several_names,
-        ends_after_entries, other_keys, deleted_keys, starts_in_the_middle, removed_beginnings, shortened_logs, tokens,
+        ends_after_entries, other_keys, numbers_of_others, deleted_keys, starts_in_the_middle, removed_beginnings, shortened_logs, tokens,
         endpoints_in_turn, long_batches,
     )}
     for fault in REQUEST_FAULTS:

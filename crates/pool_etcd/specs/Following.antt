@@ -4,22 +4,24 @@ use Rattle.pool_etcd.specs.declared.following.Following.{Following}
 use Rattle.pool_etcd.specs.declared.log_value.LogEntry.{LogEntry}
 use Rattle.pool_etcd.specs.declared.watch_line.Change.{Change}
 use Rattle.pool_etcd.specs.declared.watch_line.Change.TheVariants.{Put, Deleted}
-use Rattle.pool_etcd.specs.LogValue.{IsEntry, IsNoEntry}
+use Rattle.pool_etcd.specs.declared.response.KeyValue.{KeyValue}
+use Rattle.pool_etcd.specs.LogValue.{IsNoEntry}
+use Rattle.pool_etcd.specs.Writer.{IsEntryBy}
 
 abbrev pub revision_of : Change → ℕ
-revision_of (Put stored) = stored.revision
+revision_of (Put put) = put.stored.revision
 revision_of (Deleted revision) = revision
 
--- Holds if these are the entries in the value: one or none.
-abbrev pub ValueGives : List ℕ → List LogEntry → Type 0
-ValueGives value [] = IsNoEntry value
-ValueGives value (e ∷ []) = IsEntry value e.writer e.bytes
-ValueGives value (e ∷ f ∷ entries) = ⊥
+-- Holds if these are the entries in the value of the key: one or none.
+abbrev pub ValueGives : KeyValue → List LogEntry → Type 0
+ValueGives put [] = IsNoEntry put.stored.value
+ValueGives put (e ∷ []) = IsEntryBy put.key put.stored.value e.writer e.bytes
+ValueGives put (e ∷ f ∷ entries) = ⊥
 
 -- Holds if the change is a put, and these are the entries in its value.
 abbrev pub HasEntry : Change → List LogEntry → Type 0
 HasEntry (Deleted revision) entries = ⊥
-HasEntry (Put stored) entries = ValueGives stored.value entries
+HasEntry (Put put) entries = ValueGives put entries
 
 -- Holds if these are the entries in the changes, in order.
 abbrev pub HasEntries : List Change → List LogEntry → Type 0
@@ -39,8 +41,8 @@ Ascends before [] = Unit {0}
 Ascends before (c ∷ changes) = (before < revision_of c) × Ascends (revision_of c) changes
 
 -- Holds if the entry in the value was added, or nothing if there is none.
-abbrev pub AddsEntry : List ℕ → List LogEntry → List LogEntry → Type 0
-AddsEntry value old new = (front : List LogEntry) × (new ≡ old ++ front) × ValueGives value front
+abbrev pub AddsEntry : KeyValue → List LogEntry → List LogEntry → Type 0
+AddsEntry put old new = (front : List LogEntry) × (new ≡ old ++ front) × ValueGives put front
 
 -- Holds if the entries in the changes were added and counted.
 pub record ReceivesEntries (old new : Following) (changes : List Change) : Type 0 where

@@ -11,3 +11,4 @@ pub mod Questions
 pub mod Request
 pub mod Response
 pub mod WatchLine
+pub mod Writer

@@ -2,6 +2,7 @@
 use Rattle.std.specs.Prelude.{ℕ, List, Bool, true, false, codes, Option, Some, None, option_map, option_and_then}
 use Rattle.serde_json.specs.Data.{Data, Items, no_items, item}
 use Rattle.serde_json.specs.Find.{get, as_str}
+use Rattle.pool_etcd.specs.declared.response.KeyValue.{KeyValue}
 use Rattle.pool_etcd.specs.declared.response.StoredValue.{StoredValue}
 use Rattle.pool_etcd.specs.declared.response.PutOutcome.{PutOutcome}
 use Rattle.pool_etcd.specs.declared.response.PutOutcome.TheVariants.{Stored, Refused}
@@ -38,6 +39,13 @@ stored_value d = do
   revision ← key_revision d
   value ← bytes_at (codes "value") d
   Some (record { revision = revision; value = value })
+
+-- A key with its value.
+unfoldable pub key_value : Data → Option KeyValue
+key_value d = do
+  key ← bytes_at (codes "key") d
+  stored ← stored_value d
+  Some (record { key = key; stored = stored })
 
 -- The value of the first key.
 unfoldable pub range_value : Data → Option (Option StoredValue)

@@ -8,7 +8,7 @@ use Rattle.pool_etcd.specs.declared.watch_line.WatchLine.TheVariants.{Failed, Ca
 use Rattle.pool_etcd.specs.declared.watch_line.Change.{Change}
 use Rattle.pool_etcd.specs.declared.watch_line.Change.TheVariants.{Put, Deleted}
 use Rattle.pool_etcd.specs.Member.{◌>>=◌, each, flag_at, items_at, number_at, read_or}
-use Rattle.pool_etcd.specs.Response.{key_revision, stored_value}
+use Rattle.pool_etcd.specs.Response.{key_revision, key_value}
 
 abbrev pub put_kind : List ℕ
 put_kind = codes "PUT"
@@ -19,7 +19,7 @@ deleted_kind = codes "DELETE"
 -- A change is a put, which etcd leaves out as the first of its kinds, or a deletion.
 abbrev pub change_by : List ℕ → Data → Option Change
 change_by kind key =
-    if bytes_eq kind put_kind then option_map Put (stored_value key)
+    if bytes_eq kind put_kind then option_map Put (key_value key)
     else (if bytes_eq kind deleted_kind then option_map Deleted (key_revision key) else None)
 
 unfoldable pub change_of : Data → Option Change

@@ -10,6 +10,7 @@ use crate::questions::Questions;
 use crate::request_lane::RequestLane;
 use crate::settings::{EtcdSettings, User};
 use crate::watch_lane::WatchLane;
+use crate::writer::writer_of;
 use mio::{Registry, Token};
 use std::alloc::{AllocError, Global};
 use std::collections::VecDeque;
@@ -60,6 +61,8 @@ impl LogState {
 /// `advance` does all input and output. The other calls work on what it has received.
 #[derive(Drop)]
 pub struct EtcdLog {
+    // The number in its values, and its number as a writer.
+    pub(crate) run: u64,
     pub(crate) number: u64,
     pub(crate) state: LogState,
     pub(crate) queue: VecDeque<Payload>,
@@ -71,6 +74,8 @@ pub struct EtcdLog {
 }
 
 impl EtcdLog {
+    ghost use Rattle.std.specs.Prelude.{◌≡◌};
+
     /// Creates a log. Its two connections are watched under these tokens.
     ///
     /// Returns `AllocError` if memory runs out.
@@ -87,7 +92,8 @@ impl EtcdLog {
         let key = key_of(alloc, settings.name.as_str())?;
         let fence = fence_value(alloc, settings.number)?;
         let following = Following::new(alloc, settings.revision, settings.count);
-        let number = settings.number;
+        let run = settings.number;
+        let number = writer_of(alloc, key.as_bytes(), run)?;
         let state = LogState {
             alloc,
             endpoints,
@@ -102,6 +108,7 @@ impl EtcdLog {
             checked: Duration::ZERO,
         };
         Ok(EtcdLog {
+            run,
             number,
             state,
             queue: VecDeque::new(alloc),
@@ -114,7 +121,9 @@ impl EtcdLog {
 
     /// Sends and receives what is there, at a time of a clock that does not go back. Returns the
     /// time within which it has to be called again, unless a connection is ready before.
-    pub fn advance(&mut self, net: &impl Net, registry: &Registry, now: Duration) -> Duration {
+    pub fn advance(&mut self, net: &impl Net, registry: &Registry, now: Duration) -> Duration
+        ensures { self.new.number ≡ self.old.number }
+    {
         self.offer_next();
         if self.state.loss.is_none() {
             if let Err(fault) = self.requests.advance(net, registry, &mut self.state, now) {
@@ -133,13 +142,19 @@ impl EtcdLog {
             self.watch.close();
             return Duration::from_millis(MAX_PATIENCE);
         }
+        // the outcome of a batch has come, and another one waits
+        if self.state.own.is_idle() && !self.queue.is_empty() {
+            return Duration::ZERO;
+        }
         let patience = self.requests.patience(&self.state, now);
         let patience = patience.min(self.watch.patience(&self.state, now));
         patience.min(Duration::from_millis(MAX_PATIENCE))
     }
 
     // Offers the next batch, if the outcome of the one before is known.
-    fn offer_next(&mut self) {
+    fn offer_next(&mut self)
+        ensures { self.new.number ≡ self.old.number }
+    {
         if self.state.own.is_idle()
             && let Some(value) = self.queue.pop_front()
         {

@@ -3,7 +3,7 @@ ghost use Rattle.std.specs.Prelude.{◌≡◌, ◌++◌, [], OnOk, OnErr, IfOk, 
 ghost use Rattle.pool_etcd.specs.Following.{AddsEntry, Ascends, HasEntries, IsSame, ReceivesEntries, last_revision};
 
 use crate::log_value::{LogEntry, read_entry};
-use crate::response::StoredValue;
+use crate::response::KeyValue;
 use crate::watch_line::Change;
 use std::alloc::Global;
 use std::collections::VecDeque;
@@ -37,15 +37,15 @@ struct LineEntries {
     revision: u64,
 }
 
-// Adds the entry that a value is, if it is one.
+// Adds the entry that the value of a key is, if it is one.
 fn push_entry(
     alloc: Global,
     entries: &mut VecDeque<LogEntry>,
-    stored: &StoredValue,
+    put: &KeyValue,
 ) -> Result<(), FollowFault>
-    ensures { OnOk result (AddsEntry stored.now.value entries.old.items entries.new.items) }
+    ensures { OnOk result (AddsEntry put.now entries.old.items entries.new.items) }
 {
-    match read_entry(alloc, stored.value.bytes()) {
+    match read_entry(alloc, put.key.bytes(), put.stored.value.bytes()) {
         Ok(Some(entry)) => match entries.push_back(entry) {
             Ok(()) => Ok(()),
             Err(_) => Err(FollowFault::Memory),
@@ -65,12 +65,12 @@ fn line_entries(alloc: Global, before: u64, changes: &[Change]) -> Result<LineEn
     let mut revision = before;
     for change in changes {
         match change {
-            Change::Put(stored) => {
-                if stored.revision <= revision {
+            Change::Put(put) => {
+                if put.stored.revision <= revision {
                     return Err(FollowFault::OutOfOrder);
                 }
-                push_entry(alloc, &mut entries, stored)?;
-                revision = stored.revision;
+                push_entry(alloc, &mut entries, put)?;
+                revision = put.stored.revision;
             }
             Change::Deleted(_) => return Err(FollowFault::Deleted),
         }

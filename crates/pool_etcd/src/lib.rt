@@ -29,3 +29,4 @@ pub mod settings;
 mod times;
 mod watch_lane;
 mod watch_line;
+mod writer;

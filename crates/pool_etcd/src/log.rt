@@ -19,7 +19,7 @@ impl Log for EtcdLog {
         if bytes.len() > MAX_BATCH {
             return Err(OfferFault::TooLong);
         }
-        let Ok(value) = entry_value(self.state.alloc, self.number, bytes) else {
+        let Ok(value) = entry_value(self.state.alloc, self.run, bytes) else {
             return Err(OfferFault::NoMemory);
         };
         match self.queue.push_back(value) {

@@ -1,16 +1,18 @@
 //! The values under the keys of a log.
 ghost use Rattle.std.specs.Prelude.{◌≡◌, IfOk, MatchOption};
-ghost use Rattle.pool_etcd.specs.LogValue.{IsEntry, IsNoEntry, entry_value, fence_value};
+ghost use Rattle.pool_etcd.specs.LogValue.{IsNoEntry, entry_value, fence_value};
 ghost use Rattle.pool_etcd.specs.Number.{number_of};
+ghost use Rattle.pool_etcd.specs.Writer.{IsEntryBy};
 
 use crate::lines::{LINE_FEED, line_end};
 use crate::number::number_of;
 use crate::payload::Payload;
 use crate::response_fault::ResponseFault;
+use crate::writer::writer_of;
 use std::alloc::{AllocError, Global};
 use std::str;
 
-/// An entry: the number of the instance that wrote it, and its bytes.
+/// An entry: the number of its writer, and its bytes.
 #[derive(Drop)]
 pub struct LogEntry {
     pub writer: u64,
@@ -54,20 +56,21 @@ fn number_in_bytes(alloc: Global, bytes: &[u8]) -> Result<Option<u64>, AllocErro
     }
 }
 
-/// Returns the entry that a value is, or `None` if it is none.
+/// Returns the entry that the value of a key is, or `None` if it is none.
 ///
 /// Returns `AllocError` if memory runs out.
-pub fn read_entry(alloc: Global, value: &[u8]) -> Result<Option<LogEntry>, AllocError>
+pub fn read_entry(alloc: Global, key: &[u8], value: &[u8]) -> Result<Option<LogEntry>, AllocError>
     ensures { IfOk result (λ entry. MatchOption entry
         (IsNoEntry value.now)
-        (λ e. IsEntry value.now e.writer e.bytes)) }
+        (λ e. IsEntryBy key.now value.now e.writer e.bytes)) }
 {
     let Some(end) = line_end(value) else {
         return Ok(None);
     };
-    let Some(writer) = number_in_bytes(alloc, &value[..end])? else {
+    let Some(number) = number_in_bytes(alloc, &value[..end])? else {
         return Ok(None);
     };
+    let writer = writer_of(alloc, key, number)?;
     let bytes = Vec::from_slice(alloc, &value[end + 1..])?;
     Ok(Some(LogEntry {
         writer,

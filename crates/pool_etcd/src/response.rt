@@ -2,7 +2,8 @@
 ghost use Rattle.std.specs.Prelude.{◌≡◌};
 ghost use Rattle.serde_json.specs.View.{items_view, view};
 ghost use Rattle.pool_etcd.specs.Given.{Gives, IsJson, Reads};
-ghost use Rattle.pool_etcd.specs.Response.{put_outcome, range_revision, range_value, refusal, store_revision, stored_value, token_of, put_outcome_by};
+ghost use Rattle.pool_etcd.specs.Response.{key_value, put_outcome, range_revision, range_value};
+ghost use Rattle.pool_etcd.specs.Response.{refusal, store_revision, stored_value, token_of, put_outcome_by};
 
 use crate::json_value::json_of;
 use crate::member::{bytes_at, flag_at, items_at, required_number};
@@ -16,6 +17,13 @@ use std::alloc::Global;
 pub struct StoredValue {
     pub revision: u64,
     pub value: Payload,
+}
+
+/// A key with its value.
+#[derive(Drop)]
+pub struct KeyValue {
+    pub key: Payload,
+    pub stored: StoredValue,
 }
 
 /// The outcome of a put.
@@ -49,12 +57,21 @@ fn range_revision(alloc: Global, value: &Value) -> Result<u64, ResponseFault>
 }
 
 #[tactic(auto, unfolding(crate::specs::Response::stored_value))]
-pub(crate) fn stored_value(alloc: Global, value: &Value) -> Result<StoredValue, ResponseFault>
+fn stored_value(alloc: Global, value: &Value) -> Result<StoredValue, ResponseFault>
     ensures { Gives result (stored_value (view value.now)) }
 {
     let revision = required_number(alloc, value, "mod_revision")?;
     let value = bytes_at(alloc, value, "value")?;
     Ok(StoredValue { revision, value })
+}
+
+#[tactic(auto, unfolding(crate::specs::Response::key_value))]
+pub(crate) fn key_value(alloc: Global, value: &Value) -> Result<KeyValue, ResponseFault>
+    ensures { Gives result (key_value (view value.now)) }
+{
+    let key = bytes_at(alloc, value, "key")?;
+    let stored = stored_value(alloc, value)?;
+    Ok(KeyValue { key, stored })
 }
 
 #[tactic(auto, unfolding(crate::specs::Response::range_value))]

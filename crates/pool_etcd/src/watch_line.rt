@@ -8,7 +8,7 @@ ghost use Rattle.pool_etcd.specs.WatchLine.{change_by, change_of, changes_of, li
 
 use crate::json_value::json_of;
 use crate::member::{flag_at, items_at, number_at, required_number};
-use crate::response::{StoredValue, stored_value};
+use crate::response::{KeyValue, key_value};
 use crate::response_fault::ResponseFault;
 use serde_json::Value;
 use std::alloc::Global;
@@ -18,7 +18,7 @@ use std::marker::Model;
 #[derive(Drop)]
 pub enum Change {
     /// The key got a value.
-    Put(StoredValue),
+    Put(KeyValue),
     /// The key was deleted, at this revision.
     Deleted(u64),
 }
@@ -98,8 +98,8 @@ fn change_by(alloc: Global, kind: &str, key: &Value) -> Result<Change, ResponseF
     ensures { Gives result (change_by kind.now (view key.now)) }
 {
     if kind == "PUT" {
-        match stored_value(alloc, key) {
-            Ok(stored) => Ok(Change::Put(stored)),
+        match key_value(alloc, key) {
+            Ok(put) => Ok(Change::Put(put)),
             Err(fault) => Err(fault),
         }
     } else if kind == "DELETE" {
