@@ -1,9 +1,0 @@
-//! One instance of a pool, without sockets: what it offers, takes, asks and replies.
-#![tactic(auto)]
-
-pub mod fault;
-pub mod instance;
-pub mod outcome;
-pub mod request;
-mod requests;
-mod waiting;
