@@ -12,5 +12,5 @@ loop-change-preserved c =
     let is : Put c.in-Put.put ≡ get_or changes i (Put c.in-Put.put) = cc in
     let reads =
     one_more c.args.before changes i (Put c.in-Put.put) c.loop-change.entries.items added.0 c.loop-change.revision c.loop-change-test.true
-    is c.loop-change.invariant added.2 c.if-put-stored-revision.false in
+    is c.loop-change.invariant added.2 c.if-put-revision.false in
     subst (λ (es : List LogEntry). Reads c.args.before (take (i + 1) changes) es c.in-Put.put.stored.revision) (sym added.1) reads
