@@ -1,0 +1,73 @@
+-- Lemmas: a reading that was answered, or not.
+use Rattle.std.proofs.Common.{◌≡◌, ℕ, Bool, true, false, List, [], ◌∷◌, ◌++◌, Some, Ok, get_or, refl, sym, ap, subst, ◌∙◌, inl}
+use Rattle.std.specs.List.{remove}
+use Rattle.std.proofs.lemmas.List.{append-nil, get_or_at}
+use Rattle.space_core.specs.declared.space.Space as spaces
+use Rattle.service_step.specs.declared.reply.Reply.{Reply}
+use Rattle.service_step.specs.declared.reply.Reply.TheVariants.{Done, Denied, Fault, Stopped}
+use Rattle.service_step.specs.Reply.{is_stopped}
+use Rattle.service_step.specs.Step.{IsDoneOrDenied}
+use Rattle.service_calls.specs.Held.{Stays}
+use Rattle.service_calls.specs.Run.{IsReplyTo}
+use Rattle.service_calls.specs.declared.service.Service.{Service}
+use Rattle.pool_core.specs.declared.log.Log as logs
+use Rattle.pool_core.proofs.Lists.{contains_at, contains_same}
+use Rattle.pool_instance.specs.Does.{AnsweredSo, FailedSo}
+use Rattle.pool_instance.specs.Effects.{with_end}
+use Rattle.pool_instance.specs.Parts.{count_taken, is_due, is_ended, log_of, readings_in, sent_in, unsent_in}
+use Rattle.pool_instance.specs.Request.{call_of}
+use Rattle.pool_instance.specs.declared.fault.InstanceFault.TheVariants.{Ended}
+use Rattle.pool_instance.specs.declared.instance.Instance.{Instance}
+use Rattle.pool_instance.specs.declared.outcome.Outcome.TheVariants.{Failed, Replied}
+use Rattle.pool_instance.specs.declared.waiting.Reading.{Reading}
+use Rattle.pool_instance.proofs.After.{Stayed, continues_same, requests_same}
+use Rattle.pool_instance.proofs.Did.{did_end}
+use Rattle.pool_instance.proofs.Entries.{did_answer, did_fail}
+use Rattle.pool_instance.proofs.Places.{Found}
+use Rattle.pool_instance.proofs.Times.{both, remove_split}
+
+pub final_reply : (r : Reply) → (r ≡ Fault → ⊥) → is_stopped r ≡ false → IsDoneOrDenied r
+final_reply (Done a) h s = tt
+final_reply (Denied p m) h s = tt
+final_reply Fault h s = absurd (h refl)
+final_reply Stopped h s = absurd (both true refl s)
+
+-- The element at the place that was found.
+pub found_is : {X : Type 0} (p : X → Bool) (xs : List X) (n : ℕ) (x : X) → (f : Found p xs n) → x ≡ get_or xs n x → f.one ≡ x
+found_is p xs n x f read = sym (read ∙ ap (λ v. get_or v n x) f.split.split ∙ get_or_at f.split.front f.one f.split.back x n f.split.at)
+
+module _ {L S : Type 0} (gl : logs.Ghosts L) (gs : spaces.Ghosts S) where
+  -- The service stopped.
+  pub answer_end : (old : Instance L S) (s : Service S) → Stays gs old.service s → FailedSo gl gs old (with_end (record old { service = s })) Ended
+  answer_end old s stays =
+      let new : Instance L S = with_end (record old { service = s }) in
+      let stayed : Stayed gl gs old new [] = record { history = continues_same (gl.history (log_of old)) (gl.history (log_of old)) refl; writer = refl; salt = stays.salt; sound = stays.sound } in (
+        refl,
+        refl,
+        inl (did_end gl gs old new [] stayed refl refl refl refl refl (λ start events. tt)
+            (λ events all.
+            requests_same events (events ++ []) (readings_in old) (readings_in old) (unsent_in old) (unsent_in old) (sent_in old) (sent_in old) old.received old.received (append-nil events) refl refl refl refl all)),
+      )
+
+  module _ (old new : Instance L S) (now : ℕ) (i : ℕ) (reply : Reply) (f : Found (is_due (count_taken old)) (readings_in old) i) (going : is_ended old ≡ false)
+      (asked : IsReplyTo gs old.service new.service now (call_of f.one.held.request) reply) (log : log_of new ≡ log_of old) (less : readings_in new ≡ remove (readings_in old) i) (same_hs : unsent_in new ≡ unsent_in old)
+      (same : new.in_flight ≡ old.in_flight) (taken : count_taken new ≡ count_taken old) (n : new.received ≡ old.received) (ended : is_ended new ≡ is_ended old) (goes : is_stopped reply ≡ false) where
+    removed : readings_in new ≡ f.split.front ++ f.split.back
+    removed = less ∙ ap (λ (v : List Reading). remove v i) f.split.split ∙ remove_split f.split.front f.one f.split.back i f.split.at
+
+    pub answered_fault : reply ≡ Fault → AnsweredSo gl gs now old new (Ok (Some (Failed f.one.held.id)))
+    answered_fault is = (
+      did_fail gl gs old new now f.split.front f.one f.split.back reply going f.split.split asked log removed same_hs same taken n ended goes,
+      (
+        f.one,
+        contains_same (readings_in old) (f.split.front ++ f.one ∷ f.split.back) f.one f.split.split (contains_at f.split.front f.one f.split.back),
+        refl,
+        subst (λ (r : Reply). IsReplyTo gs old.service new.service now (call_of f.one.held.request) r) is asked,
+      ),
+    )
+
+    pub answered_reply : IsDoneOrDenied reply → AnsweredSo gl gs now old new (Ok (Some (Replied f.one.held.id reply)))
+    answered_reply final = (
+      call_of f.one.held.request,
+      did_answer gl gs old new now f.split.front f.one f.split.back reply going f.split.split asked log removed same_hs same taken n ended goes f.passes final,
+    )

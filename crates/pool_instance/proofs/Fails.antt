@@ -1,0 +1,70 @@
+-- Lemmas: an operation that failed.
+use Rattle.std.proofs.Common.{◌≡◌, ℕ, true, false, List, map, refl, sym, subst, inl}
+use Rattle.std.specs.Prelude.{All}
+use Rattle.std.proofs.lemmas.List.Elements.{All-map}
+use Rattle.space_core.specs.declared.space.Space as spaces
+use Rattle.pool_core.specs.declared.log.Log as logs
+use Rattle.pool_core.specs.declared.log.LogFault.{LogFault}
+use Rattle.pool_core.specs.declared.log.LogFault.TheVariants as faults
+use Rattle.pool_instance.specs.Does.{FailedSo}
+use Rattle.pool_instance.specs.Effects.{FailsLog, with_end}
+use Rattle.pool_instance.specs.Lists.{asked}
+use Rattle.pool_instance.specs.Parts.{asked_stage, is_ended, is_fresh, is_fresh_by}
+use Rattle.pool_instance.specs.declared.fault.InstanceFault.{InstanceFault}
+use Rattle.pool_instance.specs.declared.fault.InstanceFault.TheVariants.{Ended, NoMemory}
+use Rattle.pool_instance.specs.declared.instance.Instance.{Instance}
+use Rattle.pool_instance.specs.declared.waiting.Reading.{Reading}
+use Rattle.pool_instance.specs.declared.waiting.Stage.{Stage}
+use Rattle.pool_instance.specs.declared.waiting.Stage.TheVariants.{Asked, Fresh, Until}
+use Rattle.pool_instance.proofs.After.{Alike, did_alike, did_nothing, ids_alike}
+
+stage_asked : (q : ℕ) (s : Stage) → is_fresh_by (asked_stage q s) ≡ false
+stage_asked q Fresh = refl
+stage_asked q (Asked p) = refl
+stage_asked q (Until n) = refl
+
+pub not_fresh : (s : Stage) → (s ≡ Fresh → ⊥) → is_fresh_by s ≡ false
+not_fresh Fresh h = absurd (h refl)
+not_fresh (Asked p) h = refl
+not_fresh (Until n) h = refl
+
+pub none_fresh : (q : ℕ) (rs : List Reading) → All (λ r. is_fresh r ≡ false) (map (asked q) rs)
+none_fresh q rs = All-map (λ r. is_fresh r ≡ false) (asked q) rs (λ k d lt. stage_asked q _)
+
+module _ {L S : Type 0} (gl : logs.Ghosts L) (gs : spaces.Ghosts S) where
+  pub alike_self : (x : Instance L S) → Alike gl gs x x
+  alike_self x = record { service = refl; history = refl; writer = refl; readings = refl; unsent = refl; in_flight = refl; taken = refl; received = refl; ended = λ h. h }
+
+  alike_end : (old mid : Instance L S) → Alike gl gs old mid → Alike gl gs old (with_end mid)
+  alike_end old mid a = record {
+    service = a.service;
+    history = a.history;
+    writer = a.writer;
+    readings = a.readings;
+    unsent = a.unsent;
+    in_flight = a.in_flight;
+    taken = a.taken;
+    received = a.received;
+    ended = λ h. refl;
+  }
+
+  -- The instance had ended before.
+  pub failed_before : (old : Instance L S) → is_ended old ≡ true → FailedSo gl gs old old Ended
+  failed_before old h = (h, refl, inl (did_alike gl gs old old (alike_self old)))
+
+  -- The instance ended.
+  pub failed_end : (old mid : Instance L S) → Alike gl gs old mid → FailedSo gl gs old (with_end mid) Ended
+  failed_end old mid a = (refl, ids_alike gl gs old mid a, inl (did_alike gl gs old (with_end mid) (alike_end old mid a)))
+
+  -- Memory ran out.
+  pub failed_memory : (old mid : Instance L S) → Alike gl gs old mid → is_ended mid ≡ is_ended old → FailedSo gl gs old mid NoMemory
+  failed_memory old mid a e = (did_nothing gl gs old mid a, e)
+
+  -- A call of the log failed.
+  pub failed_log : (fault : LogFault) (old mid new : Instance L S) (f : InstanceFault) → Alike gl gs old mid → is_ended mid ≡ is_ended old → FailsLog fault mid new f → FailedSo gl gs old new f
+  failed_log faults.NoMemory old mid new f a e h =
+      subst (λ (v : InstanceFault). FailedSo gl gs old new v) (sym h.0)
+      (subst (λ (v : Instance L S). FailedSo gl gs old v NoMemory) (sym h.1) (failed_memory old mid a e))
+  failed_log faults.Lost old mid new f a e h =
+      subst (λ (v : InstanceFault). FailedSo gl gs old new v) (sym h.0)
+      (subst (λ (v : Instance L S). FailedSo gl gs old v Ended) (sym h.1) (failed_end old mid a))

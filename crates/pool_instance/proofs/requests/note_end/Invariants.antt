@@ -1,0 +1,6 @@
+use Rattle.std.proofs.Common.{◌≡◌, ◌++◌, map, take, drop}
+use Rattle.pool_instance.specs.Lists.{told}
+use Rattle.pool_instance.proofs.requests.note_end.Given as goal
+
+abbrev pub invariant-loop-reading : goal.invariant-loop-reading
+invariant-loop-reading l = l.readings ≡ map (told l.question l.count) (take l.reading-index l.fn.readings) ++ drop l.reading-index l.fn.readings

@@ -1,0 +1,149 @@
+-- What the operations of an instance do: the events that each adds, and what it must answer.
+use Rattle.std.specs.Prelude.{◌≡◌, ◌==◌, ◌<◌, ◌+◌, ◌⊎◌, ℕ, zero, suc, Bool, true, false, List, [], ◌∷◌, ◌++◌, All, Contains, IsSome, Option, Some, None, Result, Ok, Err, find, length, map, take}
+use Rattle.std.specs.declared.vec.Vec.{Vec}
+use Rattle.entity_core.specs.Airspace.{Airspace}
+use Rattle.policy_core.specs.declared.call.Call.{Call}
+use Rattle.policy_core.specs.Policy.{breaks, early_rules}
+use Rattle.space_core.specs.declared.space.Space as spaces
+use Rattle.service_calls.specs.Run.{IsReplyTo}
+use Rattle.service_step.specs.declared.reply.Reply.{Reply}
+use Rattle.service_step.specs.declared.reply.Reply.TheVariants as replies
+use Rattle.pool_core.specs.Events.{AfterFirst, Answers, AsksForEnd, AtOnce, Fails, Gets, InPlace, InstanceEvent, LearnsEnd, Offers, Receives}
+use Rattle.pool_core.specs.Log.{LogEntry, LogEvent}
+use Rattle.pool_core.specs.declared.log.Log as logs
+use Rattle.pool_entry.specs.Calls.{calls_of}
+use Rattle.pool_entry.specs.Spelling.{IsBatch}
+use Rattle.pool_entry.specs.declared.pool_call.PoolCall.{PoolCall}
+use Rattle.pool_instance.specs.Lists.{AreWritten}
+use Rattle.pool_instance.specs.Parts.{count_taken, ids_in, ids_sent, ids_unsent, is_due, is_ended, is_fresh, log_of, readings_in, salt_in, sent_in, space_in, unsent_in}
+use Rattle.pool_instance.specs.Request.{call_of}
+use Rattle.pool_instance.specs.State.{IsAfter}
+use Rattle.pool_instance.specs.declared.fault.InstanceFault.{InstanceFault}
+use Rattle.pool_instance.specs.declared.fault.InstanceFault.TheVariants.{Ended, NoMemory}
+use Rattle.pool_instance.specs.declared.instance.Instance.{Instance}
+use Rattle.pool_instance.specs.declared.outcome.Outcome.{Outcome}
+use Rattle.pool_instance.specs.declared.outcome.Outcome.TheVariants.{Failed, Replied}
+use Rattle.pool_instance.specs.declared.outcome.Received.{Received}
+use Rattle.pool_instance.specs.declared.outcome.Received.TheVariants.{Denied, Waits}
+use Rattle.pool_instance.specs.declared.outcome.Unanswered.{Unanswered}
+use Rattle.pool_instance.specs.declared.outcome.Unanswered.TheVariants.{Unknown, Unsent}
+use Rattle.pool_instance.specs.declared.waiting.Held.{Held}
+use Rattle.pool_instance.specs.declared.waiting.Reading.{Reading}
+
+-- The answer to a request in its place in the log.
+abbrev pub in_place : ℕ × Reply → InstanceEvent
+in_place told = Answers told.0 InPlace told.1
+
+module _ {L S : Type 0} (gl : logs.Ghosts L) (gs : spaces.Ghosts S) where
+  -- Holds if an operation did exactly these events, whatever happened before.
+  pub record Did (old : Instance L S) (more : List InstanceEvent) (new : Instance L S) : Type 0 where
+    pub after : (past : Option (List LogEvent)) (start : Airspace) (events : List InstanceEvent)
+        → IsAfter gl gs past start events old → IsAfter gl gs past start (events ++ more) new
+    pub salt : salt_in new ≡ salt_in old
+    pub writer : gl.writer (log_of new) ≡ gl.writer (log_of old)
+    pub sound : gs.is_sound (space_in new) → gs.is_sound (space_in old)
+    pub stays_ended : is_ended old ≡ true → is_ended new ≡ true
+
+  -- Holds if an operation did nothing, and the same requests wait.
+  pub record DidNothing (old new : Instance L S) : Type 0 where
+    pub did : Did old [] new
+    pub same : ids_in new ≡ ids_in old
+    pub taken : count_taken new ≡ count_taken old
+
+  -- Holds if an operation failed so: it did nothing, or the instance has ended. The log may have
+  -- given an entry then.
+  abbrev pub FailedSo : Instance L S → Instance L S → InstanceFault → Type 0
+  FailedSo old new NoMemory = DidNothing old new × (is_ended new ≡ is_ended old)
+  FailedSo old new Ended = (is_ended new ≡ true) × (ids_in new ≡ ids_in old)
+      × (Did old [] new ⊎ ((entry : LogEntry) × Did old (Gets entry ∷ []) new))
+
+  -- ---- receive
+
+  -- Holds if the instance received a request. It is answered at once exactly if it breaks a
+  -- stateless rule, and waits otherwise.
+  abbrev pub ReceivedSo : (now : ℕ) (call : Call) → Instance L S → Instance L S
+      → Result Received InstanceFault → Type 0
+  ReceivedSo now call old new (Ok (Waits id)) =
+      ((a : Airspace) → find (breaks a now call) early_rules ≡ None)
+      × Did old (Receives id call ∷ []) new
+  ReceivedSo now call old new (Ok (Denied id reply)) =
+      ((a : Airspace) → IsSome (find (breaks a now call) early_rules))
+      × Did old (Receives id call ∷ Answers id (AtOnce (now, call)) reply ∷ []) new
+  ReceivedSo now call old new (Err fault) = FailedSo old new fault
+
+  -- ---- ask and learn
+
+  -- Holds if the instance asked for the end of the log if some reading had come since the last
+  -- question. No reading is left that no question is for.
+  abbrev pub AskedSo : Instance L S → Instance L S → Result Bool InstanceFault → Type 0
+  AskedSo old new (Ok true) = ((question : ℕ) × Did old (AsksForEnd question ∷ []) new)
+      × All (λ r. is_fresh r ≡ false) (readings_in new)
+  AskedSo old new (Ok false) = DidNothing old new × All (λ r. is_fresh r ≡ false) (readings_in new)
+  AskedSo old new (Err fault) = FailedSo old new fault
+
+  -- Holds if the instance learned an end, if the log told one.
+  abbrev pub LearnedSo : Instance L S → Instance L S → Bool → Type 0
+  LearnedSo old new true = (question : ℕ) × ((count : ℕ) × Did old (LearnsEnd question count ∷ []) new)
+  LearnedSo old new false = DidNothing old new
+
+  -- ---- offer
+
+  -- Holds if the first so many requests are offered in these bytes, at a time. They are as many as
+  -- have room in an entry.
+  pub record OffersFirst (now : ℕ) (hs : List Held) (count : ℕ) (bytes : List ℕ) : Type 0 where
+    pub calls : calls_of bytes ≡ map (λ (h : Held). (now, call_of h.request)) (take count hs)
+    pub some : 0 < count
+    pub most : (written : List PoolCall) → AreWritten now (take (count + 1) hs) written
+        → IsBatch written → count ≡ length hs
+
+  -- Holds if the instance offered as many changes as have room. It offers none only if none waits or
+  -- a batch is in flight.
+  abbrev pub OfferedSo : (now : ℕ) → Instance L S → Instance L S → Result ℕ InstanceFault → Type 0
+  OfferedSo now old new (Ok zero) = DidNothing old new
+      × ((unsent_in old ≡ []) ⊎ IsSome old.in_flight)
+  OfferedSo now old new (Ok (suc n)) = (bytes : List ℕ)
+      × Did old (Offers (map (λ (h : Held). h.id) (take (suc n) (unsent_in old))) bytes ∷ []) new
+      × OffersFirst now (unsent_in old) (suc n) bytes
+  OfferedSo now old new (Err fault) = FailedSo old new fault
+
+  -- ---- take
+
+  -- Holds if these requests got a reply: those of the batch in flight, if its entry was taken.
+  abbrev pub AreTold : Instance L S → Instance L S → (is_own : Bool) → List ℕ → Type 0
+  AreTold old new true ids = (ids ≡ ids_sent old) × (sent_in new ≡ [])
+  AreTold old new false ids = (ids ≡ []) × (sent_in new ≡ sent_in old)
+
+  -- Holds if the instance took the next entry, if the log gave one, and replied to the requests of
+  -- its batch. All of them have a reply then but those that failed before.
+  abbrev pub TookSo : {A : Type 0} → Instance L S → Instance L S
+      → Result (Option (Vec (ℕ × Reply) A)) InstanceFault → Type 0
+  TookSo old new (Ok None) = DidNothing old new
+  TookSo old new (Ok (Some told)) = (entry : LogEntry)
+      × Did old (Gets entry ∷ map in_place told.items) new
+      × (count_taken new ≡ count_taken old + 1)
+      × (is_ended new ≡ false)
+      × AreTold old new (entry.writer == gl.writer (log_of old)) (map (λ (t : ℕ × Reply). t.0) told.items)
+  TookSo old new (Err fault) = FailedSo old new fault
+
+  -- ---- answer
+
+  -- Holds if the instance answered a reading whose end is reached, if there is one. It fails only if
+  -- the service reports a fault.
+  abbrev pub AnsweredSo : (now : ℕ) → Instance L S → Instance L S
+      → Result (Option Outcome) InstanceFault → Type 0
+  AnsweredSo now old new (Ok None) = DidNothing old new
+      × All (λ r. is_due (count_taken old) r ≡ false) (readings_in old)
+  AnsweredSo now old new (Ok (Some (Replied id reply))) = (call : Call)
+      × Did old (Answers id (AfterFirst (count_taken old) (now, call)) reply ∷ []) new
+  AnsweredSo now old new (Ok (Some (Failed id))) = Did old (Fails id ∷ []) new
+      × ((r : Reading) × Contains (readings_in old) r × (r.held.id ≡ id)
+      × IsReplyTo gs old.service new.service now (call_of r.held.request) replies.Fault)
+  AnsweredSo now old new (Err fault) = FailedSo old new fault
+
+  -- ---- fail
+
+  -- Holds if the instance failed a request that had no reply.
+  abbrev pub GaveUpSo : (id : ℕ) → Instance L S → Instance L S → Option Unanswered → Type 0
+  GaveUpSo id old new None = DidNothing old new × (Contains (ids_in old) id → ⊥)
+  GaveUpSo id old new (Some Unsent) = Did old (Fails id ∷ []) new × Contains (ids_unsent old) id
+  GaveUpSo id old new (Some Unknown) = Did old (Fails id ∷ []) new × Contains (ids_sent old) id

@@ -1,0 +1,6 @@
+pub mod Request
+pub mod Parts
+pub mod Lists
+pub mod State
+pub mod Effects
+pub mod Does

@@ -1,0 +1,58 @@
+-- Lists of requests, and the calls of an entry.
+use Rattle.std.specs.Prelude.{◌≡◌, ◌<◌, ◌+◌, ℕ, false, List, [], ◌∷◌, Option, Some, None, length, map, take}
+use Rattle.entity_core.specs.Airspace.{Airspace}
+use Rattle.space_core.specs.Space.{IsContent}
+use Rattle.space_core.specs.declared.space.Space.{Ghosts}
+use Rattle.service_calls.specs.Held.{is_shut, salt_of, space_of}
+use Rattle.service_calls.specs.Run.{airspace_after, replies_of}
+use Rattle.service_calls.specs.declared.service.Service.{Service}
+use Rattle.service_step.specs.declared.reply.Reply.{Reply}
+use Rattle.pool_entry.specs.Calls.{calls_of}
+use Rattle.pool_entry.specs.Spelling.{IsBatch}
+use Rattle.pool_entry.specs.declared.pool_call.PoolCall.{PoolCall}
+use Rattle.pool_instance.specs.Parts.{asked_stage, stage_after}
+use Rattle.pool_instance.specs.Request.{written_at}
+use Rattle.pool_instance.specs.declared.requests.Draft.{Draft}
+use Rattle.pool_instance.specs.declared.waiting.Held.{Held}
+use Rattle.pool_instance.specs.declared.waiting.Reading.{Reading}
+
+-- A reading after a question, and after its answer.
+abbrev pub asked : (question : ℕ) → Reading → Reading
+asked question r = record r { stage = asked_stage question r.stage }
+
+abbrev pub told : (question count : ℕ) → Reading → Reading
+told question count r = record r { stage = stage_after question count r.stage }
+
+-- ---- batches
+
+-- Holds if these are the calls of the requests, as an entry represents them at a time.
+abbrev pub AreWritten : (now : ℕ) → List Held → List PoolCall → Type 0
+AreWritten now hs written =
+    map (λ (c : PoolCall). Some c) written ≡ map (λ (h : Held). written_at now h.request) hs
+
+-- Holds if the batch has the first requests, as many as have room in an entry.
+pub record IsFirstBatch (now : ℕ) (hs : List Held) (draft : Draft) : Type 0 where
+  pub calls : AreWritten now (take (length draft.sent.items) hs) draft.batch
+  pub some : 0 < length hs → 0 < length draft.sent.items
+  pub numbers : draft.sent.items ≡ map (λ (h : Held). Some h.id) (take (length draft.sent.items) hs)
+  pub most : (written : List PoolCall)
+      → AreWritten now (take (length draft.sent.items + 1) hs) written
+      → IsBatch written → length draft.sent.items ≡ length hs
+
+-- ---- entries
+
+-- Holds if the service made the calls of an entry, and these are the replies of the policy.
+pub record MadeCalls {S : Type 0} (g : Ghosts S) (bytes : List ℕ) (old new : Service S)
+    (replies : List Reply) : Type 0 where
+  pub goes : is_shut new ≡ false
+  pub each : length replies ≡ length (calls_of bytes)
+  pub made : g.is_sound (space_of new) → (a : Airspace) → IsContent g.holds (space_of old) a
+      → (replies ≡ replies_of (salt_of old) a (calls_of bytes))
+      × IsContent g.holds (space_of new) (airspace_after (salt_of old) a (calls_of bytes))
+
+-- The replies to the requests of a batch that have a number, each with it.
+abbrev pub told_of : List (Option ℕ) → List Reply → List (ℕ × Reply)
+told_of [] replies = []
+told_of (slot ∷ slots) [] = []
+told_of (None ∷ slots) (reply ∷ replies) = told_of slots replies
+told_of (Some id ∷ slots) (reply ∷ replies) = (id, reply) ∷ told_of slots replies

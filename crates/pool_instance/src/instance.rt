@@ -1,0 +1,331 @@
+//! One instance of a pool.
+use crate::fault::InstanceFault;
+use crate::log_io::LogIo;
+use crate::outcome::{Outcome, Received, Unanswered};
+use crate::request::Request;
+use crate::requests::{
+    Draft, first_batch, first_due, has_fresh, make_calls, note_end, note_question, pair,
+    place_of_change, place_of_reading, place_of_sent, reads,
+};
+use crate::waiting::{Held, Reading, Stage};
+use policy_core::early::early;
+use policy_core::reference::Missing;
+use pool_core::log::{Entry, Log, LogFault, OfferFault};
+use service_calls::service::Service;
+use service_step::reply::Reply;
+use space_core::space::Space;
+use std::alloc::{AllocError, Global};
+use std::time::Duration;
+use wire_route::routes::Routes;
+
+/// An instance of a pool: its log, its service, and the requests that have no reply yet.
+///
+/// It gives each request a number. It has at most one batch in flight.
+#[derive(Drop)]
+pub struct Instance<L: Log, S: Space> {
+    log: L,
+    service: Service<S>,
+    // The readings, and the changes that were not offered, each in the order of their receipt.
+    readings: Vec<Reading>,
+    unsent: Vec<Held>,
+    // The requests of the batch in flight. One that failed meanwhile has no number.
+    in_flight: Option<Vec<Option<u64>>>,
+    // How many entries were taken, and how many requests were received.
+    taken: u64,
+    received: u64,
+    ended: bool,
+}
+
+impl<L: Log + Drop, S: Space + Drop> Instance<L, S> {
+    ghost use Rattle.std.specs.Prelude.{◌≡◌, ◌↔◌, ℕ, [], false, Contains, IsTrue, MatchResult, None, OnErr, find};
+    ghost use Rattle.entity_core.specs.Airspace.{Airspace};
+    ghost use Rattle.space_core.specs.Space.{IsContent};
+    ghost use Rattle.service_calls.specs.Held.{is_shut, salt_of, space_of};
+    ghost use Rattle.pool_instance.specs.Does.{AnsweredSo, AskedSo, DidNothing, GaveUpSo};
+    ghost use Rattle.pool_instance.specs.Does.{LearnedSo};
+    ghost use Rattle.pool_instance.specs.Does.{OfferedSo, ReceivedSo, TookSo};
+    ghost use Rattle.policy_core.specs.Policy.{breaks, early_rules};
+    ghost use Rattle.pool_core.specs.Log.{entry_of};
+    ghost use Rattle.pool_instance.specs.Effects.{FailsLog, Forgets, Holds, HoldsNoMore};
+    ghost use Rattle.pool_instance.specs.Effects.{MakesEntry, with_end};
+    ghost use Rattle.pool_instance.specs.Parts.{ids_sent, is_ended, salt_in};
+    ghost use Rattle.pool_instance.specs.Request.{call_of};
+    ghost use Rattle.pool_instance.specs.State.{IsAfter};
+
+    /// Creates an instance that has taken no entry, over a service whose space holds the airspace
+    /// at the start of the log.
+    ///
+    /// Allocates nothing.
+    pub fn new(alloc: Global, log: L, service: Service<S>) -> Self
+        ensures after { is_shut service ≡ false → (start : Airspace)
+            → (S.is_sound (space_of service) → IsContent S.holds (space_of service) start)
+            → IsAfter L.Log S.Space (L.history log) start [] result }
+        ensures salt { salt_in result ≡ salt_of service }
+    {
+        Instance {
+            log,
+            service,
+            readings: Vec::new(alloc),
+            unsent: Vec::new(alloc),
+            in_flight: None,
+            taken: 0,
+            received: 0,
+            ended: false,
+        }
+    }
+
+    /// Returns true if the instance has ended. It gives no more replies.
+    pub fn is_ended(&self) -> bool
+        ensures { result ≡ is_ended self.now }
+    {
+        self.ended
+    }
+
+    /// Borrows the log, for its input and output.
+    pub fn log(&self) -> &L
+        ensures { result.now ≡ self.now.log }
+    {
+        &self.log
+    }
+
+    /// Moves the bytes of the log, at a time of a clock that does not go back. Returns the time
+    /// within which it has to be called again, unless a connection is ready before.
+    pub fn advance_log<I: LogIo<L>>(&mut self, io: &mut I, now: Duration) -> Duration
+        ensures { DidNothing L.Log S.Space self.old self.new }
+    {
+        io.advance_log(&mut self.log, now)
+    }
+
+    /// Returns true if the call of this request was offered, and its entry was not taken yet.
+    pub fn is_in_flight(&self, id: u64) -> bool
+        ensures { IsTrue result ↔ Contains (ids_sent self.now) id }
+    {
+        match &self.in_flight {
+            Some(sent) => place_of_sent(sent.as_slice(), id).is_some(),
+            None => false,
+        }
+    }
+
+    // Ends the instance.
+    fn end(&mut self) -> InstanceFault
+        ensures fault { result ≡ InstanceFault.Ended }
+        ensures ended { self.new ≡ with_end self.old }
+    {
+        self.ended = true;
+        InstanceFault::Ended
+    }
+
+    // Returns the fault of a call of the log. If the log is lost, the instance ends.
+    fn fail_log(&mut self, fault: LogFault) -> InstanceFault
+        ensures { FailsLog fault self.old self.new result }
+    {
+        match fault {
+            LogFault::NoMemory => InstanceFault::NoMemory,
+            LogFault::Lost => self.end(),
+        }
+    }
+
+    /// Receives a request at a time (Unix seconds), and gives it a number.
+    ///
+    /// A request that breaks one of P1 to P6 gets its denial at once. A reading waits for the end
+    /// of the log, any other request for the next batch.
+    pub fn receive(
+        &mut self,
+        alloc: Global,
+        now: u64,
+        request: Request,
+    ) -> Result<Received, InstanceFault>
+        ensures { ReceivedSo L.Log S.Space now (call_of request) self.old self.new result }
+    {
+        let id = self.received;
+        let Some(next) = id.checked_add(1) else {
+            return Err(self.end());
+        };
+        if self.ended {
+            return Err(InstanceFault::Ended);
+        }
+        if let Some(rule) = early(request.call()) {
+            self.received = next;
+            return Ok(Received::Denied(id, Reply::Denied(rule, Missing::empty(alloc))));
+        }
+        if self.hold(id, request).is_err() {
+            return Err(InstanceFault::NoMemory);
+        }
+        self.received = next;
+        Ok(Received::Waits(id))
+    }
+
+    // Adds a request that waits. It breaks no stateless rule.
+    fn hold(&mut self, id: u64, request: Request) -> Result<(), AllocError>
+        requires { (a : Airspace) (now : ℕ) → find (breaks a now (call_of request)) early_rules ≡ None }
+        ensures { MatchResult result (λ _. Holds id request self.old self.new)
+            (λ _. HoldsNoMore self.old self.new) }
+    {
+        let is_reading = reads(&request.call().op);
+        let held = Held { id, request };
+        if is_reading {
+            let stage = Stage::Fresh;
+            self.readings.push(Reading { held, stage })?;
+        } else {
+            self.unsent.push(held)?;
+        }
+        Ok(())
+    }
+
+    /// Asks for the end of the log, if a reading has come since the last question. Returns true if
+    /// it asked.
+    pub fn ask(&mut self) -> Result<bool, InstanceFault>
+        ensures { AskedSo L.Log S.Space self.old self.new result }
+    {
+        if self.ended {
+            return Err(InstanceFault::Ended);
+        }
+        if !has_fresh(self.readings.as_slice()) {
+            return Ok(false);
+        }
+        match self.log.ask_end() {
+            Ok(question) => {
+                note_question(self.readings.as_mut_slice(), question);
+                Ok(true)
+            }
+            Err(fault) => Err(self.fail_log(fault)),
+        }
+    }
+
+    /// Learns the next answer to a question, if the log gives one. Returns true if it did.
+    pub fn learn(&mut self) -> bool
+        ensures { LearnedSo L.Log S.Space self.old self.new result }
+    {
+        let Some(end) = self.log.end() else {
+            return false;
+        };
+        note_end(self.readings.as_mut_slice(), end.question, end.count);
+        true
+    }
+
+    /// Offers the changes that wait, as many as an entry has room for, each at this time (Unix
+    /// seconds). Returns their number. Offers none while a batch is in flight.
+    pub fn offer(&mut self, alloc: Global, now: u64) -> Result<usize, InstanceFault>
+        ensures { OfferedSo L.Log S.Space now self.old self.new result }
+    {
+        if self.ended {
+            return Err(InstanceFault::Ended);
+        }
+        if self.in_flight.is_some() || self.unsent.is_empty() {
+            return Ok(0);
+        }
+        let Ok(Draft { batch, sent }) = first_batch(alloc, self.unsent.as_slice(), now) else {
+            return Err(InstanceFault::NoMemory);
+        };
+        let count = sent.len();
+        match self.log.offer(batch.bytes()) {
+            Ok(()) => {
+                self.in_flight = Some(sent);
+                self.unsent.drain(..count);
+                Ok(count)
+            }
+            Err(OfferFault::NoMemory) => Err(InstanceFault::NoMemory),
+            Err(OfferFault::TooLong) => Err(self.end()),
+        }
+    }
+
+    /// Takes the next entry, if the log gives one, and makes its calls in order. Returns the replies
+    /// to the requests of its own batch, each with the number of its request.
+    ///
+    /// If memory runs out in a call, the instance ends: others have made the call.
+    pub fn take(
+        &mut self,
+        alloc: Global,
+        routes: &Routes,
+    ) -> Result<Option<Vec<(u64, Reply)>>, InstanceFault>
+        ensures { TookSo L.Log S.Space self.old self.new result }
+    {
+        if self.ended {
+            return Err(InstanceFault::Ended);
+        }
+        match self.log.next() {
+            Ok(None) => Ok(None),
+            Ok(Some(entry)) => match self.make(alloc, routes, &entry) {
+                Some(told) => Ok(Some(told)),
+                None => Err(self.end()),
+            },
+            Err(fault) => Err(self.fail_log(fault)),
+        }
+    }
+
+    // Makes the calls of an entry, and returns the replies to the own requests in it. Returns `None`
+    // if the instance cannot go on.
+    fn make(&mut self, alloc: Global, routes: &Routes, entry: &Entry) -> Option<Vec<(u64, Reply)>>
+        ensures { MakesEntry L.Log S.Space (entry_of entry.now) self.old self.new result }
+    {
+        let taken = self.taken.checked_add(1)?;
+        let replies = make_calls(&mut self.service, alloc, routes, entry.bytes.as_slice())?;
+        if entry.writer != self.log.number() {
+            self.taken = taken;
+            return Some(Vec::new(alloc));
+        }
+        let told = match &self.in_flight {
+            Some(sent) => pair(alloc, sent.as_slice(), replies)?,
+            None => return None,
+        };
+        self.in_flight = None;
+        self.taken = taken;
+        Some(told)
+    }
+
+    /// Answers the first reading whose end was reached, at a time (Unix seconds), if there is one.
+    pub fn answer(&mut self, alloc: Global, now: u64) -> Result<Option<Outcome>, InstanceFault>
+        ensures { AnsweredSo L.Log S.Space now self.old self.new result }
+    {
+        if self.ended {
+            return Err(InstanceFault::Ended);
+        }
+        let Some(index) = first_due(self.readings.as_slice(), self.taken) else {
+            return Ok(None);
+        };
+        let reply = self
+            .service
+            .call(alloc, now, self.readings[index].held.request.call());
+        if reply.is_stopped() {
+            return Err(self.end());
+        }
+        let id = self.readings.remove(index).held.id;
+        match reply {
+            Reply::Fault => Ok(Some(Outcome::Failed(id))),
+            reply => Ok(Some(Outcome::Replied(id, reply))),
+        }
+    }
+
+    /// Fails a request, for example because its time is over. Returns whether its call may have been
+    /// made, or `None` if the request has a reply or failed before.
+    pub fn fail(&mut self, id: u64) -> Option<Unanswered>
+        ensures { GaveUpSo L.Log S.Space id self.old self.new result }
+    {
+        if let Some(index) = place_of_reading(self.readings.as_slice(), id) {
+            let _gone = self.readings.remove(index);
+            return Some(Unanswered::Unsent);
+        }
+        if let Some(index) = place_of_change(self.unsent.as_slice(), id) {
+            let _gone = self.unsent.remove(index);
+            return Some(Unanswered::Unsent);
+        }
+        if self.forget(id) {
+            return Some(Unanswered::Unknown);
+        }
+        None
+    }
+
+    // Removes the number of a request of the batch in flight. Returns true if it was there.
+    fn forget(&mut self, id: u64) -> bool
+        ensures { Forgets id self.old self.new result }
+    {
+        let Some(sent) = &mut self.in_flight else {
+            return false;
+        };
+        let Some(index) = place_of_sent(sent.as_slice(), id) else {
+            return false;
+        };
+        sent[index] = None;
+        true
+    }
+}

@@ -1,0 +1,250 @@
+//! Lists of requests, and the calls of an entry.
+ghost use Rattle.std.specs.Prelude.{◌≡◌, ◌==◌, All, false, true, IfOk, IfSome, length, map, position};
+ghost use Rattle.service_calls.specs.Held.{Stays, is_shut};
+ghost use Rattle.service_step.specs.Step.{IsDoneOrDenied};
+ghost use Rattle.pool_core.specs.Unlogged.{reads};
+ghost use Rattle.pool_entry.specs.Calls.{calls_of};
+ghost use Rattle.pool_instance.specs.declared.waiting.Held.{Held};
+ghost use Rattle.pool_instance.specs.declared.waiting.Reading.{Reading};
+ghost use Rattle.pool_instance.specs.Lists.{IsFirstBatch, MadeCalls, asked, told, told_of};
+ghost use Rattle.pool_instance.specs.Parts.{asked_stage, is_due, is_due_by, is_fresh, is_number};
+ghost use Rattle.pool_instance.specs.Parts.{stage_after};
+
+use crate::waiting::{Held, Reading, Stage};
+use policy_core::call::{Call, Operation};
+use pool_entry::batch::{Batch, PushError};
+use pool_entry::batch_fault::ReadError;
+use pool_entry::entry::entry_calls;
+use service_calls::service::Service;
+use service_step::reply::Reply;
+use space_core::space::Space;
+use std::alloc::{AllocError, Global};
+use wire_route::routes::Routes;
+
+/// Returns true if an operation only reads.
+pub(crate) fn reads(op: &Operation) -> bool
+    ensures { result ≡ reads op.now }
+{
+    matches!(
+        op,
+        Operation::Query(_, _)
+            | Operation::Read(_, _)
+            | Operation::ReadAvail(_)
+            | Operation::QuerySub(_)
+            | Operation::ReadSub(_)
+    )
+}
+
+/// Returns true if no question is for some reading.
+pub(crate) fn has_fresh(readings: &[Reading]) -> bool
+    ensures { result ≡ false → All (λ r. is_fresh r ≡ false) readings.now }
+{
+    for reading in readings {
+        if let Stage::Fresh = reading.stage {
+            return true;
+        }
+    }
+    false
+}
+
+fn asked_stage(question: u64, stage: Stage) -> Stage
+    ensures { result ≡ asked_stage question stage }
+{
+    match stage {
+        Stage::Fresh => Stage::Asked(question),
+        stage => stage,
+    }
+}
+
+/// Notes that a question is for all readings that no question was for.
+pub(crate) fn note_question(readings: &mut [Reading], question: u64)
+    ensures { readings.new ≡ map (asked question) readings.old }
+{
+    for reading in readings.iter_mut() {
+        reading.stage = asked_stage(question, reading.stage);
+    }
+}
+
+fn stage_after(question: u64, count: u64, stage: Stage) -> Stage
+    ensures { result ≡ stage_after question count stage }
+{
+    match stage {
+        Stage::Asked(asked) if asked == question => Stage::Until(count),
+        stage => stage,
+    }
+}
+
+/// Notes the answer to a question.
+pub(crate) fn note_end(readings: &mut [Reading], question: u64, count: u64)
+    ensures { readings.new ≡ map (told question count) readings.old }
+{
+    for reading in readings.iter_mut() {
+        reading.stage = stage_after(question, count, reading.stage);
+    }
+}
+
+fn is_due(stage: Stage, taken: u64) -> bool
+    ensures { result ≡ is_due_by taken stage }
+{
+    match stage {
+        Stage::Until(count) => count <= taken.saturating_add(1),
+        _ => false,
+    }
+}
+
+/// Returns the index of the first reading whose end was reached.
+pub(crate) fn first_due(readings: &[Reading], taken: u64) -> Option<usize>
+    ensures { result ≡ position (is_due taken) readings.now }
+{
+    readings
+        .iter()
+        .position(|reading| is_due(reading.stage, taken))
+}
+
+/// Returns the index of the reading with this number.
+pub(crate) fn place_of_reading(readings: &[Reading], id: u64) -> Option<usize>
+    ensures { result ≡ position (λ (r : Reading). r.held.id == id) readings.now }
+{
+    readings.iter().position(|reading| reading.held.id == id)
+}
+
+/// Returns the index of the change with this number.
+pub(crate) fn place_of_change(unsent: &[Held], id: u64) -> Option<usize>
+    ensures { result ≡ position (λ (h : Held). h.id == id) unsent.now }
+{
+    unsent.iter().position(|held| held.id == id)
+}
+
+/// Returns the index of the request with this number in a batch.
+pub(crate) fn place_of_sent(sent: &[Option<u64>], id: u64) -> Option<usize>
+    ensures { result ≡ position (is_number id) sent.now }
+{
+    sent.iter().position(|slot| is_number(id, *slot))
+}
+
+fn is_number(id: u64, slot: Option<u64>) -> bool
+    ensures { result ≡ is_number id slot }
+{
+    match slot {
+        Some(number) => number == id,
+        None => false,
+    }
+}
+
+/// A batch that is not offered yet, and the numbers of its requests.
+#[derive(Drop)]
+pub(crate) struct Draft {
+    pub batch: Batch,
+    pub sent: Vec<Option<u64>>,
+}
+
+/// Returns a batch of as many of the first changes as an entry has room for.
+///
+/// Returns `AllocError` if memory runs out.
+pub(crate) fn first_batch(alloc: Global, unsent: &[Held], now: u64) -> Result<Draft, AllocError>
+    ensures { IfOk result (IsFirstBatch now unsent.now) }
+{
+    let mut batch = Batch::new(alloc)?;
+    let mut sent = Vec::new(alloc);
+    for held in unsent {
+        let Some(caller) = &held.request.call().caller else {
+            unreachable!();
+        };
+        let written = held.request.written(alloc, caller, now)?;
+        match batch.push(alloc, written) {
+            Ok(()) => sent.push(Some(held.id))?,
+            Err(PushError::Full(_)) => return Ok(Draft { batch, sent }),
+            Err(PushError::Memory) => return Err(AllocError),
+        }
+    }
+    Ok(Draft { batch, sent })
+}
+
+// Returns true if a reply says what the policy says.
+fn is_final(reply: &Reply) -> bool
+    ensures { result ≡ true → IsDoneOrDenied reply.now }
+{
+    match reply {
+        Reply::Done(_) | Reply::Denied(_, _) => true,
+        Reply::Fault | Reply::Stopped => false,
+    }
+}
+
+// Returns true if all replies say what the policy says.
+fn all_final(replies: &[Reply]) -> bool
+    ensures { result ≡ true → All IsDoneOrDenied replies.now }
+{
+    for reply in replies {
+        let is_final = is_final(reply);
+        if !is_final {
+            return false;
+        }
+    }
+    true
+}
+
+// Returns the calls that the bytes of an entry represent, or `None` if memory runs out.
+fn calls_in(alloc: Global, routes: &Routes, bytes: &[u8]) -> Option<Vec<(u64, Call)>>
+    ensures { IfSome result (λ calls. calls.items ≡ calls_of bytes.now) }
+{
+    match entry_calls(alloc, routes, bytes) {
+        Ok(calls) => Some(calls),
+        Err(ReadError::Fault(_)) => Some(Vec::new(alloc)),
+        Err(ReadError::Memory) => None,
+    }
+}
+
+/// Makes the calls that the bytes of an entry represent, and returns the replies.
+///
+/// Returns `None` if a call failed, or if memory ran out.
+pub(crate) fn make_calls<S: Space + Drop>(
+    service: &mut Service<S>,
+    alloc: Global,
+    routes: &Routes,
+    bytes: &[u8],
+) -> Option<Vec<Reply>>
+    ensures stays { Stays S.Space service.old service.new }
+    ensures made { is_shut service.old ≡ false → IfSome result (λ replies.
+        MadeCalls S.Space bytes.now service.old service.new replies.items) }
+{
+    let Some(calls) = calls_in(alloc, routes, bytes) else {
+        return None;
+    };
+    let Ok(replies) = service.run(alloc, calls.as_slice()) else {
+        return None;
+    };
+    if all_final(replies.as_slice()) {
+        Some(replies)
+    } else {
+        None
+    }
+}
+
+/// Returns the replies to the requests of a batch that have a number, each with it.
+///
+/// Returns `None` if there are not as many replies as requests, or if memory runs out.
+pub(crate) fn pair(
+    alloc: Global,
+    sent: &[Option<u64>],
+    replies: Vec<Reply>,
+) -> Option<Vec<(u64, Reply)>>
+    ensures { IfSome result (λ told. (length sent.now ≡ length replies.items)
+        × (told.items ≡ told_of sent.now replies.items)) }
+{
+    if replies.len() != sent.len() {
+        return None;
+    }
+    let Ok(mut told) = Vec::with_capacity(alloc, sent.len()) else {
+        return None;
+    };
+    let mut rest = replies;
+    for slot in sent {
+        let reply = rest.remove(0);
+        if let Some(id) = slot {
+            if told.push((*id, reply)).is_err() {
+                return None;
+            }
+        }
+    }
+    Some(told)
+}
