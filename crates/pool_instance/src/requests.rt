@@ -87,7 +87,7 @@ fn is_due(stage: Stage, taken: u64) -> bool
     ensures { result ≡ is_due_by taken stage }
 {
     match stage {
-        Stage::Until(count) => count <= taken.saturating_add(1),
+        Stage::Until(count) => count <= taken,
         _ => false,
     }
 }
