@@ -13,12 +13,18 @@ LIMIT = 60
 numbers = itertools.count(int.from_bytes(os.urandom(4), "big") << 16)
 
 
+def settings_number(policy, salt):
+    """The number of settings: the first 8 bytes of a digest."""
+    digest = hashlib.sha256(f"dss-settings 1\n{policy}\n{salt}".encode()).digest()
+    return int.from_bytes(digest[:8], "big")
+
+
 class Instance:
     """A process, with a number that no other has."""
 
-    def __init__(self, addresses, name, revision=0, count=0, user=None):
-        self.name, self.number = name, next(numbers)
-        words = [BUILT, addresses, name, str(self.number), str(revision), str(count), *(user or ())]
+    def __init__(self, addresses, name, revision=0, count=0, user=None, salt="a salt", policy=1, pool="-"):
+        self.name, self.number, self.agreed = name, next(numbers), settings_number(policy, salt)
+        words = [BUILT, addresses, name, str(self.number), str(revision), str(count), salt, str(policy), str(pool), *(user or ())]
         self.process = subprocess.Popen(words, stdin=subprocess.PIPE, stdout=subprocess.PIPE, text=True, bufsize=1)
         self.lines, self.offered = [], []
         # How often it was told to go on.
@@ -82,6 +88,10 @@ class Instance:
 
     def texts(self):
         return [text for _, text in self.entries()]
+
+    def fence(self):
+        """The value that it puts before its first entry."""
+        return f"{self.number} {self.agreed}".encode()
 
     def writer(self):
         """The number of the writer of its entries."""

@@ -29,7 +29,7 @@ def batches_in_order():
     one = Instance(fake.addresses(), "a")
     offer_all(one, fake, 20)
     same([], one.faults(), "faults")
-    same(f"{one.number}".encode(), fake.entries()[0], "the fence")
+    same(one.fence(), fake.entries()[0], "the fence")
     one.close()
 
 
@@ -171,14 +171,23 @@ def ends_after_entries():
     two.close()
 
 
+# Values that are no fence: the log may begin with them, whatever the settings of the instances.
+NO_FENCES = (
+    b"", b"5", b"5 ", b" 5", b"5 5 ", b"5  5", b"5 05", b"05 5", b"+5 5", b"5 +5", b"5 5 5", b"5\t5", b"5 x", b"x 5", b"\xff 5", b"5 \xff",
+    b"18446744073709551616 5", b"5 18446744073709551616",
+)
+
+
 def other_keys():
     """Keys beside the log raise the revision of the store, and are no entries. Values that are no entry are passed over."""
     fake = Fake()
+    for it in NO_FENCES:
+        fake.put_from_outside(b"in/z", it)
     one = Instance(fake.addresses(), "a")
     offer_all(one, fake, 1)
     for it in (b"mark/a", b"in0", b"im/x", b"in"):
         fake.put_from_outside(it, b"5\nno entry")
-    for it in (b"", b"5", b"\n", b"x\ny", b"05\nz", b"+5\nz", b"18446744073709551616\nz", b"\xff\nz", b" 5\nz"):
+    for it in (b"", b"5", b"\n", b"x\ny", b"05\nz", b"+5\nz", b"18446744073709551616\nz", b"\xff\nz", b" 5\nz", b"5 5", *NO_FENCES):
         fake.put_from_outside(b"in/z", it)
     fake.put_from_outside(b"in/z", b"5\nan entry")
     one.say("end")
@@ -202,6 +211,92 @@ def numbers_of_others():
     one.close()
 
 
+def other_settings():
+    """An instance with another salt, or another policy, ends at the first fence of the log. The others go on."""
+    fake = Fake()
+    one = Instance(fake.addresses(), "a")
+    offer_all(one, fake, 2)
+    for name, settings in ("b", {"salt": "another"}), ("c", {"policy": 2}), ("d", {"salt": "a salt\n"}), ("e", {"salt": ""}):
+        other = Instance(fake.addresses(), name, **settings)
+        other.offer("never")
+        other.say("end")
+        other.wait(10_000)
+        same("settings", other.lost(), f"the log of {name}")
+        same("ended 3", other.lines[-1], "its status")
+        same([], [it for it in other.lines if it.startswith(("entry ", "end "))], f"what {name} was given")
+    alike = Instance(fake.addresses(), "f")
+    alike.offer("y")
+    alike.settle()
+    one.offer("x")
+    one.settle()
+    same(["t0", "t1", "y", "x"], [it[1] for it in one.until(4)], "entries")
+    same(["t0", "t1", "y", "x"], [it[1] for it in alike.until(4)], "entries")
+    same([None, None], [one.lost(), alike.lost()], "losses")
+    one.close()
+    alike.close()
+
+
+def settings_of_the_first_fence():
+    """The first fence tells the settings of the pool, also if there are others in the same line, or in later ones."""
+    for join in (True, False):
+        fake = Fake()
+        instances = [Instance(fake.addresses(), "a"), Instance(fake.addresses(), "b", salt="another")]
+        one, other = instances
+        for it in (b"no fence", f"5 {one.agreed}".encode(), b"5\nx", f"5 {other.agreed}".encode(), b"5\ny"):
+            fake.put_from_outside(b"in/z", it)
+        if join:
+            fake.plan("watch", "join", "join")
+        for it in instances:
+            it.say("end")
+            it.begin("wait 2000")
+        same(["x", "y"], [it[1] for it in one.until(2)], "entries")
+        other.wait(5_000)
+        same([None, "settings"], [it.lost() for it in instances], "losses")
+        same([], [it for it in other.lines if it.startswith(("entry ", "end "))], "what the other one was given")
+        one.close()
+
+
+def settings_behind_a_revision():
+    """An instance that starts behind a revision compares its settings with the first fence behind it."""
+    fake = Fake()
+    one = Instance(fake.addresses(), "a")
+    offer_all(one, fake, 1)
+    revision = one.wait(100).split()[4]
+    other = Instance(fake.addresses(), "b", revision=revision, count=1, salt="another")
+    other.wait(1_000)
+    alike = Instance(fake.addresses(), "c", revision=revision, count=1)
+    alike.wait(1_000)
+    same([None, None, "settings"], [it.lost() for it in (one, other, alike)], "losses")
+    one.close()
+    other.close()
+
+
+def known_settings():
+    """An instance that knows the settings of the pool compares its own with these, and with no fence."""
+    fake = Fake()
+    one = Instance(fake.addresses(), "a")
+    offer_all(one, fake, 1)
+    revision = one.wait(100).split()[4]
+    stranger = Instance(fake.addresses(), "b", revision=revision, count=1, salt="another")
+    stranger.wait(1_000)
+    fences = len(fake.entries())
+    other = Instance(fake.addresses(), "c", revision=revision, count=1, salt="another", pool=one.agreed)
+    other.offer("never")
+    other.say("end")
+    other.wait(1_000)
+    same("settings", other.lost(), "the log with other settings")
+    same([], [it for it in other.lines if it.startswith(("entry ", "end "))], "what it was given")
+    same(fences, len(fake.entries()), "what it wrote")
+    alike = Instance(fake.addresses(), "d", revision=revision, count=1, pool=one.agreed)
+    alike.offer("y")
+    alike.say("end")
+    alike.settle()
+    same([None, ["y"]], [alike.lost(), [it[1] for it in alike.until(1)]], "the log with the pool's settings")
+    one.close()
+    stranger.close()
+    alike.close()
+
+
 def deleted_keys():
     fake = Fake()
     one = Instance(fake.addresses(), "a")
@@ -209,6 +304,22 @@ def deleted_keys():
     fake.delete(b"in/a")
     one.wait(3_000)
     same("deleted", one.lost(), "the log")
+
+
+def nothing_after_a_loss():
+    """No change behind the one at which the log is lost counts, also if it came at once, in lines of its own."""
+    fake = Fake()
+    one = Instance(fake.addresses(), "a")
+    for it in (f"5 {one.agreed}".encode(), b"5\nx"):
+        fake.put_from_outside(b"in/z", it)
+    fake.delete(b"in/z")
+    for it in (b"5\ny", b"5\nz"):
+        fake.put_from_outside(b"in/z", it)
+    fake.plan("watch", "join", "join")
+    one.say("end")
+    one.wait(3_000)
+    same("deleted", one.lost(), "the log")
+    same([], [it for it in one.lines if it.startswith("end ")], "ends")
 
 
 def starts_in_the_middle():
@@ -329,7 +440,7 @@ def cases(seeds=6):
     """All cases, by name."""
     found = {it.__name__: it for it in (
         batches_in_order, bodies_of_requests, fences_that_are_lost, puts_that_come_late, two_processes_of_one_name, several_names,
-        ends_after_entries, other_keys, numbers_of_others, deleted_keys, starts_in_the_middle, removed_beginnings, shortened_logs, tokens,
+        ends_after_entries, other_keys, numbers_of_others, other_settings, settings_of_the_first_fence, settings_behind_a_revision, known_settings, deleted_keys, nothing_after_a_loss, starts_in_the_middle, removed_beginnings, shortened_logs, tokens,
         endpoints_in_turn, long_batches,
     )}
     for fault in REQUEST_FAULTS:

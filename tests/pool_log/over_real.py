@@ -103,6 +103,36 @@ def users(room):
     cluster.close()
 
 
+def other_settings(room):
+    """Of two instances with other settings the second one ends, whichever it is. The first one goes on, and is found by the next."""
+    cluster = Cluster(room)
+    one, two = Instance(cluster.addresses(), "a"), Instance(cluster.addresses(), "b", salt="another")
+    for it in (one, two):
+        it.offer(f"x {it.name}")
+        it.say("end")
+        it.begin("wait 1500")
+    for it in (one, two):
+        it.wait(1_500)
+    losses = [it.lost() for it in (one, two)]
+    assert sorted(losses, key=str) == [None, "settings"], f"losses: {losses}"
+    first, second = (one, two) if two.lost() else (two, one)
+    same([f"x {first.name}"], [it[1] for it in first.until(1)], "entries of the first one")
+    same([], [it for it in second.lines if it.startswith(("entry ", "end "))], "what the second one was given")
+    cluster.kill(0)
+    cluster.start(0)
+    third = Instance(cluster.addresses(), "c", salt="a salt" if first is one else "another")
+    third.offer("y")
+    third.settle()
+    same([f"x {first.name}", "y"], [it[1] for it in third.until(2)], "entries of the next one")
+    first.offer("z")
+    first.settle()
+    same([f"x {first.name}", "y", "z"], [it[1] for it in first.until(3)], "entries of the first one")
+    same([None, None], [first.lost(), third.lost()], "losses")
+    first.close()
+    third.close()
+    cluster.close()
+
+
 def leaders_that_fail(room):
     """Three instances go on while leaders are killed and frozen. Each batch is in the log once, in order."""
     draw = random.Random(int(os.environ.get("SEED", "1")))
@@ -141,4 +171,4 @@ def leaders_that_fail(room):
 
 def cases():
     """All cases, by name. Each is given a folder of its own."""
-    return {f"etcd: {it.__name__}": it for it in (one_member, restarts, compaction_and_deletion, users, leaders_that_fail)}
+    return {f"etcd: {it.__name__}": it for it in (one_member, restarts, compaction_and_deletion, users, other_settings, leaders_that_fail)}

@@ -1,5 +1,6 @@
 """Real members of etcd on this machine, on addresses 127.0.0.x. They need no root, and end with this process."""
 import json
+import os
 import pathlib
 import shutil
 import signal
@@ -19,6 +20,19 @@ WITH_US = ["setpriv", "--pdeathsig", "KILL", "--"] if shutil.which("setpriv") el
 def lacking():
     """Returns why no etcd can be started, or None."""
     return None if shutil.which("etcd") and shutil.which("etcdctl") else "etcd is not installed (packages etcd-server, etcd-client)"
+
+
+def install():
+    """Installs Debian's packages of etcd, if it is missing. Returns why that is impossible, or None."""
+    as_root = [] if os.getuid() == 0 else ["sudo", "-n"]
+    if not lacking() or not shutil.which("apt-get") or not all(map(shutil.which, as_root[:1])):
+        return lacking()
+    # With this run level the package starts no service.
+    how = {"stdin": subprocess.DEVNULL, "capture_output": True, "env": {**os.environ, "RUNLEVEL": "1"}}
+    for words in ["update"], ["install", "-y", "--no-install-recommends", "etcd-server", "etcd-client"]:
+        if subprocess.run([*as_root, "apt-get", *words], **how).returncode:
+            break
+    return lacking()
 
 
 class Cluster:

@@ -3,3 +3,4 @@ pub mod Followings
 pub mod Fronts
 pub mod Numbers
 pub mod OneKeys
+pub mod Values

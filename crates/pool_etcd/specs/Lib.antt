@@ -10,5 +10,7 @@ pub mod OwnEntries
 pub mod Questions
 pub mod Request
 pub mod Response
+pub mod Settings
+pub mod Value
 pub mod WatchLine
 pub mod Writer

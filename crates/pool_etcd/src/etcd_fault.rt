@@ -1,6 +1,7 @@
 //! Faults of requests to etcd.
 use crate::exchange::ExchangeFault;
 use crate::response_fault::ResponseFault;
+use std::net::SocketAddr;
 
 /// The reason why a request, or a watch, had no result. The next endpoint is tried.
 #[derive(Clone, Copy, Debug, PartialEq, Eq)]
@@ -27,6 +28,13 @@ pub enum EtcdFault {
     WatchEnded,
     /// The watch does not give changes that were made.
     WatchBehind,
+}
+
+/// A fault, and the address at which it happened, if there was one.
+#[derive(Clone, Copy, Debug, PartialEq, Eq)]
+pub struct EndpointFault {
+    pub fault: EtcdFault,
+    pub address: Option<SocketAddr>,
 }
 
 impl EtcdFault {
@@ -79,6 +87,8 @@ pub enum Loss {
     Deleted,
     /// The log ends before a change that was received.
     Shortened,
+    /// The pool has other settings: the known ones, or those in the first fence.
+    Settings,
 }
 
 impl Loss {
@@ -89,6 +99,7 @@ impl Loss {
             Loss::Compacted(_) => "compacted",
             Loss::Deleted => "deleted",
             Loss::Shortened => "shortened",
+            Loss::Settings => "settings",
         }
     }
 }

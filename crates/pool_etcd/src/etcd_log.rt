@@ -1,5 +1,5 @@
 //! A log over etcd.
-use crate::etcd_fault::{EtcdFault, Loss};
+use crate::etcd_fault::{EndpointFault, EtcdFault, Loss};
 use crate::following::Following;
 use crate::lane::Endpoint;
 use crate::log_value::{entry_value, fence_value};
@@ -23,6 +23,10 @@ pub const MAX_BATCH: usize = 1_100_000;
 // The maximum time, in milliseconds, until `advance` has to be called again.
 const MAX_PATIENCE: u64 = 500;
 
+// How long the log counts as silent at least, in milliseconds, before it was read up to the own
+// fence.
+const UNREAD: u64 = 4_000;
+
 /// What is known of the log, apart from the sockets.
 #[derive(Drop)]
 pub(crate) struct LogState {
@@ -40,12 +44,42 @@ pub(crate) struct LogState {
     pub(crate) ahead: Option<(u64, Duration)>,
     // When etcd last said something of the log's end.
     pub(crate) checked: Duration,
+    // True once the watch has given the own fence, and so all entries before it.
+    pub(crate) is_read: bool,
 }
 
 impl LogState {
     /// Returns true if a token is needed before any other request.
     pub(crate) fn needs_token(&self) -> bool {
         self.user.is_some() && self.token.is_none()
+    }
+
+    /// Returns true if the log is not lost, and the pool has the settings of this instance.
+    pub(crate) fn is_agreed(&self) -> bool {
+        self.loss.is_none() && self.following.pool.is_some()
+    }
+
+    /// Returns true if the next batch may be sent: the settings are agreed, and the outcome of the
+    /// batch before is known. So an instance with other settings writes no entry.
+    pub(crate) fn may_offer(&self) -> bool {
+        self.is_agreed() && self.own.is_idle()
+    }
+
+    // Records whether the watch has given the own fence.
+    fn note_fence(&mut self) {
+        match self.own.state {
+            OwnState::Idle(revision) | OwnState::Sending(revision) => {
+                self.is_read = self.is_read || self.following.revision >= revision;
+            }
+            OwnState::Unknown | OwnState::Fencing(_) | OwnState::Lost => {}
+        }
+    }
+
+    // Drops the token after a time limit: a member that does not know it may not answer.
+    fn check_time(&mut self, fault: &EtcdFault) {
+        if let EtcdFault::TimeLimit = fault {
+            self.token = None;
+        }
     }
 
     /// Drops the token if the status of a response says that it is not valid.
@@ -69,14 +103,15 @@ pub struct EtcdLog {
     requests: RequestLane,
     watch: WatchLane,
     // The last faults of requests and of the watch that were not returned yet.
-    request_fault: Option<EtcdFault>,
-    watch_fault: Option<EtcdFault>,
+    request_fault: Option<EndpointFault>,
+    watch_fault: Option<EndpointFault>,
 }
 
 impl EtcdLog {
     ghost use Rattle.std.specs.Prelude.{◌≡◌};
 
-    /// Creates a log. Its two connections are watched under these tokens.
+    /// Creates a log. Its two connections are watched under these tokens. It is lost from the start
+    /// if the settings of the pool are known, and are other ones.
     ///
     /// Returns `AllocError` if memory runs out.
     pub fn new(
@@ -90,8 +125,19 @@ impl EtcdLog {
             endpoints.push(Endpoint::new(alloc, *address)?)?;
         }
         let key = key_of(alloc, settings.name.as_str())?;
-        let fence = fence_value(alloc, settings.number)?;
-        let following = Following::new(alloc, settings.revision, settings.count);
+        let fence = fence_value(alloc, settings.number, settings.agreed)?;
+        let following = Following::new(
+            alloc,
+            settings.revision,
+            settings.count,
+            settings.agreed,
+            settings.pool,
+        );
+        let loss = if following.is_other() {
+            Some(Loss::Settings)
+        } else {
+            None
+        };
         let run = settings.number;
         let number = writer_of(alloc, key.as_bytes(), run)?;
         let state = LogState {
@@ -103,9 +149,10 @@ impl EtcdLog {
             own: OwnEntries::new(fence, Payload::from_vec(Vec::new(alloc))),
             following,
             questions: Questions::new(),
-            loss: None,
+            loss,
             ahead: None,
             checked: Duration::ZERO,
+            is_read: false,
         };
         Ok(EtcdLog {
             run,
@@ -127,23 +174,28 @@ impl EtcdLog {
         self.offer_next();
         if self.state.loss.is_none() {
             if let Err(fault) = self.requests.advance(net, registry, &mut self.state, now) {
+                let address = self.requests.address(&self.state);
+                self.state.check_time(&fault);
                 self.requests.fail(now, &self.state);
-                self.request_fault = Some(fault);
+                self.request_fault = Some(EndpointFault { fault, address });
             }
         }
         if self.state.loss.is_none() {
             if let Err(fault) = self.watch.advance(net, registry, &mut self.state, now) {
+                let address = self.watch.address(&self.state);
+                self.state.check_time(&fault);
                 self.watch.fail(now, &mut self.state);
-                self.watch_fault = Some(fault);
+                self.watch_fault = Some(EndpointFault { fault, address });
             }
         }
+        self.state.note_fence();
         if self.state.loss.is_some() {
             self.requests.close();
             self.watch.close();
             return Duration::from_millis(MAX_PATIENCE);
         }
-        // the outcome of a batch has come, and another one waits
-        if self.state.own.is_idle() && !self.queue.is_empty() {
+        // the outcome of a batch has come, or the first fence, and another one waits
+        if self.state.may_offer() && !self.queue.is_empty() {
             return Duration::ZERO;
         }
         let patience = self.requests.patience(&self.state, now);
@@ -151,11 +203,11 @@ impl EtcdLog {
         patience.min(Duration::from_millis(MAX_PATIENCE))
     }
 
-    // Offers the next batch, if the outcome of the one before is known.
+    // Offers the next batch, if it may be sent.
     fn offer_next(&mut self)
         ensures { self.new.number ≡ self.old.number }
     {
-        if self.state.own.is_idle()
+        if self.state.may_offer()
             && let Some(value) = self.queue.pop_front()
         {
             let _ = self.state.own.offer(value);
@@ -163,7 +215,9 @@ impl EtcdLog {
     }
 
     /// Returns the last fault of a request, or else of the watch, that was not returned yet.
-    pub fn take_fault(&mut self) -> Option<EtcdFault> {
+    pub fn take_fault(&mut self) -> Option<EndpointFault>
+        ensures { self.new.number ≡ self.old.number }
+    {
         match self.request_fault.take() {
             Some(fault) => Some(fault),
             None => self.watch_fault.take(),
@@ -179,6 +233,17 @@ impl EtcdLog {
     /// to there.
     pub fn position(&self) -> (u64, u64) {
         (self.state.following.revision, self.state.following.count)
+    }
+
+    /// Returns the time since etcd last said something of the log's end. It is at least 4 seconds
+    /// until the log was read up to the own fence.
+    pub fn silence(&self, now: Duration) -> Duration {
+        let silence = now.saturating_sub(self.state.checked);
+        if self.state.is_read {
+            silence
+        } else {
+            silence.max(Duration::from_millis(UNREAD))
+        }
     }
 
     /// Returns the number of batches without an outcome.

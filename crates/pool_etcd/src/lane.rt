@@ -75,6 +75,14 @@ impl Lane {
         }
     }
 
+    /// Returns the endpoint's address.
+    pub(crate) fn address(&self, endpoints: &[Endpoint]) -> Option<SocketAddr> {
+        match endpoints.get(self.turn) {
+            Some(endpoint) => Some(endpoint.address),
+            None => None,
+        }
+    }
+
     /// Returns the text of the endpoint's address.
     pub(crate) fn host<'e>(&self, endpoints: &'e [Endpoint]) -> &'e str {
         match endpoints.get(self.turn) {

@@ -1,5 +1,7 @@
 //! Laws of the log over etcd. Each is the contract of a function that does nothing.
+ghost use Rattle.pool_etcd.specs.Following.{FirstFenceDecides, KnownSettingsDecide};
 ghost use Rattle.pool_etcd.specs.OneKey.{EachValueOnce};
+ghost use Rattle.pool_etcd.specs.Value.{OneValue};
 
 /// States that the entries of a process are the values that it has taken, in order, each once, or
 /// all but the last one.
@@ -10,4 +12,24 @@ ghost use Rattle.pool_etcd.specs.OneKey.{EachValueOnce};
 /// true, and that nobody else writes the values of the process.
 pub fn each_value_once()
     ensures { EachValueOnce }
+{}
+
+/// States that the value of a key is an entry, a fence or neither, in one way. So its bytes alone
+/// decide, with its key, what every instance reads.
+pub fn one_value()
+    ensures { OneValue }
+{}
+
+/// States that an instance that received the lines of a watch has the settings in the first fence
+/// of them all, however the changes were cut into lines, and whenever it took entries.
+///
+/// So an instance with other settings than those in the first fence does not receive the line that
+/// has it. It is assumed that it knew no settings at the start.
+pub fn first_fence_decides()
+    ensures { FirstFenceDecides }
+{}
+
+/// States that an instance that knows other settings of the pool at the start receives no line.
+pub fn known_settings_decide()
+    ensures { KnownSettingsDecide }
 {}

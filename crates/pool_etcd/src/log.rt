@@ -42,6 +42,9 @@ impl Log for EtcdLog {
     }
 
     fn ask_end(&mut self) -> Result<u64, LogFault> {
+        if self.state.loss.is_some() {
+            return Err(LogFault::Lost);
+        }
         match self.state.questions.ask() {
             Some(question) => Ok(question),
             None => Err(LogFault::Lost),
@@ -49,6 +52,9 @@ impl Log for EtcdLog {
     }
 
     fn end(&mut self) -> Option<LogEnd> {
+        if !self.state.is_agreed() {
+            return None;
+        }
         let question = self.state.questions.answer(self.state.following.revision)?;
         Some(LogEnd {
             question,

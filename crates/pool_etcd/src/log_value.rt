@@ -1,7 +1,9 @@
 //! The values under the keys of a log.
-ghost use Rattle.std.specs.Prelude.{◌≡◌, IfOk, MatchOption};
-ghost use Rattle.pool_etcd.specs.LogValue.{IsNoEntry, entry_value, fence_value};
+ghost use Rattle.std.specs.Prelude.{◌≡◌, ◌+◌, ◌<◌, length, take, drop, IfNone, IfSome, IfOk, MatchOption};
+ghost use Rattle.pool_etcd.specs.Lines.{Lacks, SplitsAt};
+ghost use Rattle.pool_etcd.specs.LogValue.{IsFence, IsNoEntry, IsNoFence, entry_value, fence_value};
 ghost use Rattle.pool_etcd.specs.Number.{number_of};
+ghost use Rattle.pool_etcd.specs.Value.{IsValue};
 ghost use Rattle.pool_etcd.specs.Writer.{IsEntryBy};
 
 use crate::lines::{LINE_FEED, line_end};
@@ -9,8 +11,12 @@ use crate::number::number_of;
 use crate::payload::Payload;
 use crate::response_fault::ResponseFault;
 use crate::writer::writer_of;
+use memchr::memchr;
 use std::alloc::{AllocError, Global};
 use std::str;
+
+// The byte between the numbers of a fence.
+const SPACE: u8 = 32;
 
 /// An entry: the number of its writer, and its bytes.
 #[derive(Drop)]
@@ -19,13 +25,24 @@ pub struct LogEntry {
     pub bytes: Payload,
 }
 
+/// What the value of a key is.
+#[derive(Drop)]
+pub enum LogValue {
+    /// An entry.
+    Entry(LogEntry),
+    /// A fence of an instance whose settings have this number.
+    Fence(u64),
+    /// Neither of them. Every instance passes over it.
+    Other,
+}
+
 /// Returns the value of a fence, which is no entry.
 ///
 /// Returns `AllocError` if memory runs out.
-pub fn fence_value(alloc: Global, number: u64) -> Result<Payload, AllocError>
-    ensures { IfOk result (λ value. value ≡ fence_value number) }
+pub fn fence_value(alloc: Global, number: u64, agreed: u64) -> Result<Payload, AllocError>
+    ensures { IfOk result (λ value. value ≡ fence_value number agreed) }
 {
-    let text = format!(in alloc; "{number}")?;
+    let text = format!(in alloc; "{number} {agreed}")?;
     Ok(Payload::from_vec(Vec::from_slice(alloc, text.as_bytes())?))
 }
 
@@ -56,10 +73,8 @@ fn number_in_bytes(alloc: Global, bytes: &[u8]) -> Result<Option<u64>, AllocErro
     }
 }
 
-/// Returns the entry that the value of a key is, or `None` if it is none.
-///
-/// Returns `AllocError` if memory runs out.
-pub fn read_entry(alloc: Global, key: &[u8], value: &[u8]) -> Result<Option<LogEntry>, AllocError>
+// Returns the entry that the value of a key is, or `None` if it is none.
+fn read_entry(alloc: Global, key: &[u8], value: &[u8]) -> Result<Option<LogEntry>, AllocError>
     ensures { IfOk result (λ entry. MatchOption entry
         (IsNoEntry value.now)
         (λ e. IsEntryBy key.now value.now e.writer e.bytes)) }
@@ -76,4 +91,44 @@ pub fn read_entry(alloc: Global, key: &[u8], value: &[u8]) -> Result<Option<LogE
         writer,
         bytes: Payload::from_vec(bytes),
     }))
+}
+
+// Returns the position of the first space.
+fn space_in(bytes: &[u8]) -> Option<usize>
+    ensures none { IfNone result (Lacks 32 bytes.now) }
+    ensures some { IfSome result (λ space. SplitsAt 32 bytes.now (take space bytes.now)
+        (drop (space + 1) bytes.now)) }
+    ensures within { IfSome result (λ space. space < length bytes.now) }
+{
+    memchr(SPACE, bytes)
+}
+
+// Returns the number of the settings in a fence, or `None` if the value is none.
+fn read_fence(alloc: Global, value: &[u8]) -> Result<Option<u64>, AllocError>
+    ensures { IfOk result (λ agreed. MatchOption agreed
+        (IsNoFence value.now)
+        (λ a. IsFence value.now a)) }
+{
+    let Some(space) = space_in(value) else {
+        return Ok(None);
+    };
+    let Some(_number) = number_in_bytes(alloc, &value[..space])? else {
+        return Ok(None);
+    };
+    number_in_bytes(alloc, &value[space + 1..])
+}
+
+/// Returns what the value of a key is: an entry, a fence, or neither.
+///
+/// Returns `AllocError` if memory runs out.
+pub fn read_value(alloc: Global, key: &[u8], value: &[u8]) -> Result<LogValue, AllocError>
+    ensures { IfOk result (λ found. IsValue key.now value.now found) }
+{
+    if let Some(entry) = read_entry(alloc, key, value)? {
+        return Ok(LogValue::Entry(entry));
+    }
+    match read_fence(alloc, value)? {
+        Some(agreed) => Ok(LogValue::Fence(agreed)),
+        None => Ok(LogValue::Other),
+    }
 }

@@ -10,7 +10,7 @@ use crate::response::{read_put, read_range, read_token};
 use crate::times::later;
 use mio::{Registry, Token};
 use std::alloc::AllocError;
-use std::net::Net;
+use std::net::{Net, SocketAddr};
 use std::time::Duration;
 
 // The time limit of a request, in milliseconds.
@@ -199,6 +199,11 @@ impl RequestLane {
             _ => {}
         }
         Ok(step)
+    }
+
+    /// Returns the address of the endpoint that is used, or tried next.
+    pub(crate) fn address(&self, state: &LogState) -> Option<SocketAddr> {
+        self.lane.address(state.endpoints.as_slice())
     }
 
     /// Drops the connection, and with it the request whose response is awaited. The next endpoint

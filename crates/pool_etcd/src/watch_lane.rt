@@ -11,7 +11,7 @@ use crate::times::later;
 use crate::watch_line::{WatchLine, read_line};
 use mio::{Registry, Token};
 use std::alloc::Global;
-use std::net::Net;
+use std::net::{Net, SocketAddr};
 use std::time::Duration;
 
 // The time limit until the first line of a watch, and for a change that was made to come, in
@@ -168,9 +168,12 @@ impl WatchLane {
         Ok(step)
     }
 
-    // Takes the lines that are whole.
+    // Takes the lines that are whole, until the log is lost.
     fn take_lines(&mut self, state: &mut LogState, now: Duration) -> Result<(), EtcdFault> {
         for _ in 0..u64::MAX {
+            if state.loss.is_some() {
+                return Ok(());
+            }
             match self.lines.next_line(state.alloc) {
                 Ok(Some(line)) => self.take_line(state, line.as_slice(), now)?,
                 Ok(None) => break,
@@ -205,6 +208,10 @@ impl WatchLane {
                 self.limit = None;
                 self.lane.succeed();
                 state.checked = now;
+                // a log that is long comes in many lines
+                if let Some((revision, _)) = state.ahead {
+                    state.ahead = Some((revision, now));
+                }
                 match state.following.receive(state.alloc, changes.items()) {
                     Ok(()) => Ok(()),
                     Err(FollowFault::Memory) => Err(EtcdFault::Memory),
@@ -213,9 +220,18 @@ impl WatchLane {
                         state.loss = Some(Loss::Deleted);
                         Ok(())
                     }
+                    Err(FollowFault::Settings) => {
+                        state.loss = Some(Loss::Settings);
+                        Ok(())
+                    }
                 }
             }
         }
+    }
+
+    /// Returns the address of the endpoint that is used, or tried next.
+    pub(crate) fn address(&self, state: &LogState) -> Option<SocketAddr> {
+        self.lane.address(state.endpoints.as_slice())
     }
 
     /// Drops the connection. The next endpoint has its turn.

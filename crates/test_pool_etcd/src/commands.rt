@@ -1,5 +1,5 @@
 //! Commands, and the arguments of the program.
-use pool_etcd::settings::{EtcdSettings, User};
+use pool_etcd::settings::{EtcdSettings, POLICY, User, settings_number};
 use std::alloc::{AllocError, Global};
 use std::net::SocketAddr;
 
@@ -57,6 +57,15 @@ fn number_at(words: &[String], index: usize) -> Option<u64> {
     }
 }
 
+// Returns the number of the pool's settings in an argument. `-` is none, as if it were absent.
+fn pool_at(words: &[String], index: usize) -> Option<Option<u64>> {
+    match words.get(index) {
+        None => Some(None),
+        Some(word) if word.as_str() == "-" => Some(None),
+        Some(word) => Some(Some(word.as_str().parse::<u64>().ok()?)),
+    }
+}
+
 /// Returns the settings that the arguments give.
 pub(crate) fn settings_of(
     alloc: Global,
@@ -75,7 +84,14 @@ pub(crate) fn settings_of(
     ) else {
         return Ok(None);
     };
-    let user = match (words.get(6), words.get(7)) {
+    let (salt, policy) = match (words.get(6), words.get(7)) {
+        (Some(salt), Some(policy)) => (salt.as_str(), policy.as_str().parse::<u64>().ok()),
+        _ => ("", Some(POLICY)),
+    };
+    let (Some(policy), Some(pool)) = (policy, pool_at(words, 8)) else {
+        return Ok(None);
+    };
+    let user = match (words.get(9), words.get(10)) {
         (Some(name), Some(password)) => Some(User {
             name: name.clone()?,
             password: password.clone()?,
@@ -89,5 +105,7 @@ pub(crate) fn settings_of(
         number,
         revision,
         count,
+        agreed: settings_number(alloc, policy, salt)?,
+        pool,
     }))
 }

@@ -2,7 +2,7 @@
 use crate::commands::Command;
 use mio::{Events, Poll, Token};
 use pool_core::log::Log;
-use pool_etcd::etcd_fault::EtcdFault;
+use pool_etcd::etcd_fault::{EndpointFault, EtcdFault};
 use pool_etcd::etcd_log::EtcdLog;
 use pool_etcd::settings::EtcdSettings;
 use std::io::Write;
@@ -124,7 +124,7 @@ impl<'a> Instance<'a> {
             self.open_questions = self.open_questions.saturating_sub(1);
         }
         for _ in 0..2 {
-            if let Some(fault) = self.log.take_fault() {
+            if let Some(EndpointFault { fault, .. }) = self.log.take_fault() {
                 self.print_fault(fault)?;
             }
         }

@@ -1,7 +1,8 @@
 //! An instance at a log over etcd, for tests: reads commands, and prints what the log gives.
 //!
 //! Arguments: the addresses of etcd, separated by commas, a name, a number, and optionally a revision,
-//! the count of entries up to there, a user and a password. Commands, one a line: `offer TEXT`,
+//! the count of entries up to there, the settings (a salt and the number of the policy), the number
+//! of the pool's settings or `-`, a user and a password. Commands, one a line: `offer TEXT`,
 //! `long BYTES` (offers a batch of so many bytes), `end`, `wait MS` (goes on for that time),
 //! `settle MS` (goes on until no batch and no question is open, at most that time), `quit`.
 #![tactic(auto)]
@@ -15,7 +16,8 @@ use std::process::ExitCode;
 use std::{env, io};
 
 // Printed if there are no arguments.
-const USAGE: &str = "usage: test_pool_etcd ADDRESSES NAME NUMBER [REVISION COUNT [USER PASSWORD]]";
+const USAGE: &str = "usage: test_pool_etcd ADDRESSES NAME NUMBER \
+    [REVISION COUNT [SALT POLICY [POOL [USER PASSWORD]]]]";
 
 // The exit status once the log is lost, and the one for wrong arguments.
 const LOST: u8 = 3;
