@@ -14,6 +14,7 @@ pub mod faults;
 pub mod machine;
 mod metrics;
 pub mod operation;
+pub mod pool_metrics;
 pub mod purged;
 pub mod query;
 pub mod request;

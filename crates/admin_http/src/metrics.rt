@@ -45,6 +45,9 @@ pub(crate) fn metrics(
     figures.purged.put(&mut text)?;
     figures.clock.put(&mut text)?;
     figures.tokens.put(&mut text, build.started)?;
+    if let Some(pool) = &figures.pool {
+        pool.put(&mut text)?;
+    }
     put_health(&mut text, figures.shown_health())?;
     figures.machine.put(&mut text)?;
     build.put(&mut text)?;

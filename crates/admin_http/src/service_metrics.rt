@@ -8,6 +8,7 @@ use crate::clock::ClockMetrics;
 use crate::connections::{ConnectionFailure, ConnectionMetrics};
 use crate::faults::FailureMetrics;
 use crate::machine::MachineMetrics;
+use crate::pool_metrics::PoolMetrics;
 use crate::purged::PurgeMetrics;
 use crate::requests::RequestMetrics;
 use crate::store_metrics::StoreMetrics;
@@ -45,6 +46,8 @@ pub struct ServiceMetrics {
     pub machine: MachineMetrics,
     /// The metrics of the token file.
     pub tokens: TokenMetrics,
+    /// The metrics of the pool, if the service is an instance of one.
+    pub pool: Option<PoolMetrics>,
     pub(crate) health: Health,
 }
 
@@ -63,6 +66,7 @@ impl ServiceMetrics {
             clock: ClockMetrics::new(),
             machine: MachineMetrics::unknown(),
             tokens: TokenMetrics::new(),
+            pool: None,
             health: Health::Serving,
         }
     }

@@ -11,7 +11,7 @@ ghost use Rattle.dss_server.specs.ServiceEvents.{ServiceRuns, served_clients};
 
 use crate::acceptance::Acceptance;
 use crate::client_set::ClientSet;
-use crate::response_record::{failure_of, record_response};
+use crate::response_record::record_response;
 use admin_http::build::BuildInfo;
 use admin_http::service_metrics::ServiceMetrics;
 use admin_http::store_metrics::StoreMetrics;
@@ -22,6 +22,7 @@ use server_base::backups::MakeBackups;
 use server_base::limits::{LOOKS, LOOKS_SOON, Limits, MAX_CONNECTIONS, STOPPING};
 use server_base::response_info::ResponseInfo;
 use server_base::server_log::ServerLog;
+use server_base::service_record::failure_of;
 use server_base::sockets::{AcceptFault, EventSource, SocketEvent, Sockets};
 use server_client::client_connection::TurnOutcome;
 use server_client::fair_queue::{is_round_over, nanos_between};

@@ -1,5 +1,5 @@
 //! The service to many clients at once, on one thread.
-ghost use Rattle.std.specs.Prelude.{◌≡◌, ◌⊎◌, OnOk, IsSome, unwrap_or};
+ghost use Rattle.std.specs.Prelude.{◌⊎◌, OnOk, IsSome};
 ghost use Rattle.dss_server.specs.Serve.{ServesAll};
 ghost use Rattle.dss_server.specs.ServeEvents.{ServesEachClient};
 
@@ -11,7 +11,7 @@ use server_base::server_log::ServerLog;
 use server_base::sockets::Sockets;
 use server_client::request_context::RequestContext;
 use server_watch::clock_watch::ClockWatch;
-use server_watch::token_watch::{TokenSource, TokenWatch};
+use server_watch::token_watch::{TokenSource, TokenWatch, in_force};
 use service_calls::service::Service;
 use space_core::purge_ended::PurgeEnded;
 use space_snapshot::snapshot::SnapshotSource;
@@ -21,16 +21,6 @@ use std::io::ErrorKind;
 use token_conf::token_table::TokenTable;
 use wire_http::{Explaining, Moments};
 use wire_route::routes::Routes;
-
-// Returns the active table: the one loaded last, or the first.
-fn in_force<'a>(first: &'a TokenTable, newer: &'a Option<TokenTable>) -> &'a TokenTable
-    ensures { result.now ≡ unwrap_or newer.now first.now }
-{
-    match newer {
-        Some(table) => table,
-        None => first,
-    }
-}
 
 /// Answers the requests of the accepted clients, until the number of connections in `limits` was
 /// accepted and the last of them is closed. Without such a number it runs on.

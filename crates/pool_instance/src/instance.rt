@@ -48,7 +48,7 @@ impl<L: Log + Drop, S: Space + Drop> Instance<L, S> {
     ghost use Rattle.pool_core.specs.Log.{entry_of};
     ghost use Rattle.pool_instance.specs.Effects.{FailsLog, Forgets, Holds, HoldsNoMore};
     ghost use Rattle.pool_instance.specs.Effects.{MakesEntry, with_end};
-    ghost use Rattle.pool_instance.specs.Parts.{ids_sent, is_ended, salt_in};
+    ghost use Rattle.pool_instance.specs.Parts.{count_taken, ids_sent, is_ended, salt_in, space_in};
     ghost use Rattle.pool_instance.specs.Request.{call_of};
     ghost use Rattle.pool_instance.specs.State.{IsAfter};
 
@@ -86,6 +86,32 @@ impl<L: Log + Drop, S: Space + Drop> Instance<L, S> {
         ensures { result.now ≡ self.now.log }
     {
         &self.log
+    }
+
+    /// Borrows the space of the service. It holds the airspace after the entries that were taken.
+    pub fn space(&self) -> &S
+        ensures { result.now ≡ space_in self.now }
+    {
+        self.service.space_ref()
+    }
+
+    /// Returns how many entries were taken.
+    pub fn taken(&self) -> u64
+        ensures { result ≡ count_taken self.now }
+    {
+        self.taken
+    }
+
+    /// Returns how many readings and changes wait, and how many requests are in flight.
+    pub fn waiting(&self) -> usize {
+        let in_flight = match &self.in_flight {
+            Some(sent) => sent.len(),
+            None => 0,
+        };
+        self.readings
+            .len()
+            .saturating_add(self.unsent.len())
+            .saturating_add(in_flight)
     }
 
     /// Moves the bytes of the log, at a time of a clock that does not go back. Returns the time

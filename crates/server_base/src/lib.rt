@@ -6,4 +6,5 @@ pub mod limits;
 pub mod phase;
 pub mod response_info;
 pub mod server_log;
+pub mod service_record;
 pub mod sockets;

@@ -1,5 +1,5 @@
 //! The token file of a service, checked while the service runs.
-ghost use Rattle.std.specs.Prelude.{◌≡◌, ◌&&◌, nat_lt, Ok, IfOk, IfSome};
+ghost use Rattle.std.specs.Prelude.{◌≡◌, ◌&&◌, nat_lt, Ok, IfOk, IfSome, unwrap_or};
 ghost use Rattle.server_watch.specs.Tokens.{Checks, ComesOf, IsMissed, IsVerdict, lacks_memory};
 
 use admin_http::tokens::TokenMetrics;
@@ -28,6 +28,16 @@ pub trait TokenSource {
         ensures given { IfOk result (λ bytes. gives bytes.items) }
         ensures ok { IfOk result (λ bytes. reads self.old (Some bytes.items) self.new) }
         ensures err { OnErr result (reads self.old None self.new) };
+}
+
+/// Returns the active table: the one loaded last, or the first.
+pub fn in_force<'a>(first: &'a TokenTable, newer: &'a Option<TokenTable>) -> &'a TokenTable
+    ensures { result.now ≡ unwrap_or newer.now first.now }
+{
+    match newer {
+        Some(table) => table,
+        None => first,
+    }
 }
 
 // Returns true if memory ran out, after which the file is read again.

@@ -146,6 +146,13 @@ impl<S: Space + Drop> Service<S> {
         }
     }
 
+    /// Borrows the space, to read it.
+    pub fn space_ref(&self) -> &S
+        ensures { result.now ≡ space_of self.now }
+    {
+        &self.space
+    }
+
     /// Borrows the space.
     pub fn space(&mut self) -> &mut S
         ensures* lends { sem 𝓛 (Lends (the_row S.row) S.row self.entry result

@@ -4,7 +4,7 @@ ghost use Rattle.entity_maps.specs.Lists.{airspace_of};
 ghost use Rattle.space_memory.specs.Memory.{content_of};
 
 use crate::memory::MemorySpace;
-use space_snapshot::snapshot::Snapshot;
+use space_snapshot::snapshot::{NoMirror, Snapshot, SnapshotSource};
 
 impl MemorySpace {
     /// Returns a snapshot of the content, borrowed.
@@ -21,5 +21,12 @@ impl MemorySpace {
             serial: self.serial,
             counts: self.entities.counts(),
         }
+    }
+}
+
+impl SnapshotSource for MemorySpace {
+    /// Returns a snapshot of the content.
+    fn snapshot(&self) -> Result<Snapshot<'_>, NoMirror> {
+        Ok(MemorySpace::snapshot(self))
     }
 }
