@@ -94,8 +94,8 @@ def page(program, version):
     lines = [f'.TH DSS 1 "" "dss {version}" "User Commands"', ".SH NAME", f"dss \\- {ABOUT}", ".SH SYNOPSIS"]
     texts = {it: help_of(program, it) for it in commands(program)}
     for text in texts.values():
-        usage = re.search(r"^Usage: (.*)$", text, re.M)
-        lines += [plain(usage[1]), ".br"] if usage else []
+        usage = re.search(r"^Usage: (.*\n(?: {7}.*\n)*)", text, re.M)
+        lines += [it for line in (usage[1].splitlines() if usage else []) for it in (plain(line.strip()), ".br")]
     lines += [".SH COMMANDS"]
     for name, text in texts.items():
         lines += [f".SS {name}", *as_it_is(text.rstrip("\n").splitlines())]

@@ -68,11 +68,40 @@ NO_ADMIN_PORTS = (
     "", "0", "65536", "-1", "80.0", "localhost:80", "127.0.0.2:80", "0.0.0.0:80", "[::]:80", "[::ffff:127.0.0.1]:80",
     "127.0.0.1", "127.0.0.1:0", "::1", "[::1]", "[::1]:0",
 )
+# Texts that `--pool` accepts, and texts that it rejects, each with the part that is wrong; the same of `--as`.
+ENDPOINTS = (
+    "127.0.0.1:2379", "[::1]:2379", "10.0.0.1:1,10.0.0.2:65535", "[2001:db8::1]:2379,127.0.0.1:2379,[::1]:2379",
+)
+NO_ENDPOINTS = (
+    ("", ""), (",", ""), ("127.0.0.1", "127.0.0.1"), ("127.0.0.1:0", "127.0.0.1:0"), ("[::1]", "[::1]"),
+    ("127.0.0.1:65536", "127.0.0.1:65536"), ("localhost:2379", "localhost:2379"), ("2379", "2379"), (":2379", ":2379"),
+    ("http://127.0.0.1:2379", "http://127.0.0.1:2379"), ("127.0.0.1:2379,", ""), (",127.0.0.1:2379", ""),
+    ("127.0.0.1:1, 127.0.0.1:2", " 127.0.0.1:2"), ("127.0.0.1:1;127.0.0.1:2", "127.0.0.1:1;127.0.0.1:2"),
+    ("[::1]:1,::1:2,::1", "::1:2"),
+)
+INSTANCES = ("a", "A.b_c-9", "-", ".", "0" * 64)
+NO_INSTANCES = ("", " ", "a/b", "a b", "é", "a,b", "0" * 65)
 
 
 def serving(port, count):
     """Returns a command line of `serve`."""
     return ["serve", *TOKENS_AND_DB, "--port", port, "--count", count]
+
+
+def pooled(endpoints, name):
+    """Returns a command line of `serve` as an instance of a pool."""
+    return ["serve", "--tokens", "t", "--port", "1", f"--pool={endpoints}", f"--as={name}"]
+
+
+IN_POOL = pooled("127.0.0.1:1", "a")
+
+
+def followed(endpoints, name):
+    """Returns a command line of `follow`."""
+    return ["follow", "--tokens", "t", "--files", "f", f"--pool={endpoints}", f"--as={name}"]
+
+
+FOLLOWING = followed("127.0.0.1:1", "a")
 
 
 COMMAND_LINES = (
@@ -141,7 +170,42 @@ COMMAND_LINES = (
     (["serve", *TOKENS_AND_DB, "--port", "1"], 1, "dss: tokens: cannot read"),
     (["serve", "--tokens", "t", "--port", "1", "--count", "1"], 2, "--db <FILE>"),
     (["serve", "--db", "d", "--port", "1", "--count", "1"], 2, "--tokens <FILE>"),
+    (["serve", "--tokens", "t"], 2, "error: the following required arguments were not provided:\n  --db <FILE>\n"),
     ([*serving("1", "1"), "-"], 2, ""),
+    # An instance of a pool.
+    *((pooled(endpoints, "a"), 1, "dss: tokens: cannot read") for endpoints in ENDPOINTS),
+    *((pooled("127.0.0.1:1", name), 1, "dss: tokens: cannot read") for name in INSTANCES),
+    *(([*IN_POOL, *it], 1, "dss: tokens: cannot read") for it in (["--etcd-user", "f"], ["--files", "f"], ["--explain", "--verbose"], ["--admin-port=2", "--access-log=l"], ["--max-connections=1", "--listen=::1"])),
+    *((pooled(text, "a"), 2, f'error: --pool {text}: "{part}" is no IP address with a port') for text, part in NO_ENDPOINTS),
+    *((pooled("127.0.0.1:1", text), 2, f"error: --as {text}: no name of an instance") for text in NO_INSTANCES),
+    *(
+        ([*IN_POOL, *it], 2, f"error: {it[0]} cannot be used with --pool")
+        for it in (["--db", "d"], ["--count", "1"], ["--quota", "1"], ["--retention", "1"], ["--response-memory", "1"], ["--backup-dir", "f"], ["--double-sync"])
+    ),
+    *(([*serving("1", "1"), *it], 2, f"error: {it[0]} without --pool") for it in (["--as", "a"], ["--etcd-user", "f"], ["--files", "f"])),
+    (["serve", "--tokens", "t", "--port", "1", "--as", "a"], 2, "error: --as without --pool"),
+    (["serve", "--tokens", "t", "--port", "1", "--pool", "127.0.0.1:1"], 2, "error: --as is missing"),
+    (["serve", "--tokens", "t", "--pool", "127.0.0.1:1", "--as", "a"], 2, "error: --port is missing"),
+    (["serve", "--pool", "127.0.0.1:1", "--as", "a", "--port", "1"], 2, "--tokens <FILE>"),
+    ([*IN_POOL, "--listen", "l"], 2, "error: --listen l: no IP address"),
+    ([*IN_POOL, "--admin-port", "0"], 2, "error: --admin-port 0: no port"),
+    *(([*IN_POOL, *it], 2, "") for it in (["--pool", "127.0.0.1:1"], ["--as", "b"], ["--etcd-user"], ["--etcd-user", "f", "--etcd-user", "g"], ["--files"], ["--files", "f", "--files", "g"])),
+    *((["serve", *TOKENS_AND_DB, it], 2, "") for it in ("--pool", "--as", "--etcd-user", "--files")),
+    (["run", "--pool", "127.0.0.1:1", *RUN[1:], "0", "-"], 2, "--pool"),
+    # The command that follows a pool.
+    *((followed(endpoints, "a"), 1, "dss: tokens: cannot read") for endpoints in ENDPOINTS),
+    *((followed("127.0.0.1:1", name), 1, "dss: tokens: cannot read") for name in INSTANCES),
+    *(([*FOLLOWING, *it], 1, "dss: tokens: cannot read") for it in (["--etcd-user", "u"], ["--verbose"], ["--verbose", "--etcd-user=u"])),
+    *((followed(text, "a"), 2, f'error: --pool {text}: "{part}" is no IP address with a port') for text, part in NO_ENDPOINTS),
+    *((followed("127.0.0.1:1", text), 2, f"error: --as {text}: no name of an instance") for text in NO_INSTANCES),
+    (followed("x", ""), 2, 'error: --pool x: "x" is no IP address with a port'),
+    (["follow"], 2, "--tokens <FILE>"),
+    (["follow", *FOLLOWING[3:]], 2, "--tokens <FILE>"),
+    ([*FOLLOWING[:3], *FOLLOWING[5:]], 2, "--files <DIR>"),
+    (FOLLOWING[:-2], 2, "--pool <ENDPOINTS>"),
+    (FOLLOWING[:-1], 2, "--as <NAME>"),
+    *(([*FOLLOWING, *it], 2, "") for it in (["--pool", "127.0.0.1:1"], ["--as", "b"], ["--files", "g"], ["--tokens", "u"], ["--etcd-user"], ["f"])),
+    *(([*FOLLOWING, *it], 2, it[0]) for it in (["--db", "d"], ["--port", "1"], ["--now", "0"], ["--explain"])),
     (["self", *RUN[1:], "0", "-"], 0, ""),
     (["self", *RUN[1:], "253402300799", "-"], 0, ""),
     *((["self", *RUN[1:], now, "-"], 2, "") for now in ("253402300800", "-1", "")),
@@ -202,6 +266,12 @@ COMMAND_LINES = (
     (["serve", "--help"], 0, "--response-memory <MIB>"),
     (["serve", "--help"], 0, "--quota <NUMBER>"),
     (["serve", "--help"], 0, "--retention <SECONDS>"),
+    (["serve", "--help"], 0, "Usage: dss serve [OPTIONS] --tokens <FILE> --db <FILE>\n"),
+    (["serve", "--help"], 0, "\n       dss serve [OPTIONS] --tokens <FILE> --pool <ENDPOINTS> --as <NAME>\n"),
+    (["serve", "--help"], 0, "--db <FILE>"),
+    (["serve", "--help"], 0, "--pool <ENDPOINTS>"),
+    (["serve", "--help"], 0, "--as <NAME>"),
+    (["serve", "--help"], 0, "--etcd-user <FILE>"),
     (["serve", "--help"], 0, "--double-sync"),
     (["serve", "--help"], 0, "--explain  "),
     (["serve", "--help"], 0, "--verbose"),

@@ -43,7 +43,7 @@ OTHERS = set(
     89c25907 89c25909 89c2590b Host Date oauth2 libs2-dev s2geometry S2RegionCoverer RegionCoverer S2CellId CellID
     set_fixed_level set_max_cells min_level max_level max_cells GetCovering getCovering get_covering Covering region
     ToToken toToken to_token s2sphere s2-geometry-library-java github.com/golang/geo/s2 outline_polygon outline_circle
-    new_subscription 61 Start IsClosed open_from open_files Wary strace /health /metrics /airspace /backup /purge/resume /stop 8078""".split()
+    new_subscription 61 Start IsClosed open_from open_files Wary strace defrag ModRevision /health /metrics /airspace /backup /purge/resume /stop 8078""".split()
 )
 
 

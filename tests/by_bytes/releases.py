@@ -27,8 +27,8 @@ NO_KIT = ", and the command rt of the Rattle kit, which could build the program,
 OTHER_SOURCES = "the release was made from other sources"
 DAMAGED = "the release is damaged"
 ASKED = "DSS_BUILD asks for a build"
-# Replacements of the kit, and of the byte-exact tests and those of allocations, the gateway, the suite, the log of a pool
-# and three hosts.
+# Replacements of the kit, and of the byte-exact tests and those of allocations, the gateway, the suite, a pool and its
+# log, and three hosts.
 KIT = """#!/bin/sh
 case $1 in
 version) echo a kit of tests ;;
@@ -55,6 +55,9 @@ echo "${SUITE-1 passed, 0 failed}"
 """
 POOL_LOG = """#!/bin/sh
 [ -x "$TEST_POOL_ETCD" ] && echo "${POOL_LOG-1 passed, 0 failed}"
+"""
+POOL = """#!/bin/sh
+[ -x "$TEST_POOL_DSS" ] && echo "${POOL-1 passed, 0 failed}"
 """
 HOSTS = """#!/bin/sh
 echo "${HOSTS-1 passed, 0 failed}"
@@ -100,6 +103,7 @@ class Checkout:
         script(self.top / "gateway" / "test", GATEWAY)
         script(self.top / "qualify" / "test", SUITE)
         script(self.top / "tests" / "pool_log" / "run", POOL_LOG)
+        script(self.top / "tests" / "pool" / "run", POOL)
         script(self.top / "tests" / "hosts", HOSTS)
         script(self.top.parent / "kit" / "rt", KIT)
         done = self.run(["scripts/release", BUILT], kit=True)
@@ -357,31 +361,32 @@ def gates():
     bad = {"COUNTS": "1 passed, 1 failed"}
     with Checkout(SOME) as it:
         found = gate("by bytes", it, ["check"], 1, 0, "1 passed, 0 failed")
-        found += gate("all", it, ["check", "all"], 8, 0, same)
-        found += gate("both", it, [".ci/run"], 8, 0, "are not run again")
-        found += gate("a red gate", it, ["check", "all"], 8, 1, same, more=bad)
-        found += gate("both, of a red gate", it, [".ci/run"], 8, 1, same, more=bad)
-        found += gate("red growths", it, ["check", "all"], 7, 1, same, more={"GROWTHS": "0 passed, 1 failed"})
-        found += gate("a red gateway", it, ["check", "all"], 7, 1, same, more={"GATEWAY": "0 passed, 1 failed"})
-        found += gate("a red suite", it, ["check", "all"], 7, 1, same, more={"SUITE": "0 passed, 1 failed"})
-        found += gate("a red log", it, ["check", "all"], 7, 1, same, more={"POOL_LOG": "0 passed, 1 failed"})
+        found += gate("all", it, ["check", "all"], 9, 0, same)
+        found += gate("both", it, [".ci/run"], 9, 0, "are not run again")
+        found += gate("a red gate", it, ["check", "all"], 9, 1, same, more=bad)
+        found += gate("both, of a red gate", it, [".ci/run"], 9, 1, same, more=bad)
+        found += gate("red growths", it, ["check", "all"], 8, 1, same, more={"GROWTHS": "0 passed, 1 failed"})
+        found += gate("a red gateway", it, ["check", "all"], 8, 1, same, more={"GATEWAY": "0 passed, 1 failed"})
+        found += gate("a red suite", it, ["check", "all"], 8, 1, same, more={"SUITE": "0 passed, 1 failed"})
+        found += gate("a red log", it, ["check", "all"], 8, 1, same, more={"POOL_LOG": "0 passed, 1 failed"})
+        found += gate("a red pool", it, ["check", "all"], 8, 1, same, more={"POOL": "0 passed, 1 failed"})
         none = {"HOSTS": "0 passed, 0 failed, 3 skipped"}
-        found += gate("no hosts", it, ["check", "all"], 7, 0, same, ", 3 skipped", more=none)
-        found += gate("both, without hosts", it, [".ci/run"], 7, 0, same, ", 3 skipped", more=none)
-        found += gate("a red host", it, ["check", "all"], 8, 1, same, more={"HOSTS": "1 passed, 1 failed"})
+        found += gate("no hosts", it, ["check", "all"], 8, 0, same, ", 3 skipped", more=none)
+        found += gate("both, without hosts", it, [".ci/run"], 8, 0, same, ", 3 skipped", more=none)
+        found += gate("a red host", it, ["check", "all"], 9, 1, same, more={"HOSTS": "1 passed, 1 failed"})
         other = it.top.parent / "other"
         other.write_bytes(pathlib.Path(BUILT).read_bytes() + b"\n")
-        found += gate("another program", it, ["check", "all"], 7, 1, run, more={"TESTED": str(other)})
+        found += gate("another program", it, ["check", "all"], 8, 1, run, more={"TESTED": str(other)})
         made = it.top / "release" / "made-of"
         text = made.read_text()
         made.write_text(text.replace("kit a kit of tests", "kit another kit"))
-        found += gate("another kit", it, ["check", "all"], 8, 0, "the programs are not compared", more={"TESTED": str(other)})
-        found += gate("another kit, same bytes", it, ["check", "all"], 8, 0, same)
+        found += gate("another kit", it, ["check", "all"], 9, 0, "the programs are not compared", more={"TESTED": str(other)})
+        found += gate("another kit, same bytes", it, ["check", "all"], 9, 0, same)
         made.write_text(text)
         one_space(it.top)
-        found += gate("other sources", it, ["check", "all"], 7, 1, f"{OTHER_SOURCES}: {run}")
+        found += gate("other sources", it, ["check", "all"], 8, 1, f"{OTHER_SOURCES}: {run}")
         found += difference("scripts/release", it.run(["scripts/release"], kit=True)[0], 0)
-        found += gate("a new release", it, ["check", "all"], 8, 0, same)
+        found += gate("a new release", it, ["check", "all"], 9, 0, same)
         shutil.rmtree(it.top / ".dss")
         return found + it.answered("the new release")
 

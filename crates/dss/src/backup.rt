@@ -16,8 +16,8 @@ fn is_database(rt: &HostRuntime, name: &str) -> Result<(), Fault> {
     }
 }
 
-// Copies a file.
-fn copy_file(rt: &HostRuntime, name: &str, to: &str) -> Result<(), Fault> {
+/// Copies a file. The copy is complete, or does not exist.
+pub(crate) fn copy_file(rt: &HostRuntime, name: &str, to: &str) -> Result<(), Fault> {
     let source = match File::open(rt, name) {
         Ok(source) => source,
         Err(cause) => return Err(io_fault(&cause, Fault::Copy(BackupFault::Read))),

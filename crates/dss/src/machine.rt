@@ -74,8 +74,8 @@ fn log_length(rt: &HostRuntime, database: &str) -> Option<u64> {
     Some(length_of(rt, log.as_str()).unwrap_or(0))
 }
 
-/// Returns the metrics of this process, and of a database.
-pub(crate) fn machine_metrics(rt: &HostRuntime, database: &str) -> MachineMetrics {
+/// Returns the metrics of this process, and of a database if there is one.
+pub(crate) fn machine_metrics(rt: &HostRuntime, database: Option<&str>) -> MachineMetrics {
     let mut metrics = MachineMetrics::unknown();
     if let Ok(stat) = fs::read_to_string(rt, "/proc/self/stat") {
         metrics.cpu = cpu_time(stat.as_str());
@@ -85,7 +85,9 @@ pub(crate) fn machine_metrics(rt: &HostRuntime, database: &str) -> MachineMetric
         metrics.max_files = max_files(limits.as_str());
     }
     metrics.open_files = open_files(rt);
-    metrics.database = length_of(rt, database);
-    metrics.log = log_length(rt, database);
+    if let Some(database) = database {
+        metrics.database = length_of(rt, database);
+        metrics.log = log_length(rt, database);
+    }
     metrics
 }

@@ -2,7 +2,9 @@
 use crate::cause::Cause;
 use crate::loopback::{self, SelfArgs};
 use crate::run::{self, RunArgs};
-use crate::{backup, connections, live, purge, tokens_command};
+use crate::{backup, connections, follow, live, pool, purge, tokens_command};
+use dss_args::follow_args::FollowArgs;
+use dss_args::pool_args::PoolArgs;
 use dss_args::serve_args::ServeArgs;
 use dss_command::fault::Fault;
 use dss_command::line::Commands;
@@ -49,6 +51,21 @@ impl<'a, F: Start> Commands for Program<'a, F> {
             return connections::serve(rt, &given, Wary, cause, error);
         }
         connections::serve(rt, &given, start, cause, error)
+    }
+
+    fn serve_pool<E: Write>(self, given: PoolArgs<'_>, error: &mut E) -> Result<(), Fault> {
+        let Program { rt, start, cause } = self;
+        pool::serve(rt, given, start, cause, error)
+    }
+
+    fn follow<W: Write, E: Write>(
+        self,
+        given: FollowArgs<'_>,
+        output: &mut W,
+        error: &mut E,
+    ) -> Result<(), Fault> {
+        let Program { rt, start, cause } = self;
+        follow::follow(rt, given, start, cause, output, error)
     }
 
     fn loop_back<R: Read, W: Write>(

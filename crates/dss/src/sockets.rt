@@ -22,6 +22,11 @@ const ADMIN_LISTENER: usize = 1_000_001;
 
 const ADMIN_CONNECTIONS: usize = 2_000_000;
 
+/// The tokens of the two connections to etcd. Their events end a wait, and are no events of sockets.
+pub(crate) const LOG_REQUESTS: Token = Token(1_000_002);
+
+pub(crate) const LOG_WATCH: Token = Token(1_000_003);
+
 // The maximum number of events taken at once.
 const EVENTS: usize = 1_024;
 
@@ -84,18 +89,21 @@ pub(crate) struct PortSockets<'a> {
     ready: Vec<SocketEvent>,
     // The number of events already taken.
     taken: usize,
-    // The name of the database file.
-    database: &'a str,
+    // The name of the database file, if there is one.
+    database: Option<&'a str>,
     cause: &'a mut Cause,
 }
 
-// Returns the source of events with that token.
-fn watched_as(token: usize) -> EventSource {
+// Returns the source of events with that token. Returns `None` for a connection to etcd.
+fn watched_as(token: usize) -> Option<EventSource> {
     match token {
-        LISTENER => EventSource::Port,
-        ADMIN_LISTENER => EventSource::AdminPort,
-        _ if token >= ADMIN_CONNECTIONS => EventSource::AdminConnection(token - ADMIN_CONNECTIONS),
-        _ => EventSource::Client(token),
+        LISTENER => Some(EventSource::Port),
+        ADMIN_LISTENER => Some(EventSource::AdminPort),
+        _ if token >= ADMIN_CONNECTIONS => {
+            Some(EventSource::AdminConnection(token - ADMIN_CONNECTIONS))
+        }
+        _ if token > ADMIN_LISTENER => None,
+        _ => Some(EventSource::Client(token)),
     }
 }
 
@@ -152,16 +160,16 @@ fn accept_stream(
     }
 }
 
-// Converts an event.
-fn socket_event(event: &Event) -> SocketEvent {
+// Converts an event. Returns `None` for one of a connection to etcd.
+fn socket_event(event: &Event) -> Option<SocketEvent> {
     let Token(token) = event.token();
-    SocketEvent {
-        which: watched_as(token),
+    Some(SocketEvent {
+        which: watched_as(token)?,
         readable: event.is_readable(),
         writable: event.is_writable(),
         ended: event.is_read_closed(),
         reset: event.is_error() || event.is_write_closed(),
-    }
+    })
 }
 
 // Returns the reason why the system returned no client.
@@ -180,12 +188,12 @@ impl<'a> PortSockets<'a> {
     /// Listens on the ports of these addresses, and on the admin port if there is one.
     pub(crate) fn listen(
         rt: &'a HostRuntime,
+        poll: Poll,
         addresses: &[SocketAddr],
         operators: Option<SocketAddr>,
-        database: &'a str,
+        database: Option<&'a str>,
         cause: &'a mut Cause,
     ) -> io::Result<PortSockets<'a>> {
-        let poll = Poll::new(rt)?;
         let mut listeners = Vec::with_capacity(rt.alloc(), addresses.len())?;
         for address in addresses {
             let listener = listener_on(rt, &poll, *address, EventSource::Port, cause)?;
@@ -290,7 +298,9 @@ impl<'a> Sockets for PortSockets<'a> {
         self.ready.clear();
         self.taken = 0;
         for event in self.events.iter() {
-            self.ready.push(socket_event(event))?;
+            if let Some(event) = socket_event(event) {
+                self.ready.push(event)?;
+            }
         }
         Ok(())
     }

@@ -5,7 +5,7 @@ use Rattle.std.specs.Net.Socket.{socket_ip}
 use Rattle.std.specs.declared.net.socket_addr.SocketAddr.{SocketAddr}
 use Rattle.std.proofs.NetLemmas.Theorems.{IsSocketText_unique}
 use Rattle.clap.specs.Words.{Row, Text, all_of, first_of}
-use Rattle.dss_args.specs.CommandArgs.{AreListens, HasAdmin, HasChoice, HasListen, HasNumberIn, IsAddress, IsListen, IsLoopback, ListensOn}
+use Rattle.dss_args.specs.CommandArgs.{AreListens, HasAdmin, HasChoice, HasEndpoints, HasListen, HasNumberIn, IsAddress, IsListen, IsLoopback, ListensOn, parts_of}
 use Rattle.dss_args.specs.declared.command_args.TheConstants.{MAX_PORT}
 use Rattle.dss_args.proofs.Matches.{absent, number_present, same_number}
 
@@ -65,3 +65,10 @@ no_admin rows text there number address (Some a) has =
       | inl is ↦ number is.0 is.1
       | inr is ↦ let same : Some is.0 ≡ Some text = sym is.1 ∙ there in let texts : is.0 ≡ text = cc in address a (subst (λ (t : Text). IsAddress t a) texts is.2) is.3
     ]
+
+-- A list with a part that is no address has no addresses of etcd.
+pub no_endpoints : (rows : List Row) (text : Text) (parts : List Text) → first_of (codes "pool") rows ≡ Some text → parts ≡ parts_of text → ((all : List SocketAddr) → AreListens None parts all → ⊥) → (all : List SocketAddr) → HasEndpoints rows all → ⊥
+no_endpoints rows text parts there split none all (t, is, are) =
+    let same : Some t ≡ Some text = sym is ∙ there in
+    let texts : t ≡ text = cc in
+    none all (subst (λ (l : List Text). AreListens None l all) (ap parts_of texts ∙ sym split) are)

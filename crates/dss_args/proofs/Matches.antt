@@ -15,12 +15,14 @@ use Rattle.clap.specs.declared.parser.matches.Found.{Found}
 use Rattle.clap.proofs.WalkLemmas.{one_text-rows}
 use Rattle.clap.specs.declared.error.kind.ErrorKind.{ErrorKind}
 use Rattle.clap.specs.declared.error.kind.ErrorKind.TheVariants.{DisplayHelp, DisplayVersion, OutOfMemory}
-use Rattle.dss_args.specs.CommandArgs.{Asks, AsksNothing, Explains, HasChoice, HasNumber, HasNumberIn, HasServing, HasValues, is_set, line_of_options}
+use Rattle.dss_args.specs.CommandArgs.{Asks, AsksNothing, Explains, HasChoice, HasFollow, HasNumber, HasNumberIn, HasPool, HasServing, HasValues, asks_pool, is_set, line_of_options}
+use Rattle.dss_args.specs.declared.follow_args.FollowArgs.{FollowArgs}
+use Rattle.dss_args.specs.declared.pool_args.PoolArgs.{PoolArgs}
 use Rattle.dss_args.specs.declared.serve_args.ServeArgs.{ServeArgs}
 use Rattle.dss_args.specs.LineFault.{IsFaultOf}
 use Rattle.dss_args.specs.declared.fault.LineFault.{LineFault}
 use Rattle.dss_args.specs.declared.fault.LineFault.TheVariants as fault
-use Rattle.dss_args.specs.declared.command_args.CommandArgs.TheVariants.{Backup, Cell, CheckTokens, Explain, Loopback, NewSalt, NewToken, Report, Run, Serve, Purge, Upgrade, Verify}
+use Rattle.dss_args.specs.declared.command_args.CommandArgs.TheVariants.{Backup, Cell, CheckTokens, Explain, Follow, Loopback, NewSalt, NewToken, Pool, Report, Run, Serve, Purge, Upgrade, Verify}
 
 -- A number that was read is that of the argument's text.
 pub number_from_text : (f : Found) (id : Text) (n : ℕ) → (one_text f id ≡ None → Some n ≡ None) → ((t : List ℕ) → one_text f id ≡ Some t → (IsNumeral 10 (without_leading_plus t) × (digits_value 10 (without_leading_plus t) < 2 ^ 64)) × (n ≡ digits_value 10 (without_leading_plus t))) → HasNumber id (rows_of f) n
@@ -51,6 +53,8 @@ other a b differ same = not_from_Decides (bytes_eq a b) (bytes_eq-Decides a b) d
 pub nothing_of_run : (rows : List Row) → ((tokens : Bor (List ℕ)) (now : ℕ) (database : Option (Bor (List ℕ))) (requests : Bor (List ℕ)) → HasValues rows (Run tokens now database requests) → ⊥) → AsksNothing (Some (codes "run", rows))
 nothing_of_run rows none (Run tokens now database requests) asks = none tokens now database requests asks.1
 nothing_of_run rows none (Serve given) asks = other _ _ refl asks.0
+nothing_of_run rows none (Pool given) asks = other _ _ refl asks.0
+nothing_of_run rows none (Follow given) asks = other _ _ refl asks.0
 nothing_of_run rows none (Loopback tokens now request) asks = other _ _ refl asks.0
 nothing_of_run rows none (Cell token) asks = other _ _ refl asks.0
 nothing_of_run rows none (Explain method target now) asks = other _ _ refl asks.0
@@ -63,26 +67,59 @@ nothing_of_run rows none (CheckTokens file) asks = other _ _ refl asks.0
 nothing_of_run rows none (NewToken uss scopes) asks = other _ _ refl asks.0
 nothing_of_run rows none NewSalt asks = other _ _ refl asks.0
 
+-- No arguments of `serve` have the values, without and with `--pool`.
+abbrev pub NoServing : List Row → Type 0
+NoServing rows = (given : ServeArgs) → HasServing rows given → ⊥
+
+abbrev pub NoPool : List Row → Type 0
+NoPool rows = (given : PoolArgs) → HasPool rows given → ⊥
+
 -- The subcommand `serve` requests nothing if no command line has the values.
-pub nothing_of_serve : (rows : List Row) → ((given : ServeArgs) → HasServing rows given → ⊥) → AsksNothing (Some (codes "serve", rows))
-nothing_of_serve rows none (Run tokens now database requests) asks = other _ _ refl asks.0
-nothing_of_serve rows none (Serve given) asks = none given asks.1
-nothing_of_serve rows none (Loopback tokens now request) asks = other _ _ refl asks.0
-nothing_of_serve rows none (Cell token) asks = other _ _ refl asks.0
-nothing_of_serve rows none (Explain method target now) asks = other _ _ refl asks.0
-nothing_of_serve rows none (Report database places) asks = other _ _ refl asks.0
-nothing_of_serve rows none (Backup database to live) asks = other _ _ refl asks.0
-nothing_of_serve rows none (Verify file) asks = other _ _ refl asks.0
-nothing_of_serve rows none (Upgrade database) asks = other _ _ refl asks.0
-nothing_of_serve rows none (Purge database until now) asks = other _ _ refl asks.0
-nothing_of_serve rows none (CheckTokens file) asks = other _ _ refl asks.0
-nothing_of_serve rows none (NewToken uss scopes) asks = other _ _ refl asks.0
-nothing_of_serve rows none NewSalt asks = other _ _ refl asks.0
+pub nothing_of_serve : (rows : List Row) → NoServing rows → NoPool rows → AsksNothing (Some (codes "serve", rows))
+nothing_of_serve rows none pool (Run tokens now database requests) asks = other _ _ refl asks.0
+nothing_of_serve rows none pool (Serve given) asks = none given asks.1
+nothing_of_serve rows none pool (Pool given) asks = pool given asks.1
+nothing_of_serve rows none pool (Follow given) asks = other _ _ refl asks.0
+nothing_of_serve rows none pool (Loopback tokens now request) asks = other _ _ refl asks.0
+nothing_of_serve rows none pool (Cell token) asks = other _ _ refl asks.0
+nothing_of_serve rows none pool (Explain method target now) asks = other _ _ refl asks.0
+nothing_of_serve rows none pool (Report database places) asks = other _ _ refl asks.0
+nothing_of_serve rows none pool (Backup database to live) asks = other _ _ refl asks.0
+nothing_of_serve rows none pool (Verify file) asks = other _ _ refl asks.0
+nothing_of_serve rows none pool (Upgrade database) asks = other _ _ refl asks.0
+nothing_of_serve rows none pool (Purge database until now) asks = other _ _ refl asks.0
+nothing_of_serve rows none pool (CheckTokens file) asks = other _ _ refl asks.0
+nothing_of_serve rows none pool (NewToken uss scopes) asks = other _ _ refl asks.0
+nothing_of_serve rows none pool NewSalt asks = other _ _ refl asks.0
+
+-- No arguments of `follow` have the values.
+abbrev pub NoFollow : List Row → Type 0
+NoFollow rows = (given : FollowArgs) → HasFollow rows given → ⊥
+
+-- The subcommand `follow` requests nothing if no command line has the values.
+pub nothing_of_follow : (rows : List Row) → NoFollow rows → AsksNothing (Some (codes "follow", rows))
+nothing_of_follow rows none (Run tokens now database requests) asks = other _ _ refl asks.0
+nothing_of_follow rows none (Serve given) asks = other _ _ refl asks.0
+nothing_of_follow rows none (Pool given) asks = other _ _ refl asks.0
+nothing_of_follow rows none (Follow given) asks = none given asks.1
+nothing_of_follow rows none (Loopback tokens now request) asks = other _ _ refl asks.0
+nothing_of_follow rows none (Cell token) asks = other _ _ refl asks.0
+nothing_of_follow rows none (Explain method target now) asks = other _ _ refl asks.0
+nothing_of_follow rows none (Report database places) asks = other _ _ refl asks.0
+nothing_of_follow rows none (Backup database to live) asks = other _ _ refl asks.0
+nothing_of_follow rows none (Verify file) asks = other _ _ refl asks.0
+nothing_of_follow rows none (Upgrade database) asks = other _ _ refl asks.0
+nothing_of_follow rows none (Purge database until now) asks = other _ _ refl asks.0
+nothing_of_follow rows none (CheckTokens file) asks = other _ _ refl asks.0
+nothing_of_follow rows none (NewToken uss scopes) asks = other _ _ refl asks.0
+nothing_of_follow rows none NewSalt asks = other _ _ refl asks.0
 
 -- The subcommand `self` requests nothing if no command line has the values.
 pub nothing_of_self : (rows : List Row) → ((tokens : Bor (List ℕ)) (now : ℕ) (request : Bor (List ℕ)) → HasValues rows (Loopback tokens now request) → ⊥) → AsksNothing (Some (codes "self", rows))
 nothing_of_self rows none (Run tokens now database requests) asks = other _ _ refl asks.0
 nothing_of_self rows none (Serve given) asks = other _ _ refl asks.0
+nothing_of_self rows none (Pool given) asks = other _ _ refl asks.0
+nothing_of_self rows none (Follow given) asks = other _ _ refl asks.0
 nothing_of_self rows none (Loopback tokens now request) asks = none tokens now request asks.1
 nothing_of_self rows none (Cell token) asks = other _ _ refl asks.0
 nothing_of_self rows none (Explain method target now) asks = other _ _ refl asks.0
@@ -99,6 +136,8 @@ nothing_of_self rows none NewSalt asks = other _ _ refl asks.0
 pub nothing_of_cell : (rows : List Row) → ((token : Bor (List ℕ)) → HasValues rows (Cell token) → ⊥) → AsksNothing (Some (codes "cell", rows))
 nothing_of_cell rows none (Run tokens now database requests) asks = other _ _ refl asks.0
 nothing_of_cell rows none (Serve given) asks = other _ _ refl asks.0
+nothing_of_cell rows none (Pool given) asks = other _ _ refl asks.0
+nothing_of_cell rows none (Follow given) asks = other _ _ refl asks.0
 nothing_of_cell rows none (Loopback tokens now request) asks = other _ _ refl asks.0
 nothing_of_cell rows none (Cell token) asks = none token asks.1
 nothing_of_cell rows none (Explain method target now) asks = other _ _ refl asks.0
@@ -115,6 +154,8 @@ nothing_of_cell rows none NewSalt asks = other _ _ refl asks.0
 pub nothing_of_explain : (rows : List Row) → ((method target : Bor (List ℕ)) (now : Option ℕ) → HasValues rows (Explain method target now) → ⊥) → AsksNothing (Some (codes "explain", rows))
 nothing_of_explain rows none (Run tokens now database requests) asks = other _ _ refl asks.0
 nothing_of_explain rows none (Serve given) asks = other _ _ refl asks.0
+nothing_of_explain rows none (Pool given) asks = other _ _ refl asks.0
+nothing_of_explain rows none (Follow given) asks = other _ _ refl asks.0
 nothing_of_explain rows none (Loopback tokens now request) asks = other _ _ refl asks.0
 nothing_of_explain rows none (Cell token) asks = other _ _ refl asks.0
 nothing_of_explain rows none (Explain method target now) asks = none method target now asks.1
@@ -131,6 +172,8 @@ nothing_of_explain rows none NewSalt asks = other _ _ refl asks.0
 pub nothing_of_report : (rows : List Row) → ((database : Bor (List ℕ)) (places : Bool) → HasValues rows (Report database places) → ⊥) → AsksNothing (Some (codes "report", rows))
 nothing_of_report rows none (Run tokens now database requests) asks = other _ _ refl asks.0
 nothing_of_report rows none (Serve given) asks = other _ _ refl asks.0
+nothing_of_report rows none (Pool given) asks = other _ _ refl asks.0
+nothing_of_report rows none (Follow given) asks = other _ _ refl asks.0
 nothing_of_report rows none (Loopback tokens now request) asks = other _ _ refl asks.0
 nothing_of_report rows none (Cell token) asks = other _ _ refl asks.0
 nothing_of_report rows none (Explain method target now) asks = other _ _ refl asks.0
@@ -147,6 +190,8 @@ nothing_of_report rows none NewSalt asks = other _ _ refl asks.0
 pub nothing_of_backup : (rows : List Row) → ((database to : Bor (List ℕ)) (live : Bool) → HasValues rows (Backup database to live) → ⊥) → AsksNothing (Some (codes "backup", rows))
 nothing_of_backup rows none (Run tokens now database requests) asks = other _ _ refl asks.0
 nothing_of_backup rows none (Serve given) asks = other _ _ refl asks.0
+nothing_of_backup rows none (Pool given) asks = other _ _ refl asks.0
+nothing_of_backup rows none (Follow given) asks = other _ _ refl asks.0
 nothing_of_backup rows none (Loopback tokens now request) asks = other _ _ refl asks.0
 nothing_of_backup rows none (Cell token) asks = other _ _ refl asks.0
 nothing_of_backup rows none (Explain method target now) asks = other _ _ refl asks.0
@@ -163,6 +208,8 @@ nothing_of_backup rows none NewSalt asks = other _ _ refl asks.0
 pub nothing_of_verify : (rows : List Row) → ((file : Bor (List ℕ)) → HasValues rows (Verify file) → ⊥) → AsksNothing (Some (codes "verify", rows))
 nothing_of_verify rows none (Run tokens now database requests) asks = other _ _ refl asks.0
 nothing_of_verify rows none (Serve given) asks = other _ _ refl asks.0
+nothing_of_verify rows none (Pool given) asks = other _ _ refl asks.0
+nothing_of_verify rows none (Follow given) asks = other _ _ refl asks.0
 nothing_of_verify rows none (Loopback tokens now request) asks = other _ _ refl asks.0
 nothing_of_verify rows none (Cell token) asks = other _ _ refl asks.0
 nothing_of_verify rows none (Explain method target now) asks = other _ _ refl asks.0
@@ -179,6 +226,8 @@ nothing_of_verify rows none NewSalt asks = other _ _ refl asks.0
 pub nothing_of_upgrade : (rows : List Row) → ((database : Bor (List ℕ)) → HasValues rows (Upgrade database) → ⊥) → AsksNothing (Some (codes "upgrade", rows))
 nothing_of_upgrade rows none (Run tokens now database requests) asks = other _ _ refl asks.0
 nothing_of_upgrade rows none (Serve given) asks = other _ _ refl asks.0
+nothing_of_upgrade rows none (Pool given) asks = other _ _ refl asks.0
+nothing_of_upgrade rows none (Follow given) asks = other _ _ refl asks.0
 nothing_of_upgrade rows none (Loopback tokens now request) asks = other _ _ refl asks.0
 nothing_of_upgrade rows none (Cell token) asks = other _ _ refl asks.0
 nothing_of_upgrade rows none (Explain method target now) asks = other _ _ refl asks.0
@@ -195,6 +244,8 @@ nothing_of_upgrade rows none NewSalt asks = other _ _ refl asks.0
 pub nothing_of_purge : (rows : List Row) → ((database : Bor (List ℕ)) (until : ℕ) (now : Option ℕ) → HasValues rows (Purge database until now) → ⊥) → AsksNothing (Some (codes "purge", rows))
 nothing_of_purge rows none (Run tokens now database requests) asks = other _ _ refl asks.0
 nothing_of_purge rows none (Serve given) asks = other _ _ refl asks.0
+nothing_of_purge rows none (Pool given) asks = other _ _ refl asks.0
+nothing_of_purge rows none (Follow given) asks = other _ _ refl asks.0
 nothing_of_purge rows none (Loopback tokens now request) asks = other _ _ refl asks.0
 nothing_of_purge rows none (Cell token) asks = other _ _ refl asks.0
 nothing_of_purge rows none (Explain method target now) asks = other _ _ refl asks.0
@@ -237,6 +288,8 @@ no_salt None None None true a b c d none = cc
 pub nothing_of_tokens : (rows : List Row) (check new scopes : Option (Bor (List ℕ))) (flag : Bool) → text_of check ≡ first_of (codes "check") rows → text_of new ≡ first_of (codes "new-token") rows → text_of scopes ≡ first_of (codes "scopes") rows → flag ≡ is_set (codes "new-salt") rows → line_of_options check new scopes flag ≡ None → AsksNothing (Some (codes "tokens", rows))
 nothing_of_tokens rows check new scopes flag a b c d none (Run tokens now database requests) asks = other _ _ refl asks.0
 nothing_of_tokens rows check new scopes flag a b c d none (Serve given) asks = other _ _ refl asks.0
+nothing_of_tokens rows check new scopes flag a b c d none (Pool given) asks = other _ _ refl asks.0
+nothing_of_tokens rows check new scopes flag a b c d none (Follow given) asks = other _ _ refl asks.0
 nothing_of_tokens rows check new scopes flag a b c d none (Loopback tokens now request) asks = other _ _ refl asks.0
 nothing_of_tokens rows check new scopes flag a b c d none (Cell token) asks = other _ _ refl asks.0
 nothing_of_tokens rows check new scopes flag a b c d none (Explain method target now) asks = other _ _ refl asks.0
@@ -331,3 +384,9 @@ fault_of_kind mistakes subcommand kind (fault.Shown text) (inl out) is =
     ]
 fault_of_kind mistakes subcommand kind (fault.Refused text) (inr mistake) is = inl (kind, mistake, is)
 fault_of_kind mistakes subcommand kind (fault.Refused text) (inl out) is = absurd (is.2 out)
+
+-- Without `--pool` the arguments request no instance of a pool.
+pub no_pool : (rows : List Row) → asks_pool rows ≡ false → NoPool rows
+no_pool rows none given has =
+    let some : asks_pool rows ≡ true = ap is_some has.endpoints.1 in
+    let bad : false ≡ true = sym none ∙ some in cc

@@ -15,13 +15,18 @@ use Rattle.std.specs.Prelude.{
   None,
   codes,
   is_some,
+  length,
   map,
   nat_eq,
+  nat_le,
   not,
   option_map,
   ◌&&◌,
+  ◌==◌,
+  ◌||◌,
 }
 use Rattle.std.specs.Cmp.Lexicographic.{pointwise}
+use Rattle.std.specs.List.{list_all, slice_split}
 use Rattle.std.specs.Option.{option_map_or}
 use Rattle.std.specs.Borrow.{Bor}
 use Rattle.std.specs.Net.Addr.{IsLoopbackV6, IsV4And, MatchIp, ipv4_octets}
@@ -52,9 +57,11 @@ use Rattle.dss_args.specs.declared.command_args.CommandArgs.TheVariants.{
   Cell,
   CheckTokens,
   Explain,
+  Follow,
   Loopback,
   NewSalt,
   NewToken,
+  Pool,
   Report,
   Run,
   Serve,
@@ -62,6 +69,8 @@ use Rattle.dss_args.specs.declared.command_args.CommandArgs.TheVariants.{
   Upgrade,
   Verify,
 }
+use Rattle.dss_args.specs.declared.follow_args.FollowArgs.{FollowArgs}
+use Rattle.dss_args.specs.declared.pool_args.PoolArgs.{PoolArgs}
 use Rattle.dss_args.specs.declared.serve_args.ServeArgs.{ServeArgs}
 
 -- The texts of some arguments.
@@ -159,8 +168,89 @@ abbrev pub lacks_port : List Row → Bool
 lacks_port rows =
     is_some (first_of (codes "backup-dir") rows) && not (is_some (first_of (codes "admin-port") rows))
 
--- Holds if the arguments of the subcommand `serve` have these values.
+-- True if an option is given.
+abbrev pub is_given : Text → List Row → Bool
+is_given id rows = is_some (first_of id rows)
+
+-- ---- an instance of a pool
+
+-- True if the arguments of `serve` request an instance of a pool.
+abbrev pub asks_pool : List Row → Bool
+asks_pool rows = is_given (codes "pool") rows
+
+-- True if an option is given that only an instance of a pool has.
+abbrev pub has_pool_option : List Row → Bool
+has_pool_option rows =
+    is_given (codes "as") rows || is_given (codes "etcd-user") rows || is_given (codes "files") rows
+
+-- True if an option is given that an instance of a pool does not have.
+abbrev pub has_store_option : List Row → Bool
+has_store_option rows =
+    is_given (codes "db") rows || is_given (codes "count") rows || is_given (codes "quota") rows
+    || is_given (codes "retention") rows || is_given (codes "response-memory") rows
+    || is_given (codes "backup-dir") rows || is_set (codes "double-sync") rows
+
+-- The parts of a text, separated by commas.
+abbrev pub parts_of : Text → List Text
+parts_of text = slice_split (λ byte. byte == 44) text
+
+-- The addresses of etcd: the parts of the option's text, each with its port. There is at least one
+-- part.
+abbrev pub HasEndpoints : List Row → List SocketAddr → Type 0
+HasEndpoints rows addresses =
+    (text : List ℕ) × (first_of (codes "pool") rows ≡ Some text)
+    × AreListens None (parts_of text) addresses
+
+-- True for ASCII letters, digits, '-', '.' and '_'.
+abbrev pub is_name_byte : ℕ → Bool
+is_name_byte b =
+    (nat_le 48 b && nat_le b 57) || (nat_le 65 b && nat_le b 90) || (nat_le 97 b && nat_le b 122)
+    || b == 45 || b == 46 || b == 95
+
+-- True if the text can be the name of an instance.
+abbrev pub is_instance_name : Text → Bool
+is_instance_name text =
+    nat_le 1 (length text) && nat_le (length text) 64 && list_all is_name_byte text
+
+-- The name of the instance, which has the form of one.
+abbrev pub HasName : List Row → Bor Text → Type 0
+HasName rows name =
+    (first_of (codes "as") rows ≡ Some name.now) × (is_instance_name name.now ≡ true)
+
+-- Holds if the arguments of the subcommand `serve` request an instance of a pool, and have these
+-- values.
+pub record HasPool (rows : List Row) (given : PoolArgs) : Type 0 where
+  pub tokens : first_of (codes "tokens") rows ≡ Some given.tokens.now
+  pub endpoints : HasEndpoints rows given.endpoints.items
+  pub name : HasName rows given.name
+  pub etcd_user : HasText (codes "etcd-user") rows given.etcd_user
+  pub files : HasText (codes "files") rows given.files
+  pub listen : HasListen rows given.listen.items
+  pub max_connections :
+      HasNumberOr (codes "max-connections") 1 MAX_CONNECTIONS MAX_CONNECTIONS rows
+      given.max_connections
+  pub admin_port : HasAdmin rows given.admin_port
+  pub access_log : HasText (codes "access-log") rows given.access_log
+  pub no_store : has_store_option rows ≡ false
+  pub explain : is_set (codes "explain") rows ≡ given.explain
+  pub verbose : is_set (codes "verbose") rows ≡ given.verbose
+
+-- Holds if the arguments of the subcommand `follow` have these values.
+pub record HasFollow (rows : List Row) (given : FollowArgs) : Type 0 where
+  pub tokens : first_of (codes "tokens") rows ≡ Some given.tokens.now
+  pub endpoints : HasEndpoints rows given.endpoints.items
+  pub name : HasName rows given.name
+  pub files : first_of (codes "files") rows ≡ Some given.files.now
+  pub etcd_user : HasText (codes "etcd-user") rows given.etcd_user
+  pub verbose : is_set (codes "verbose") rows ≡ given.verbose
+
+-- ---- commands
+
+-- Holds if the arguments of the subcommand `serve` request no instance of a pool, and have these
+-- values.
 pub record HasServing (rows : List Row) (given : ServeArgs) : Type 0 where
+  pub alone : asks_pool rows ≡ false
+  pub no_pool : has_pool_option rows ≡ false
   pub tokens : first_of (codes "tokens") rows ≡ Some given.tokens.now
   pub database : first_of (codes "db") rows ≡ Some given.database.now
   pub listen : HasListen rows given.listen.items
@@ -185,6 +275,8 @@ pub record HasServing (rows : List Row) (given : ServeArgs) : Type 0 where
 abbrev pub name_of : CommandArgs → Text
 name_of (Run tokens now database requests) = codes "run"
 name_of (Serve given) = codes "serve"
+name_of (Pool given) = codes "serve"
+name_of (Follow given) = codes "follow"
 name_of (Loopback tokens now request) = codes "self"
 name_of (Cell token) = codes "cell"
 name_of (Explain method target now) = codes "explain"
@@ -205,6 +297,8 @@ HasValues rows (Run tokens now database requests) =
     × HasText (codes "db") rows database
     × (first_of (codes "requests") rows ≡ Some requests.now)
 HasValues rows (Serve given) = HasServing rows given
+HasValues rows (Pool given) = HasPool rows given
+HasValues rows (Follow given) = HasFollow rows given
 HasValues rows (Loopback tokens now request) =
     (first_of (codes "tokens") rows ≡ Some tokens.now)
     × HasNumberIn (codes "now") 0 MAX_TIME rows now

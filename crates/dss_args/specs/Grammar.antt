@@ -60,6 +60,10 @@ database_rule = record (new_rule (codes "db")) { long = Some (codes "db"); value
 abbrev pub store_rule : Rule
 store_rule = record (option_rule (codes "db")) { value_names = 1 }
 
+-- A required option with a value that has a name.
+abbrev pub needed_rule : Text → Rule
+needed_rule name = record (option_rule name) { value_names = 1 }
+
 -- An optional argument with a number in this range.
 abbrev pub number_rule : Text → ℕ → ℕ → Rule
 number_rule name least greatest = record (new_rule name) {
@@ -113,9 +117,21 @@ run_app =
     (with_rule (with_rule (with_rule (new_app (codes "run")) tokens_rule) now_rule) database_rule)
     requests_rule
 
--- The required options of `serve`.
-abbrev pub serve_needs : App
-serve_needs = with_rule (with_rule (new_app (codes "serve")) tokens_rule) store_rule
+-- The token file of `serve`, and its database.
+abbrev pub serve_files : App
+serve_files =
+    with_rule (with_rule (new_app (codes "serve")) tokens_rule) (choice_rule (codes "db"))
+
+-- The options of `serve` for an instance of a pool.
+abbrev pub serve_pool : App
+serve_pool =
+    with_rule
+    (with_rule
+    (with_rule
+    (with_rule serve_files (choice_rule (codes "pool")))
+    (choice_rule (codes "as")))
+    (choice_rule (codes "etcd-user")))
+    (choice_rule (codes "files"))
 
 -- The port of `serve`, and its options that limit what it serves and stores.
 abbrev pub serve_bounds : App
@@ -125,7 +141,7 @@ serve_bounds =
     (with_rule
     (with_rule
     (with_rule
-    (with_rule serve_needs (number_rule (codes "port") 1 MAX_PORT))
+    (with_rule serve_pool (number_rule (codes "port") 1 MAX_PORT))
     (number_rule (codes "count") 1 MAX_COUNT))
     (number_rule (codes "max-connections") 1 MAX_CONNECTIONS))
     (number_rule (codes "response-memory") 1 MAX_RESPONSE_MEMORY))
@@ -149,6 +165,20 @@ serve_app =
     (with_rule
     (with_rule serve_watch (flag_rule (codes "double-sync")))
     (flag_rule (codes "explain")))
+    (flag_rule (codes "verbose"))
+
+abbrev pub follow_app : App
+follow_app =
+    with_rule
+    (with_rule
+    (with_rule
+    (with_rule
+    (with_rule
+    (with_rule (new_app (codes "follow")) tokens_rule)
+    (needed_rule (codes "pool")))
+    (needed_rule (codes "as")))
+    (needed_rule (codes "files")))
+    (choice_rule (codes "etcd-user")))
     (flag_rule (codes "verbose"))
 
 abbrev pub self_app : App
@@ -215,8 +245,10 @@ dss_app =
     (with_subcommand
     (with_subcommand
     (with_subcommand
+    (with_subcommand
     (with_subcommand own_app run_app.top)
     serve_app.top)
+    follow_app.top)
     self_app.top)
     cell_app.top)
     explain_app.top)

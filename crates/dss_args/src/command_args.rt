@@ -19,10 +19,12 @@ ghost use Rattle.std.specs.Prelude.{
   Option,
   Some,
   codes,
+  false,
 };
 ghost use Rattle.clap.specs.Faults.{fault_of as mistakes_of};
 ghost use Rattle.clap.specs.Words.{found_of, rows_of, subcommand_of, subcommand_rows_of};
 ghost use Rattle.dss_args.specs.Grammar.{dss_app};
+ghost use Rattle.dss_args.specs.declared.serve_args.ServeArgs.{ServeArgs};
 ghost use Rattle.dss_args.specs.CommandArgs.{
   AreListens,
   Asks,
@@ -33,11 +35,13 @@ ghost use Rattle.dss_args.specs.CommandArgs.{
   HasNumberOr,
   HasListen,
   HasNumberIn,
+  HasServing,
   IsAddress,
   IsListen,
   IsLocal,
   IsLoopback,
   ListensOn,
+  asks_pool,
   is_set,
   lacks_port,
   line_of_options,
@@ -45,7 +49,11 @@ ghost use Rattle.dss_args.specs.CommandArgs.{
 };
 
 use crate::fault::{LineFault, fault_of};
-use crate::grammar::command;
+use crate::follow_args::FollowArgs;
+use crate::follow_line::{follow_line, follow_refusal};
+use crate::grammar::{SERVE_USAGE, command};
+use crate::pool_args::PoolArgs;
+use crate::pool_line::{is_given, pool_line, pool_option_in, pool_refusal};
 use crate::serve_args::ServeArgs;
 use clap::ArgMatches;
 use std::alloc::{AllocError, Global};
@@ -72,7 +80,7 @@ pub const RESPONSE_MEMORY: u64 = 64;
 pub const MAX_QUOTA: u64 = 4_294_967_295;
 
 // The error messages for arguments that are valid one by one but request no command.
-const NO_LINE: &str = "error: the command line names no whole command\n";
+pub(crate) const NO_LINE: &str = "error: the command line names no whole command\n";
 
 const NO_PORT: &str = "error: --port is missing; write it, or a port in each --listen, \
     as in 127.0.0.1:8080 or [::1]:8080\n";
@@ -95,6 +103,10 @@ pub enum CommandArgs<'a> {
     },
     /// Serves connections to a port of this machine.
     Serve(ServeArgs<'a>),
+    /// Serves connections to a port of this machine, as an instance of a pool.
+    Pool(PoolArgs<'a>),
+    /// Follows the log of a pool, and writes a file from which an instance can start.
+    Follow(FollowArgs<'a>),
     /// Serves one stream of requests in memory, through a loopback socket.
     Loopback {
         /// The name of the token file.
@@ -231,7 +243,7 @@ fn choice_in(matches: &ArgMatches<'_>, name: &str, least: u64, greatest: u64) ->
 
 // Returns the number of an optional argument, or `otherwise` if it is absent. Returns `None` if a
 // number is present and out of range.
-fn number_or(
+pub(crate) fn number_or(
     matches: &ArgMatches<'_>,
     name: &str,
     least: u64,
@@ -294,7 +306,7 @@ fn ip_of(text: &str) -> Option<IpAddr>
 }
 
 // Parses an address with its port, which is not 0.
-fn address_of(text: &str) -> Option<SocketAddr>
+pub(crate) fn address_of(text: &str) -> Option<SocketAddr>
     ensures some { IfSome result (IsAddress text.now) }
     ensures none { IfNone result ((a : SocketAddr) → IsAddress text.now a → ⊥) }
 {
@@ -334,7 +346,7 @@ fn listen_of(text: &str, port: Option<u16>) -> Option<SocketAddr>
 }
 
 // Parses addresses to listen on. Returns `None` if a text is none.
-fn each_listen(
+pub(crate) fn each_listen(
     alloc: Global,
     words: &[&str],
     port: Option<u16>,
@@ -370,7 +382,10 @@ fn default_listen(alloc: Global, port: Option<u16>) -> Result<Option<Vec<SocketA
 
 // Returns the addresses to listen on. Returns `None` if a value is no address, or a port is
 // missing.
-fn listen_in(alloc: Global, matches: &ArgMatches<'_>) -> Result<Option<Vec<SocketAddr>>, AllocError>
+pub(crate) fn listen_in(
+    alloc: Global,
+    matches: &ArgMatches<'_>,
+) -> Result<Option<Vec<SocketAddr>>, AllocError>
     ensures some { IfOk result (λ found. IfSome found (λ v.
         HasListen (rows_of (found_of matches.now)) v.items)) }
     ensures none { IfOk result (λ found. IfNone found ((all : List SocketAddr)
@@ -387,7 +402,7 @@ fn listen_in(alloc: Global, matches: &ArgMatches<'_>) -> Result<Option<Vec<Socke
 
 // Returns the address of the admin port, if it is present. Returns `None` if it is no port, and no
 // loopback address with a port.
-fn admin_in(matches: &ArgMatches<'_>) -> Option<Option<SocketAddr>>
+pub(crate) fn admin_in(matches: &ArgMatches<'_>) -> Option<Option<SocketAddr>>
     ensures some { IfSome result (HasAdmin (rows_of (found_of matches.now))) }
     ensures none { IfNone result ((admin : Option SocketAddr)
         → HasAdmin (rows_of (found_of matches.now)) admin → ⊥) }
@@ -425,15 +440,19 @@ fn lacks_port(matches: &ArgMatches<'_>) -> bool
     matches.get_str("backup-dir").is_some() && matches.get_str("admin-port").is_none()
 }
 
-// Returns the command of the subcommand `serve` with these addresses to listen on. Returns `None`
-// if another value is missing or invalid.
+// Returns the command of the subcommand `serve` without `--pool`, with these addresses to listen
+// on. Returns `None` if another value is missing or invalid.
 fn serve_on<'a>(matches: &ArgMatches<'a>, listen: Vec<SocketAddr>) -> Option<CommandArgs<'a>>
     ensures some { IfSome result (λ line.
-        HasListen (rows_of (found_of matches.now)) listen.items
+        asks_pool (rows_of (found_of matches.now)) ≡ false
+        → HasListen (rows_of (found_of matches.now)) listen.items
         → Asks (Some (codes "serve", rows_of (found_of matches.now))) line) }
-    ensures none { IfNone result (AsksNothing
-        (Some (codes "serve", rows_of (found_of matches.now)))) }
+    ensures none { IfNone result ((given : ServeArgs)
+        → HasServing (rows_of (found_of matches.now)) given → ⊥) }
 {
+    if pool_option_in(matches).is_some() {
+        return None;
+    }
     if lacks_port(matches) {
         return None;
     }
@@ -477,6 +496,9 @@ fn serve_line<'a>(
     ensures none { IfOk result (λ found. IfNone found (AsksNothing
         (Some (codes "serve", rows_of (found_of matches.now))))) }
 {
+    if is_given(matches, "pool") {
+        return pool_line(alloc, matches);
+    }
     let Some(listen) = listen_in(alloc, matches)? else {
         return Ok(None);
     };
@@ -584,7 +606,7 @@ fn purge_line<'a>(matches: &ArgMatches<'a>) -> Option<CommandArgs<'a>>
 }
 
 // Returns true if a flag is set.
-fn is_set(matches: &ArgMatches<'_>, name: &str) -> bool
+pub(crate) fn is_set(matches: &ArgMatches<'_>, name: &str) -> bool
     ensures { result ≡ is_set name.now (rows_of (found_of matches.now)) }
 {
     match matches.get_str(name) {
@@ -637,6 +659,7 @@ fn line_of<'a>(
     match name {
         "run" => Ok(run_line(matches)),
         "serve" => serve_line(alloc, matches),
+        "follow" => follow_line(alloc, matches),
         "self" => Ok(loopback_line(matches)),
         "cell" => Ok(cell_line(matches)),
         "explain" => Ok(explain_line(matches)),
@@ -665,8 +688,22 @@ fn line_in<'a>(
     }
 }
 
+// Returns the error message for a missing database, as `clap` writes it for a required option.
+fn no_database(alloc: Global) -> Result<String, AllocError> {
+    format!(in alloc;
+        "error: the following required arguments were not provided:\n  --db <FILE>\n\n\
+         Usage: {SERVE_USAGE}\n\nFor more information, try '--help'.\n"
+    )
+}
+
 // Returns the error message for arguments of `serve` that request no command.
 fn serve_refusal(alloc: Global, matches: &ArgMatches<'_>) -> Result<String, AllocError> {
+    if let Some(text) = pool_refusal(alloc, matches)? {
+        return Ok(text);
+    }
+    if !is_given(matches, "pool") && !is_given(matches, "db") {
+        return no_database(alloc);
+    }
     if let Some(words) = matches.get_strs("listen") {
         for word in words {
             if listen_of(word, Some(1)).is_none() {
@@ -695,6 +732,7 @@ fn serve_refusal(alloc: Global, matches: &ArgMatches<'_>) -> Result<String, Allo
 fn refusal(alloc: Global, matches: &ArgMatches<'_>) -> Result<String, AllocError> {
     match matches.subcommand() {
         Some(("serve", below)) => serve_refusal(alloc, below),
+        Some(("follow", below)) => follow_refusal(alloc, below),
         _ => String::from_str(alloc, NO_LINE),
     }
 }

@@ -11,8 +11,10 @@ ghost use Rattle.dss_args.specs.Grammar.{
   explain_app,
   file_rule,
   flag_rule,
+  follow_app,
   listen_rule,
   method_rule,
+  needed_rule,
   now_rule,
   number_rule,
   option_rule,
@@ -42,6 +44,10 @@ use crate::version::VERSION_TEXT;
 use clap::builder::ValueParser;
 use clap::{Arg, ArgAction, Command};
 use std::alloc::{AllocError, Global};
+
+/// The two ways to serve, as help and errors show them.
+pub(crate) const SERVE_USAGE: &str = "dss serve [OPTIONS] --tokens <FILE> --db <FILE>\n       \
+    dss serve [OPTIONS] --tokens <FILE> --pool <ENDPOINTS> --as <NAME>";
 
 // Returns a required option with a value.
 fn option<'a>(alloc: Global, name: &'a str) -> Arg<'a>
@@ -99,6 +105,16 @@ fn store_option<'a>(alloc: Global) -> Arg<'a>
     option(alloc, "db")
         .value_name("FILE")
         .help("Database file, created if missing")
+}
+
+// Returns the database option of the subcommand that serves, which an instance of a pool lacks.
+fn served_option<'a>(alloc: Global) -> Arg<'a>
+    ensures rule { rule_of result ≡ choice_rule (codes "db") }
+    ensures local { result.global ≡ false }
+{
+    choice(alloc, "db", "FILE").help(
+        "Database file, created if missing; required unless --pool is given",
+    )
 }
 
 // Returns the database option of a subcommand that creates none.
@@ -218,6 +234,92 @@ fn backups_option<'a>(alloc: Global) -> Arg<'a>
     choice(alloc, "backup-dir", "DIR").help(
         "Directory for the backups of POST /backup on the admin port; requires --admin-port \
          [default: no backups]",
+    )
+}
+
+// Returns the option for the addresses of etcd.
+fn pool_option<'a>(alloc: Global) -> Arg<'a>
+    ensures rule { rule_of result ≡ choice_rule (codes "pool") }
+    ensures local { result.global ≡ false }
+{
+    choice(alloc, "pool", "ENDPOINTS").help(
+        "Serve as an instance of a pool over etcd at these addresses, such as 127.0.0.1:2379, \
+         separated by commas; requires --as [default: no pool]",
+    )
+}
+
+// Returns the option for the name of an instance of a pool.
+fn name_option<'a>(alloc: Global) -> Arg<'a>
+    ensures rule { rule_of result ≡ choice_rule (codes "as") }
+    ensures local { result.global ≡ false }
+{
+    choice(alloc, "as", "NAME").help("Name of this instance in the pool; requires --pool")
+}
+
+// Returns the option for the user of etcd.
+fn user_option<'a>(alloc: Global) -> Arg<'a>
+    ensures rule { rule_of result ≡ choice_rule (codes "etcd-user") }
+    ensures local { result.global ≡ false }
+{
+    choice(alloc, "etcd-user", "FILE").help(
+        "File with NAME:PASSWORD of etcd's user; requires --pool [default: no user]",
+    )
+}
+
+// Returns the option for the directory of the pool's files.
+fn files_option<'a>(alloc: Global) -> Arg<'a>
+    ensures rule { rule_of result ≡ choice_rule (codes "files") }
+    ensures local { result.global ≡ false }
+{
+    choice(alloc, "files", "DIR").help(
+        "Start from the newest file that follow wrote to this directory; requires --pool \
+         [default: from the beginning of the log]",
+    )
+}
+
+// Returns a required option with a value that has a name.
+fn needed<'a>(alloc: Global, name: &'a str, value: &'a str) -> Arg<'a>
+    ensures rule { rule_of result ≡ needed_rule name.entry.now }
+    ensures local { result.global ≡ false }
+{
+    option(alloc, name).value_name(value)
+}
+
+// Returns the option for the addresses of etcd, of the subcommand that follows.
+fn followed_option<'a>(alloc: Global) -> Arg<'a>
+    ensures rule { rule_of result ≡ needed_rule (codes "pool") }
+    ensures local { result.global ≡ false }
+{
+    needed(alloc, "pool", "ENDPOINTS").help(
+        "Addresses of etcd, such as 127.0.0.1:2379, separated by commas",
+    )
+}
+
+// Returns the option for the name under which the subcommand that follows writes.
+fn follower_option<'a>(alloc: Global) -> Arg<'a>
+    ensures rule { rule_of result ≡ needed_rule (codes "as") }
+    ensures local { result.global ≡ false }
+{
+    needed(alloc, "as", "NAME").help("Name in the pool, which no instance has")
+}
+
+// Returns the option for the directory to which files are written.
+fn written_option<'a>(alloc: Global) -> Arg<'a>
+    ensures rule { rule_of result ≡ needed_rule (codes "files") }
+    ensures local { result.global ≡ false }
+{
+    needed(alloc, "files", "DIR").help(
+        "Directory of the files, which must exist; the two newest are kept",
+    )
+}
+
+// Returns the option for the user of etcd, of the subcommand that follows.
+fn own_user_option<'a>(alloc: Global) -> Arg<'a>
+    ensures rule { rule_of result ≡ choice_rule (codes "etcd-user") }
+    ensures local { result.global ≡ false }
+{
+    choice(alloc, "etcd-user", "FILE").help(
+        "File with NAME:PASSWORD of etcd's user [default: no user]",
     )
 }
 
@@ -441,8 +543,13 @@ fn serve_command<'a>(alloc: Global) -> Result<Command<'a>, AllocError>
 {
     Command::new(alloc, "serve")
         .about("Serve connections to a port of this machine, many at once")
+        .override_usage(SERVE_USAGE)
         .arg(tokens_option(alloc))?
-        .arg(store_option(alloc))?
+        .arg(served_option(alloc))?
+        .arg(pool_option(alloc))?
+        .arg(name_option(alloc))?
+        .arg(user_option(alloc))?
+        .arg(files_option(alloc))?
         .arg(port_option(alloc))?
         .arg(count_option(alloc))?
         .arg(clients_option(alloc))?
@@ -455,6 +562,22 @@ fn serve_command<'a>(alloc: Global) -> Result<Command<'a>, AllocError>
         .arg(log_option(alloc))?
         .arg(double_sync_flag(alloc))?
         .arg(explain_flag(alloc))?
+        .arg(verbose_flag(alloc))
+}
+
+fn follow_command<'a>(alloc: Global) -> Result<Command<'a>, AllocError>
+    ensures { IfOk result (HasGrammar follow_app) }
+{
+    Command::new(alloc, "follow")
+        .about(
+            "Write the airspace of a pool to a file from which an instance can start, and print \
+             the name of the file",
+        )
+        .arg(tokens_option(alloc))?
+        .arg(followed_option(alloc))?
+        .arg(follower_option(alloc))?
+        .arg(written_option(alloc))?
+        .arg(own_user_option(alloc))?
         .arg(verbose_flag(alloc))
 }
 
@@ -561,6 +684,7 @@ pub(crate) fn command<'a>(alloc: Global) -> Result<Command<'a>, AllocError>
         .subcommand_required(true)
         .subcommand(run_command(alloc)?)?
         .subcommand(serve_command(alloc)?)?
+        .subcommand(follow_command(alloc)?)?
         .subcommand(self_command(alloc)?)?
         .subcommand(cell_command(alloc)?)?
         .subcommand(explain_command(alloc)?)?

@@ -4,6 +4,10 @@
 
 pub mod command_args;
 pub mod fault;
+pub mod follow_args;
+mod follow_line;
 mod grammar;
+pub mod pool_args;
+mod pool_line;
 pub mod serve_args;
 pub mod version;

@@ -1,3 +1,4 @@
 mod Counting
 mod Chunks
 mod Explaining
+mod PoolStarts

@@ -11,6 +11,7 @@ use Rattle.space_sql_open.specs.OpenFault as opening
 use Rattle.token_conf.specs.ConfFault as conf
 use Rattle.wire_http.specs.Fault as streams
 use Rattle.dss_command.specs.BackupFault as copies
+use Rattle.dss_command.specs.PoolFault as pools
 use Rattle.dss_command.specs.declared.fault.Fault.{Fault}
 use Rattle.dss_command.specs.declared.fault.Fault.TheVariants as fault
 use Rattle.dss_report.specs.declared.fault.CellFault.{CellFault}
@@ -60,6 +61,7 @@ line_of fault.Clock = codes "dss: clock"
 line_of fault.RequestTooLong = codes "dss: self: request too long"
 line_of fault.AnswerTooLong = codes "dss: self: answer too long"
 line_of fault.Socket = codes "dss: socket"
+line_of (fault.Pool why) = codes "dss: pool: " ++ pools.text_of why
 line_of (fault.Stream why) =
     codes "dss: stream: fault " ++ numbered (streams.number_of why) (streams.name_of why)
 line_of (fault.Token why) =

@@ -5,6 +5,8 @@ pub mod Fault
 pub mod Limits
 pub mod Line
 pub mod LogLine
+pub mod Pool
+pub mod PoolFault
 pub mod Print
 pub mod PurgeCounts
 pub mod Purging

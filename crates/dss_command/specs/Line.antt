@@ -14,9 +14,11 @@ use Rattle.dss_args.specs.declared.command_args.CommandArgs.TheVariants.{
   Cell,
   CheckTokens,
   Explain,
+  Follow,
   Loopback,
   NewSalt,
   NewToken,
+  Pool,
   Report,
   Run,
   Serve,
@@ -47,14 +49,18 @@ WritesCell token before after = (line : List ℕ) × IsLineOfToken token line ×
 
 module _ (does : Doing) where
   -- Holds if the requested command ran with its values. `serve` writes to the second writer,
-  -- `backup` to none, and every other command to the first. If `tokens --new-token` fails, it may
-  -- write the reason to the second one.
+  -- `backup` to none, `follow` to both, and every other command to the first. If `tokens --new-token`
+  -- fails, it may write the reason to the second one.
   abbrev pub Does : CommandArgs → (remaining output output' error error' : Option (List ℕ))
       → Result (Unit {0}) Fault → Type 0
   Does (Run tokens now database requests) remaining output output' error error' done =
       does (Run tokens now database requests) remaining output output' done × (error' ≡ error)
   Does (Serve given) remaining output output' error error' done =
       does (Serve given) None error error' done × (output' ≡ output)
+  Does (Pool given) remaining output output' error error' done =
+      does (Pool given) None error error' done × (output' ≡ output)
+  Does (Follow given) remaining output output' error error' done =
+      does (Follow given) None output output' done
   Does (Loopback tokens now request) remaining output output' error error' done =
       does (Loopback tokens now request) remaining output output' done × (error' ≡ error)
   Does (Cell token) remaining output output' error error' done =

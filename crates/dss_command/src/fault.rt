@@ -5,6 +5,7 @@ ghost use Rattle.std.specs.IoError.{error_kind};
 ghost use Rattle.dss_command.specs.Fault.{line_of, status_of, told_by};
 
 use crate::backup_fault::BackupFault;
+use crate::pool_fault::PoolFault;
 use dss_report::fault::{CellFault, ReportFault};
 use grid_core::token::TokenFault;
 use policy_core::rule::Rule;
@@ -41,6 +42,8 @@ pub enum Fault {
     AnswerTooLong,
     /// A socket failed outside a stream of requests.
     Socket,
+    /// The instance of a pool does not start, or has ended.
+    Pool(PoolFault),
     /// The stream of requests was aborted.
     Stream(StreamFault),
     /// The token is the token of no cell.
@@ -86,6 +89,10 @@ impl fmt::Display for Fault {
             Fault::RequestTooLong => write!(f, "dss: self: request too long"),
             Fault::AnswerTooLong => write!(f, "dss: self: answer too long"),
             Fault::Socket => write!(f, "dss: socket"),
+            Fault::Pool(fault) => {
+                let text = fault.text();
+                write!(f, "dss: pool: {text}")
+            }
             Fault::Stream(fault) => {
                 let number = fault.number();
                 let name = fault.name();

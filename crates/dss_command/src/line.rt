@@ -11,6 +11,8 @@ use crate::fault::{Fault, print_fault, status};
 use crate::print::cell;
 use dss_args::command_args::{CommandArgs, parse};
 use dss_args::fault::LineFault;
+use dss_args::follow_args::FollowArgs;
+use dss_args::pool_args::PoolArgs;
 use dss_args::serve_args::ServeArgs;
 use std::alloc::Global;
 use std::io::{Read, Write};
@@ -48,6 +50,22 @@ pub trait Commands {
         ensures { does (CommandArgs.Serve given.entry) None (E.contents error.old)
             (E.contents error.new)
             result };
+
+    /// Runs the command `serve` as an instance of a pool.
+    fn serve_pool<E: Write>(self, given: PoolArgs<'_>, error: &mut E) -> Result<(), Fault>
+        ensures { does (CommandArgs.Pool given.entry) None (E.contents error.old)
+            (E.contents error.new)
+            result };
+
+    /// Runs the command `follow`.
+    fn follow<W: Write, E: Write>(
+        self,
+        given: FollowArgs<'_>,
+        output: &mut W,
+        error: &mut E,
+    ) -> Result<(), Fault>
+        ensures { does (CommandArgs.Follow given.entry) None
+            (W.contents output.old) (W.contents output.new) result };
 
     /// Runs the command `self`.
     fn loop_back<R: Read, W: Write>(
@@ -173,6 +191,8 @@ fn perform<C: Commands + Drop, R: Read, O: Write, E: Write>(
             requests,
         } => commands.run(tokens, now, database, requests, input, output),
         CommandArgs::Serve(given) => commands.serve(given, error),
+        CommandArgs::Pool(given) => commands.serve_pool(given, error),
+        CommandArgs::Follow(given) => commands.follow(given, output, error),
         CommandArgs::Loopback {
             tokens,
             now,

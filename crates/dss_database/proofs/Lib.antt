@@ -2,3 +2,4 @@ mod Reporting
 mod Serving
 mod Mirrors
 mod Purging
+mod PoolFiles

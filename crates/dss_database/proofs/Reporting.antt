@@ -69,8 +69,8 @@ module _ {D : Type 0} {g : disk.Ghosts D} (k : SqlSpaceModel (FileStore D g)) wh
   left_anyway R Q (Err why) (Err failure) ends each = inr (each failure.left ends.1)
 
 -- A property of a fault that is passed on.
-pub passed_on : {D : Type 0} {g : disk.Ghosts D} (P : Failure D g → Type 0) (result : Result (Files D) (Failure D g)) (e : Failure D g) → IsErrAnd result (λ y. y ≡ e) → P e → IfErr result P
-passed_on P (Ok files) e is p = tt
+pub passed_on : {X D : Type 0} {g : disk.Ghosts D} (P : Failure D g → Type 0) (result : Result X (Failure D g)) (e : Failure D g) → IsErrAnd result (λ y. y ≡ e) → P e → IfErr result P
+passed_on P (Ok x) e is p = tt
 passed_on P (Err y) e is p = subst P (sym is) p
 
 -- States that the properties of a space over files carry over from its store to the space.
@@ -104,7 +104,7 @@ line_told upgraded OldTwo tells = ap (λ (b : Bool). if b then codes "format 2, 
 
 module _ {D : Type 0} {g : disk.Ghosts D} (space : spaces.Ghosts (SqlSpaceModel (FileStore D g))) (image : Image) (before after : Option (List ℕ)) where
   -- Closed files represent the only airspace that the space may hold.
-  kept_after : IsOver space → (new : SqlSpaceModel (FileStore D g)) (files : Files D) → ClosesFiles new files
+  pub kept_after : IsOver space → (new : SqlSpaceModel (FileStore D g)) (files : Files D) → ClosesFiles new files
       → (space.is_sound new → (a : Airspace) → StandFor image a → space.is_whole new × ((b : Airspace) → space.holds new b → b ≡ a))
       → KeepsAirspace g image files
   kept_after over new files closes known clean a stands left have =

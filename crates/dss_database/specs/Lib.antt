@@ -1,3 +1,4 @@
 pub mod Files
 pub mod Served
 pub mod Copies
+pub mod PoolFiles

@@ -17,8 +17,9 @@ ghost use Rattle.dss_command.specs.Purging.{PurgesSpace};
 
 use crate::failure::Failure;
 use crate::with_mirror::with_mirror;
-use dss_command::clients::{Listen, ServeConfig, serve_port};
+use dss_command::clients::{ServeConfig, serve_port};
 use dss_command::fault::Fault;
+use dss_command::ports::Listen;
 use dss_command::print;
 use dss_command::print::{put_format, put_purged};
 use dss_command::purge::purge_space;

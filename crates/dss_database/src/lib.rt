@@ -5,4 +5,5 @@ pub mod copies;
 pub mod failure;
 pub mod files;
 pub mod laws;
+pub mod pool_files;
 mod with_mirror;

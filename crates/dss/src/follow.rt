@@ -1,0 +1,156 @@
+//! The command `follow`: makes the calls of a pool's log over a copy of the newest file, which
+//! becomes the next file.
+use crate::cause::Cause;
+use crate::etcd_io::EtcdIo;
+use crate::etcd_waiting::EtcdWaiting;
+use crate::pool_files::{FileName, PoolFiles};
+use crate::pool_log::{LogArgs, new_poll, open_log, own_settings, with_loss};
+use crate::serving::served_tokens;
+use dss_args::follow_args::FollowArgs;
+use dss_command::fault::{Fault, io_fault};
+use dss_command::pool_fault::PoolFault;
+use dss_command::tokens::salt_of;
+use dss_database::pool_files::follow as follow_log;
+use entity_core::salt::Salt;
+use pool_etcd::etcd_log::EtcdLog;
+use sqlite::Start;
+use std::fs::File;
+use std::io;
+use std::io::Write;
+
+// A file is written after so many changes of the log, even if no entry is among them. So etcd can
+// drop the fences of processes that found nothing to do.
+const IDLE_CHANGES: u64 = 1_000;
+
+// Locks the directory, and removes what a process left that was stopped. Returns the file that has
+// the lock, and the name of the newest file.
+fn take_folder(files: PoolFiles<'_>) -> io::Result<Option<(File, Option<FileName>)>> {
+    let Some(lock) = files.lock()? else {
+        return Ok(None);
+    };
+    files.clear()?;
+    let newest = files.newest()?;
+    Ok(Some((lock, newest)))
+}
+
+// Makes the calls of the log over the next database, and closes it. Returns the revision of the
+// last change, and the number of entries that came.
+fn make_calls<F: Start>(
+    rt: &HostRuntime,
+    path: &str,
+    start: F,
+    salt: Salt,
+    log: EtcdLog,
+    cause: &mut Cause,
+) -> Result<(u64, u64), Fault> {
+    let (poll, registry) = new_poll(rt)?;
+    let mut waiting = match EtcdWaiting::new(rt, poll) {
+        Ok(waiting) => waiting,
+        Err(error) => return Err(io_fault(&error, Fault::Socket)),
+    };
+    let mut io = EtcdIo::new(rt, registry);
+    let (done, log) = follow_log(rt, path, start, salt, log, &mut io, &mut waiting);
+    match done {
+        Ok(_files) => Ok(log.position()),
+        Err(failure) => {
+            // Drops the files first, as the command `serve` does.
+            let fault = Fault::from(failure);
+            cause.record_database(rt, path, &fault);
+            Err(with_loss(fault, log.loss()))
+        }
+    }
+}
+
+// Follows the log behind the newest file. Returns the revision and the count, as `make_calls`.
+fn follow_behind<F: Start>(
+    rt: &HostRuntime,
+    files: PoolFiles<'_>,
+    newest: Option<FileName>,
+    start: F,
+    salt: Salt,
+    log: EtcdLog,
+    cause: &mut Cause,
+) -> Result<(u64, u64), Fault> {
+    if let Some(newest) = newest {
+        files.copy(newest)?;
+    }
+    let Ok(path) = files.next() else {
+        return Err(Fault::Memory);
+    };
+    make_calls(rt, path.as_str(), start, salt, log, cause)
+}
+
+// Gives the next database its name if entries came, or many changes, or there was no file. Returns
+// the name of the newest file.
+fn put_next(
+    files: PoolFiles<'_>,
+    newest: Option<FileName>,
+    made: FileName,
+    count: u64,
+) -> io::Result<FileName> {
+    if let Some(newest) = newest
+        && count == 0
+        && made.revision.saturating_sub(newest.revision) < IDLE_CHANGES
+    {
+        files.clear()?;
+        return Ok(newest);
+    }
+    files.put(made)?;
+    files.keep_two()?;
+    Ok(made)
+}
+
+// Prints the name of a file on a line.
+fn print_name<W: Write>(rt: &HostRuntime, name: FileName, output: &mut W) -> Result<(), Fault> {
+    let Ok(text) = name.text(rt.alloc()) else {
+        return Err(Fault::Memory);
+    };
+    match writeln!(output, "{text}") {
+        Ok(()) => Ok(()),
+        Err(_) => Err(Fault::Output),
+    }
+}
+
+/// Runs the command. After a fault, the files are those of before.
+pub(crate) fn follow<F: Start, W: Write, E: Write>(
+    rt: &HostRuntime,
+    given: FollowArgs<'_>,
+    start: F,
+    cause: &mut Cause,
+    output: &mut W,
+    error: &mut E,
+) -> Result<(), Fault> {
+    if given.verbose {
+        cause.request();
+    }
+    let (_, tokens) = served_tokens(rt, given.tokens, given.verbose, cause, error)?;
+    let salt = salt_of(&tokens)?;
+    let settings = own_settings(rt, &tokens)?;
+    let files = PoolFiles::new(rt, given.files);
+    let (lock, newest) = match take_folder(files) {
+        Ok(Some(taken)) => taken,
+        Ok(None) => return Err(Fault::Pool(PoolFault::FilesBusy)),
+        Err(error) => return Err(files.fault(&error, cause)),
+    };
+    let log_args = LogArgs {
+        endpoints: given.endpoints,
+        name: given.name,
+        etcd_user: given.etcd_user,
+        file: newest,
+        agreed: settings,
+    };
+    let log = open_log(rt, log_args, cause)?;
+    let (revision, count) = match follow_behind(rt, files, newest, start, salt, log, cause) {
+        Ok(position) => position,
+        Err(fault) => {
+            let _ = files.clear();
+            return Err(fault);
+        }
+    };
+    let name = match put_next(files, newest, FileName { revision, settings }, count) {
+        Ok(name) => name,
+        Err(error) => return Err(files.fault(&error, cause)),
+    };
+    drop(lock);
+    print_name(rt, name, output)
+}

@@ -1,0 +1,131 @@
+//! The command `serve --pool`: an instance of a pool whose log is in etcd.
+use crate::cause::Cause;
+use crate::clock::SystemClock;
+use crate::etcd_io::EtcdIo;
+use crate::pool_files::{FileName, PoolFiles};
+use crate::pool_log::{LogArgs, new_poll, open_log, own_settings, with_loss};
+use crate::serving::{Ports, admin_listener, clients_of, explaining, log_of, served_tokens};
+use crate::tokens::TokenFile;
+use dss_args::pool_args::PoolArgs;
+use dss_command::fault::Fault;
+use dss_command::limits::print_limits;
+use dss_command::pool::{PoolConfig, new_instance, serve_pool_port};
+use dss_command::pool_fault::PoolFault;
+use dss_database::pool_files::load;
+use pool_server::limits::PoolLimits;
+use server_watch::token_watch::TokenWatch;
+use space_memory::memory::MemorySpace;
+use sqlite::Start;
+use std::io::Write;
+
+// Returns the newest file of the directory of that name, if one is given. It must have a file.
+fn newest_file<'a>(
+    rt: &'a HostRuntime,
+    folder: Option<&'a str>,
+    cause: &mut Cause,
+) -> Result<Option<(PoolFiles<'a>, FileName)>, Fault> {
+    let Some(folder) = folder else {
+        return Ok(None);
+    };
+    let files = PoolFiles::new(rt, folder);
+    match files.newest() {
+        Ok(Some(name)) => Ok(Some((files, name))),
+        Ok(None) => Err(Fault::Pool(PoolFault::NoFile)),
+        Err(error) => Err(files.fault(&error, cause)),
+    }
+}
+
+// Loads the airspace of that file. It is empty if there is no file.
+fn airspace_of<F: Start>(
+    rt: &HostRuntime,
+    file: Option<(PoolFiles<'_>, FileName)>,
+    start: F,
+    cause: &mut Cause,
+) -> Result<MemorySpace, Fault> {
+    let Some((files, name)) = file else {
+        return Ok(MemorySpace::new(rt.alloc()));
+    };
+    let Ok(path) = files.path_of(name) else {
+        return Err(Fault::Memory);
+    };
+    let turn = match files.wait_for_turn() {
+        Ok(turn) => turn,
+        Err(error) => return Err(files.fault(&error, cause)),
+    };
+    match load(rt, path.as_str(), start) {
+        Ok((space, loaded)) => {
+            drop(loaded);
+            drop(turn);
+            Ok(space)
+        }
+        Err(failure) => {
+            // Drops the files first, as the command `serve` does.
+            let fault = Fault::from(failure);
+            cause.record_database(rt, path.as_str(), &fault);
+            Err(fault)
+        }
+    }
+}
+
+/// Runs the command, until the instance ends or an operator stops it.
+pub(crate) fn serve<F: Start, E: Write>(
+    rt: &HostRuntime,
+    given: PoolArgs<'_>,
+    start: F,
+    cause: &mut Cause,
+    error: &mut E,
+) -> Result<(), Fault> {
+    if given.verbose {
+        cause.request();
+    }
+    let (text, tokens) = served_tokens(rt, given.tokens, given.verbose, cause, error)?;
+    if given.verbose {
+        let _ = print_limits(given.max_connections, None, None, error);
+    }
+    let file = newest_file(rt, given.files, cause)?;
+    let log_args = LogArgs {
+        endpoints: given.endpoints,
+        name: given.name,
+        etcd_user: given.etcd_user,
+        file: match file {
+            Some((_, name)) => Some(name),
+            None => None,
+        },
+        agreed: own_settings(rt, &tokens)?,
+    };
+    let log = open_log(rt, log_args, cause)?;
+    let access_log = log_of(rt, given.access_log, cause)?;
+    let (poll, registry) = new_poll(rt)?;
+    let space = airspace_of(rt, file, start, cause)?;
+    let mut instance = new_instance(rt.alloc(), log, space, &tokens)?;
+    let config = PoolConfig {
+        tokens: &tokens,
+        addresses: given.listen.as_slice(),
+        limits: PoolLimits::usual(clients_of(rt, given.max_connections)),
+        explaining: explaining(given.explain),
+        operated: admin_listener(rt, given.admin_port),
+        verbose: given.verbose,
+    };
+    let ports = Ports {
+        rt,
+        poll: Some(poll),
+        log: access_log,
+        backups: None,
+        database: None,
+        cause,
+    };
+    let served = serve_pool_port(
+        rt.alloc(),
+        &mut instance,
+        config,
+        TokenWatch::new(TokenFile::named(rt, given.tokens), text),
+        &mut SystemClock::new(rt),
+        ports,
+        &mut EtcdIo::new(rt, registry),
+        error,
+    );
+    match served {
+        Ok(()) => Ok(()),
+        Err(fault) => Err(with_loss(fault, instance.log().loss())),
+    }
+}

@@ -1,0 +1,236 @@
+//! The directory of a pool's files. Each file is a database that has the calls of the log up to a
+//! revision of etcd. Its name has this revision and the number of the pool's settings, in 20 digits
+//! each. So a rename gives a database its place in the log.
+use crate::backup::copy_file;
+use crate::cause::Cause;
+use dss_command::fault::{Fault, io_fault};
+use dss_command::pool_fault::PoolFault;
+use std::alloc::{AllocError, Global};
+use std::fs::{File, OpenOptions, TryLockError};
+use std::io::ErrorKind;
+use std::{fs, io};
+
+// The name of the database that is not complete yet.
+const NEXT: &str = "next.db";
+
+// The name of the file that is locked while another one is written.
+const LOCK: &str = "lock";
+
+// The name of the file that is locked while another one is loaded.
+const TURN: &str = "turn";
+
+// The suffixes of what can lie beside a database: its log, and what a stopped copy left.
+const BESIDE: [&str; 3] = ["-wal", "-journal", ".begun"];
+
+// The number of digits of a number in a name.
+const DIGITS: usize = 20;
+
+// Returns the number that a text of 20 digits is.
+fn number_of(text: &str) -> Option<u64> {
+    if text.len() != DIGITS || !text.as_bytes().iter().all(|b| b.is_ascii_digit()) {
+        return None;
+    }
+    match text.parse::<u64>() {
+        Ok(number) => Some(number),
+        Err(_) => None,
+    }
+}
+
+/// The name of a file.
+#[derive(Clone, Copy, Debug, PartialEq, Eq)]
+pub(crate) struct FileName {
+    /// The revision of the last change whose calls the file has.
+    pub(crate) revision: u64,
+    /// The number of the pool's settings.
+    pub(crate) settings: u64,
+}
+
+impl FileName {
+    // Parses a name. Returns `None` if it is no name of a file of a pool.
+    fn parse(text: &str) -> Option<FileName> {
+        let (revision, settings) = text.strip_suffix(".db")?.split_once('-')?;
+        Some(FileName {
+            revision: number_of(revision)?,
+            settings: number_of(settings)?,
+        })
+    }
+
+    /// Returns the name as a text.
+    pub(crate) fn text(self, alloc: Global) -> Result<String, AllocError> {
+        let FileName { revision, settings } = self;
+        format!(in alloc; "{revision:020}-{settings:020}.db")
+    }
+}
+
+// Returns the name with the greatest revision.
+fn newest_of(names: &[FileName]) -> Option<FileName> {
+    let mut newest: Option<FileName> = None;
+    for name in names {
+        newest = match newest {
+            Some(found) if found.revision >= name.revision => Some(found),
+            _ => Some(*name),
+        };
+    }
+    newest
+}
+
+// Returns the least revision of the two newest files, or 0 if there are fewer.
+fn kept_from(names: &[FileName]) -> u64 {
+    let (mut first, mut second) = (0, 0);
+    for name in names {
+        if name.revision > first {
+            second = first;
+            first = name.revision;
+        } else if name.revision > second {
+            second = name.revision;
+        }
+    }
+    second
+}
+
+// Removes a file, if it exists.
+fn remove(rt: &HostRuntime, path: &str) -> io::Result<()> {
+    match fs::remove_file(rt, path) {
+        Err(cause) if cause.kind() == ErrorKind::NotFound => Ok(()),
+        done => done,
+    }
+}
+
+/// The directory of a pool's files.
+#[derive(Clone, Copy)]
+pub(crate) struct PoolFiles<'a> {
+    rt: &'a HostRuntime,
+    folder: &'a str,
+}
+
+impl<'a> PoolFiles<'a> {
+    /// Creates the view of the directory of that name. Opens nothing.
+    pub(crate) fn new(rt: &'a HostRuntime, folder: &'a str) -> PoolFiles<'a> {
+        PoolFiles { rt, folder }
+    }
+
+    // Returns the path of a file of the directory.
+    fn path(&self, name: &str) -> Result<String, AllocError> {
+        let folder = self.folder;
+        format!(in self.rt.alloc(); "{folder}/{name}")
+    }
+
+    /// Returns the path of the file of that name.
+    pub(crate) fn path_of(&self, name: FileName) -> Result<String, AllocError> {
+        let text = name.text(self.rt.alloc())?;
+        self.path(text.as_str())
+    }
+
+    /// Returns the path of the database that is not complete yet.
+    pub(crate) fn next(&self) -> Result<String, AllocError> {
+        self.path(NEXT)
+    }
+
+    /// Returns the fault of a failed call of the system, and records its cause.
+    pub(crate) fn fault(&self, error: &io::Error, cause: &mut Cause) -> Fault {
+        cause.record_file(self.folder, error);
+        io_fault(error, Fault::Pool(PoolFault::Files))
+    }
+
+    /// Locks the directory for a process that writes to it, until the file is dropped. Returns
+    /// `None` if another process has locked it.
+    pub(crate) fn lock(&self) -> io::Result<Option<File>> {
+        let path = self.path(LOCK)?;
+        let file = OpenOptions::new()
+            .write(true)
+            .create(true)
+            .open(self.rt, path.as_str())?;
+        match file.try_lock() {
+            Ok(()) => Ok(Some(file)),
+            Err(TryLockError::WouldBlock) => Ok(None),
+            Err(TryLockError::Error(error)) => Err(error),
+        }
+    }
+
+    /// Waits until no other process loads a file, since only one can have a database open. Then
+    /// this process has its turn until the file is dropped.
+    pub(crate) fn wait_for_turn(&self) -> io::Result<File> {
+        let path = self.path(TURN)?;
+        let file = OpenOptions::new()
+            .write(true)
+            .create(true)
+            .open(self.rt, path.as_str())?;
+        file.lock()?;
+        Ok(file)
+    }
+
+    // Returns the names of the files.
+    fn names(&self) -> io::Result<Vec<FileName>> {
+        let mut names = Vec::new(self.rt.alloc());
+        for entry in fs::read_dir(self.rt, self.folder)? {
+            let entry = entry?;
+            if let Some(name) = FileName::parse(entry.file_name()) {
+                names.push(name)?;
+            }
+        }
+        Ok(names)
+    }
+
+    /// Returns the name of the newest file, if there is one.
+    pub(crate) fn newest(&self) -> io::Result<Option<FileName>> {
+        let names = self.names()?;
+        Ok(newest_of(names.as_slice()))
+    }
+
+    // Removes a database, after what lies beside it.
+    fn remove_database(&self, path: &str) -> io::Result<()> {
+        self.remove_beside(path)?;
+        remove(self.rt, path)
+    }
+
+    // Removes what lies beside a database that is closed, or of that name.
+    fn remove_beside(&self, path: &str) -> io::Result<()> {
+        for end in BESIDE {
+            let beside = format!(in self.rt.alloc(); "{path}{end}")?;
+            remove(self.rt, beside.as_str())?;
+        }
+        Ok(())
+    }
+
+    /// Removes the database that is not complete, if there is one.
+    pub(crate) fn clear(&self) -> io::Result<()> {
+        let next = self.next()?;
+        self.remove_database(next.as_str())
+    }
+
+    /// Makes a copy of the file of that name, which is not complete yet.
+    pub(crate) fn copy(&self, name: FileName) -> Result<(), Fault> {
+        let (Ok(from), Ok(to)) = (self.path_of(name), self.next()) else {
+            return Err(Fault::Memory);
+        };
+        match copy_file(self.rt, from.as_str(), to.as_str()) {
+            Err(Fault::Copy(_)) => Err(Fault::Pool(PoolFault::Files)),
+            done => done,
+        }
+    }
+
+    /// Gives the complete database that name, after the system has stored it. The database is
+    /// closed, so that its log has nothing.
+    pub(crate) fn put(&self, name: FileName) -> io::Result<()> {
+        let (next, path) = (self.next()?, self.path_of(name)?);
+        let folder = File::open(self.rt, self.folder)?;
+        File::open(self.rt, next.as_str())?.sync_all()?;
+        self.remove_beside(next.as_str())?;
+        self.remove_beside(path.as_str())?;
+        fs::rename(self.rt, next.as_str(), path.as_str())?;
+        folder.sync_all()
+    }
+
+    /// Removes all files except the two newest.
+    pub(crate) fn keep_two(&self) -> io::Result<()> {
+        let names = self.names()?;
+        let least = kept_from(names.as_slice());
+        for name in &names {
+            if name.revision < least {
+                let path = self.path_of(*name)?;
+                self.remove_database(path.as_str())?;
+            }
+        }
+        Ok(())
+    }
+}

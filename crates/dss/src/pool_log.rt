@@ -1,0 +1,129 @@
+//! The log of a pool, as the commands `serve --pool` and `follow` open it.
+use crate::cause::Cause;
+use crate::etcd_user::read_user;
+use crate::pool_files::FileName;
+use crate::sockets::{LOG_REQUESTS, LOG_WATCH};
+use dss_command::fault::{Fault, io_fault};
+use dss_command::pool_fault::PoolFault;
+use mio::{Poll, Registry};
+use pool_etcd::etcd_fault::Loss;
+use pool_etcd::etcd_log::EtcdLog;
+use pool_etcd::settings::{EtcdSettings, POLICY, User, settings_number};
+use std::alloc::AllocError;
+use std::io;
+use std::net::SocketAddr;
+use std::random::RandomSource;
+use token_conf::token_table::TokenTable;
+
+// Returns the fault of a lost log.
+fn fault_of(loss: Loss) -> Fault {
+    Fault::Pool(match loss {
+        Loss::Replaced => PoolFault::Replaced,
+        Loss::Compacted(_) => PoolFault::Compacted,
+        Loss::Deleted => PoolFault::Deleted,
+        Loss::Shortened => PoolFault::Shortened,
+        Loss::Settings => PoolFault::Settings,
+    })
+}
+
+/// Returns the fault of a command whose log is lost if this is why it ended, or otherwise its own
+/// fault.
+pub(crate) fn with_loss(fault: Fault, loss: Option<Loss>) -> Fault {
+    match (fault, loss) {
+        (Fault::Pool(PoolFault::Ended), Some(loss)) => fault_of(loss),
+        (fault, _) => fault,
+    }
+}
+
+// Returns the number of this process: 64 random bits of the system.
+fn process_number(rt: &HostRuntime) -> Result<u64, Fault> {
+    let mut bytes = [0; 8];
+    match rt.fill_bytes(&mut bytes) {
+        Ok(()) => Ok(u64::from_be_bytes(bytes)),
+        Err(cause) => Err(io_fault(&cause, Fault::Pool(PoolFault::NoRandom))),
+    }
+}
+
+/// Returns the number of the settings with which this release makes calls with the salt of a token
+/// file.
+pub(crate) fn own_settings(rt: &HostRuntime, tokens: &TokenTable) -> Result<u64, Fault> {
+    match settings_number(rt.alloc(), POLICY, tokens.salt().text()) {
+        Ok(number) => Ok(number),
+        Err(_) => Err(Fault::Memory),
+    }
+}
+
+/// The arguments of a command that opens the log of a pool.
+#[derive(Drop)]
+pub(crate) struct LogArgs<'a> {
+    /// The addresses of etcd.
+    pub(crate) endpoints: Vec<SocketAddr>,
+    /// The name under which the process writes.
+    pub(crate) name: &'a str,
+    /// The name of the file of etcd's user, if there is one.
+    pub(crate) etcd_user: Option<&'a str>,
+    /// The file behind whose revision the log begins, if there is one.
+    pub(crate) file: Option<FileName>,
+    /// The number of the own settings.
+    pub(crate) agreed: u64,
+}
+
+// Creates a log that has received nothing.
+fn new_log(
+    rt: &HostRuntime,
+    given: LogArgs<'_>,
+    user: Option<User>,
+    number: u64,
+) -> Result<EtcdLog, AllocError> {
+    let (revision, pool) = match given.file {
+        Some(file) => (file.revision, Some(file.settings)),
+        None => (0, None),
+    };
+    let settings = EtcdSettings {
+        endpoints: given.endpoints,
+        user,
+        name: String::from_str(rt.alloc(), given.name)?,
+        number,
+        revision,
+        count: 0,
+        agreed: given.agreed,
+        pool,
+    };
+    EtcdLog::new(rt.alloc(), settings, LOG_REQUESTS, LOG_WATCH)
+}
+
+/// Creates the log of a process, which has received nothing. Returns a fault if the file is of a
+/// pool with other settings.
+pub(crate) fn open_log(
+    rt: &HostRuntime,
+    given: LogArgs<'_>,
+    cause: &mut Cause,
+) -> Result<EtcdLog, Fault> {
+    let user = match given.etcd_user {
+        Some(file) => Some(read_user(rt, file, cause)?),
+        None => None,
+    };
+    let number = process_number(rt)?;
+    let Ok(log) = new_log(rt, given, user, number) else {
+        return Err(Fault::Memory);
+    };
+    match log.loss() {
+        Some(loss) => Err(fault_of(loss)),
+        None => Ok(log),
+    }
+}
+
+// Creates what watches sockets, and the registry for the connections to etcd.
+fn poll_and_registry(rt: &HostRuntime) -> io::Result<(Poll, Registry)> {
+    let poll = Poll::new(rt)?;
+    let registry = poll.registry().try_clone()?;
+    Ok((poll, registry))
+}
+
+/// Creates what watches sockets, and the registry for the connections to etcd.
+pub(crate) fn new_poll(rt: &HostRuntime) -> Result<(Poll, Registry), Fault> {
+    match poll_and_registry(rt) {
+        Ok(made) => Ok(made),
+        Err(cause) => Err(io_fault(&cause, Fault::Socket)),
+    }
+}

@@ -1,0 +1,25 @@
+-- The texts of faults of an instance of a pool.
+use Rattle.std.specs.Prelude.{ℕ, List, codes}
+use Rattle.dss_command.specs.declared.pool_fault.PoolFault.{PoolFault}
+use Rattle.dss_command.specs.declared.pool_fault.PoolFault.TheVariants.{Compacted, Deleted, Ended, Files, FilesBusy, NoFile, NoRandom, Replaced, Settings, Shortened, Silent, UserInvalid, UserUnread}
+
+-- What is wrong and what to do, as it is printed.
+abbrev pub text_of : PoolFault → List ℕ
+text_of UserUnread = codes "etcd user: cannot read its file"
+text_of UserInvalid = codes "etcd user: its file is not one line NAME:PASSWORD"
+text_of NoRandom = codes "random: the system gives no random bytes"
+text_of Replaced = codes "replaced: another process writes under this name; stop one of them"
+text_of Compacted =
+    codes
+    "compacted: etcd no longer has the entries behind the start; use --files with a newer file"
+text_of Deleted = codes "deleted: a key of the log was deleted; restore etcd"
+text_of Shortened = codes "shortened: etcd lost entries of the log; restore etcd"
+text_of Settings =
+    codes "settings: the pool has another salt or policy; use its salt and its version"
+text_of Silent = codes "etcd does not answer; check --pool and that a majority of its members runs"
+text_of Files =
+    codes
+    "files: cannot read or write the directory; check that it exists, its permissions and its disk"
+text_of NoFile = codes "files: the directory has no file of a pool; run dss follow first"
+text_of FilesBusy = codes "files: another dss follow uses the directory; wait until it ends"
+text_of Ended = codes "ended: an entry needs more memory; free memory, and start again"

@@ -1,0 +1,72 @@
+//! The reasons why an instance of a pool does not start, or has ended.
+ghost use Rattle.std.specs.Prelude.{◌≡◌};
+
+/// The reason why an instance of a pool does not start, or has ended.
+#[derive(Clone, Copy, Debug, PartialEq, Eq)]
+pub enum PoolFault {
+    /// The file of the user of etcd does not open, fails to read or is not UTF-8.
+    UserUnread,
+    /// The file of the user of etcd is not one line with a name and a password.
+    UserInvalid,
+    /// The system gives no random bytes.
+    NoRandom,
+    /// Another process writes under the name of the instance.
+    Replaced,
+    /// Entries of the log were removed before they were received.
+    Compacted,
+    /// A key of the log was deleted.
+    Deleted,
+    /// The log ends before an entry that was received.
+    Shortened,
+    /// The instances of the pool have other settings, or its files are of such a pool.
+    Settings,
+    /// No member of etcd has said anything of the log for too long.
+    Silent,
+    /// The directory of the pool's files, or a file in it, cannot be read or written.
+    Files,
+    /// The directory of the pool's files has none.
+    NoFile,
+    /// Another process writes to the directory of the pool's files.
+    FilesBusy,
+    /// The instance cannot go on. Usually memory ran out in an entry.
+    Ended,
+}
+
+impl PoolFault {
+    ghost use Rattle.dss_command.specs.PoolFault.{text_of};
+
+    /// Returns what is wrong and what to do, as it is printed.
+    pub fn text(self) -> &'static str
+        ensures { result.now ≡ text_of self }
+    {
+        match self {
+            PoolFault::UserUnread => "etcd user: cannot read its file",
+            PoolFault::UserInvalid => "etcd user: its file is not one line NAME:PASSWORD",
+            PoolFault::NoRandom => "random: the system gives no random bytes",
+            PoolFault::Replaced => {
+                "replaced: another process writes under this name; stop one of them"
+            }
+            PoolFault::Compacted => {
+                "compacted: etcd no longer has the entries behind the start; \
+                 use --files with a newer file"
+            }
+            PoolFault::Deleted => "deleted: a key of the log was deleted; restore etcd",
+            PoolFault::Shortened => "shortened: etcd lost entries of the log; restore etcd",
+            PoolFault::Settings => {
+                "settings: the pool has another salt or policy; use its salt and its version"
+            }
+            PoolFault::Silent => {
+                "etcd does not answer; check --pool and that a majority of its members runs"
+            }
+            PoolFault::Files => {
+                "files: cannot read or write the directory; \
+                 check that it exists, its permissions and its disk"
+            }
+            PoolFault::NoFile => "files: the directory has no file of a pool; run dss follow first",
+            PoolFault::FilesBusy => {
+                "files: another dss follow uses the directory; wait until it ends"
+            }
+            PoolFault::Ended => "ended: an entry needs more memory; free memory, and start again",
+        }
+    }
+}
