@@ -1,0 +1,174 @@
+"""Instances of a pool over members of etcd on this machine: `dss serve --pool`."""
+import os
+import pathlib
+import signal
+import socket
+import subprocess
+import threading
+import time
+
+import wire
+from ports import free_port
+from program import BUILT, DSS
+
+PROGRAM = os.environ.get("TEST_POOL_DSS") or BUILT
+LIMIT = 60
+
+
+def lacking():
+    """Returns why there is no program, or None. Without a name of one, ./dss finds or builds it."""
+    if "TEST_POOL_DSS" in os.environ or "DSS_PROGRAM" in os.environ:
+        return None
+    done = subprocess.run([DSS, "--help"], stdin=subprocess.DEVNULL, stdout=subprocess.DEVNULL)
+    return "there is no program to test; see the output above" if done.returncode else None
+
+
+class Door:
+    """An instance, which listens on a port."""
+
+    def __init__(self, room, addresses, name, tokens, salt=wire.SALT, file=None, options=()):
+        self.addresses, self.name, self.options, self.port = addresses, name, options, free_port()
+        self.file, self.lines = pathlib.Path(room) / f"{file or name}.toml", []
+        self.file.write_text(wire.token_file(tokens, salt))
+        self.start()
+
+    def start(self):
+        words = [PROGRAM, "serve", "--tokens", self.file, "--pool", self.addresses, "--as", self.name, "--port", self.port]
+        words = [*map(str, words), *map(str, self.options)]
+        self.process = subprocess.Popen(
+            words, stdin=subprocess.DEVNULL, stdout=subprocess.DEVNULL, stderr=subprocess.PIPE, text=True
+        )
+        for line in self.process.stderr:
+            self.lines.append(line.rstrip("\n"))
+            if line == f"dss: listening on 127.0.0.1:{self.port}\n":
+                break
+        else:
+            raise OSError(f"{self.name} does not listen: {self.lines}")
+        self.reader = threading.Thread(target=self.read, args=(self.process,), daemon=True)
+        self.reader.start()
+
+    def read(self, process):
+        for line in process.stderr:
+            self.lines.append(line.rstrip("\n"))
+
+    def end(self, limit=LIMIT):
+        """Waits until it ends. Returns its status and its last line."""
+        status = self.process.wait(limit)
+        self.reader.join(limit)
+        return status, self.lines[-1]
+
+    def connect(self, limit=LIMIT):
+        return socket.create_connection(("127.0.0.1", self.port), timeout=limit)
+
+    def kill(self):
+        self.process.kill()
+        self.process.wait()
+
+    def freeze(self):
+        self.process.send_signal(signal.SIGSTOP)
+
+    def go_on(self):
+        self.process.send_signal(signal.SIGCONT)
+
+
+class Exchange:
+    """A kept connection to a door."""
+
+    def __init__(self, door, limit=LIMIT):
+        self.door, self.limit, self.connection, self.left = door, limit, None, 0
+
+    def ask(self, call):
+        """Returns the status and the body of a response."""
+        if self.connection is None or not self.left:
+            self.close()
+            self.connection, self.left = self.door.connect(self.limit), wire.MAX_REQUESTS
+        self.left -= 1
+        self.connection.sendall(wire.request(*call))
+        return self.receive()
+
+    def receive(self):
+        """Returns the status and the body of the next response."""
+        got = b""
+        while True:
+            head, mark, rest = got.partition(b"\r\n\r\n")
+            if mark:
+                lengths = [it for it in head.lower().split(b"\r\n") if it.startswith(b"content-length:")]
+                if not lengths or len(rest) >= int(lengths[0].partition(b":")[2]):
+                    if b"\r\nconnection: close" in head.lower():
+                        self.left = 0
+                    return int(head.split()[1]), rest
+            piece = self.connection.recv(1 << 16)
+            if not piece:
+                raise OSError("the connection ended")
+            got += piece
+
+    def close(self):
+        if self.connection:
+            self.connection.close()
+        self.connection = None
+
+
+class Pool:
+    """Three instances, each with the members of etcd in another order."""
+
+    def __init__(self, room, cluster, tokens, count=3):
+        self.room, self.cluster, all_addresses = room, cluster, cluster.addresses().split(",")
+        self.doors = []
+        for it in range(count):
+            turn = it % len(all_addresses)
+            own = ",".join(all_addresses[turn:] + all_addresses[:turn])
+            self.doors.append(Door(room, own, f"i{it}", tokens))
+
+    def add(self, name, tokens, **more):
+        """Starts another instance."""
+        door = Door(self.room, self.cluster.addresses(), name, tokens, **more)
+        self.doors.append(door)
+        return door
+
+    def fails(self, name, tokens, **more):
+        """Returns the status and the lines of an instance that ends before it listens."""
+        door = Door.__new__(Door)
+        try:
+            door.__init__(self.room, self.cluster.addresses(), name, tokens, **more)
+        except OSError:
+            return door.process.wait(LIMIT), door.lines
+        self.doors.append(door)
+        raise AssertionError(f"{name} listens")
+
+    def start_follow(self, folder, tokens, salt=wire.SALT, name="a-file", options=(), **more):
+        """Starts `dss follow`, which writes a file of the pool to a directory."""
+        file = pathlib.Path(self.room) / f"{name}.toml"
+        file.write_text(wire.token_file(tokens, salt))
+        words = [PROGRAM, "follow", "--tokens", file, "--pool", self.cluster.addresses(), "--as", name, "--files", folder, *options]
+        pipes = {"stdin": subprocess.DEVNULL, "stdout": subprocess.PIPE, "stderr": subprocess.PIPE}
+        return subprocess.Popen(list(map(str, words)), text=True, **pipes, **more)
+
+    def follow(self, folder, tokens, **more):
+        """Runs `dss follow`. Returns its status and what it printed."""
+        process = self.start_follow(folder, tokens, **more)
+        try:
+            printed, errors = process.communicate(timeout=LIMIT)
+        finally:
+            process.kill()
+        return process.returncode, printed, errors
+
+    def close(self):
+        for it in self.doors:
+            it.kill()
+
+    def ready(self, doors=None, limit=LIMIT):
+        """Waits until each instance answers a read."""
+        end = time.monotonic() + limit
+        for it in doors or self.doors:
+            while True:
+                try:
+                    way = Exchange(it)
+                    got = way.ask(("GET", f"{wire.AVAILABILITY}/uss-n", "Bearer tok-v", None))
+                    way.close()
+                    if got[0] == 200:
+                        break
+                except OSError:
+                    pass
+                if time.monotonic() > end:
+                    raise AssertionError(f"{it.name} is not ready: {it.lines[-5:]}")
+                time.sleep(0.05)

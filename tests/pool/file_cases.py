@@ -1,0 +1,282 @@
+"""Cases of the files of a pool: `dss follow` writes them, and an instance starts from the newest one."""
+import base64
+import contextlib
+import fcntl
+import json
+import pathlib
+import random
+import re
+import resource
+import shutil
+import signal
+import subprocess
+import time
+
+from cases import TOKENS, Judge, admin, get, put, until, with_pool
+from doors import Exchange
+from ports import free_port
+
+NAME = re.compile(r"\d{20}-\d{20}\.db")
+COMPACTED = "dss: pool: compacted: etcd no longer has the entries behind the start; use --files with a newer file"
+SETTINGS = "dss: pool: settings: the pool has another salt or policy; use its salt and its version"
+NO_FILE = "dss: pool: files: the directory has no file of a pool; run dss follow first"
+UNUSABLE = "dss: pool: files: cannot read or write the directory; check that it exists, its permissions and its disk"
+BUSY = "dss: pool: files: another dss follow uses the directory; wait until it ends"
+SILENT = "dss: pool: etcd does not answer; check --pool and that a majority of its members runs"
+
+
+def folder_of(pool, name="files"):
+    folder = pathlib.Path(pool.room) / name
+    folder.mkdir()
+    return folder
+
+
+def names(folder):
+    """Returns the names of the files of a pool in a directory, the oldest first."""
+    return sorted(it.name for it in folder.iterdir() if NAME.fullmatch(it.name))
+
+
+def followed(pool, folder):
+    """Runs `dss follow`. Returns the name that it prints, which is that of the newest file."""
+    status, printed, errors = pool.follow(folder, TOKENS)
+    assert (status, errors) == (0, ""), (status, errors)
+    assert NAME.fullmatch(printed.removesuffix("\n")), printed
+    kept = names(folder)
+    assert kept[-1] == printed.removesuffix("\n") and len(kept) <= 2, (kept, printed)
+    assert {it.name for it in folder.iterdir() if not it.name.endswith("-wal")} - {"turn"} == {"lock", *kept}
+    return kept[-1]
+
+
+def started(pool, name, folder):
+    """Starts an instance from the files, and returns it once it answers."""
+    door = pool.add(name, TOKENS, options=("--files", folder))
+    pool.ready([door])
+    return door
+
+
+def pages(port):
+    """Returns all pages of the airspace that an instance holds."""
+    found, after = [], ""
+    while True:
+        status, body = admin(port, f"/airspace{after}")
+        assert status == 200, body
+        found.append(json.loads(body))
+        if "next" not in found[-1]:
+            return found
+        after = f"?after={found[-1]['next']}"
+
+
+def written(pool):
+    """The revision of the newest file grows with the changes, the two newest are kept, and an instance goes on from there."""
+    judge, folder = Judge(pool, 23), folder_of(pool)
+    first = followed(pool, folder)
+    assert names(folder) == [first]
+    judge.calls(150)
+    second = followed(pool, folder)
+    assert names(folder) == [first, second]
+    assert followed(pool, folder) == second, "a file without a new entry"
+    judge.calls(150)
+    third = followed(pool, folder)
+    assert names(folder) == [second, third]
+    judge.calls(100)
+    late = started(pool, "late", folder)
+    judge.calls(300)
+    judge.mark_all()
+    late.kill()
+    judge.calls(50, pool.doors[:3])
+    late.start()
+    judge.mark_all()
+    assert followed(pool, folder) > third
+
+
+def idle(pool):
+    """Changes without an entry make a new file once they are 1,000, so that etcd can drop them."""
+    folder = folder_of(pool)
+    assert Exchange(pool.doors[0]).ask(put(95))[0] == 201
+    first = followed(pool, folder)
+    key, value = (base64.b64encode(it).decode() for it in (b"in/other", b"no entry"))
+    fill = lambda count: [pool.cluster.ask(0, "/v3/kv/put", {"key": key, "value": value}) for _ in range(count)]
+    fill(900)
+    assert followed(pool, folder) == first
+    fill(100)
+    second = followed(pool, folder)
+    assert names(folder) == [first, second] and int(second[:20]) - int(first[:20]) >= 1_000, (first, second)
+    door = started(pool, "late", folder)
+    assert Exchange(door).ask(get(95))[0] == 200
+
+
+def same_airspace(pool):
+    """An instance that starts from a file holds the airspace of one that reads the log from its beginning."""
+    judge, folder = Judge(pool, 29), folder_of(pool)
+    judge.calls(200)
+    followed(pool, folder)
+    judge.calls(200)
+    ports = [free_port(), free_port()]
+    pool.add("whole", TOKENS, options=("--admin-port", ports[0]))
+    pool.add("from-file", TOKENS, options=("--admin-port", ports[1], "--files", folder))
+    pool.ready()
+    judge.mark_all()
+    assert pages(ports[0]) == pages(ports[1])
+
+
+def compacted(pool):
+    """After a compaction to the older file an instance starts from the files, and one without them ends."""
+    judge, folder, old = Judge(pool, 31), folder_of(pool), folder_of(pool, "old")
+    judge.calls(100)
+    first = followed(pool, folder)
+    judge.calls(50)
+    second = followed(pool, folder)
+    pool.cluster.control("compaction", str(int(first[:20])))
+    judge.calls(50)
+    started(pool, "late", folder)
+    assert pool.add("bare", TOKENS).end() == (1, COMPACTED)
+    pool.doors.pop()
+    judge.calls(100)
+    # the older file is the last one that is of use
+    shutil.copy(folder / first, old)
+    pool.add("older", TOKENS, options=("--files", old))
+    pool.ready()
+    judge.mark_all()
+    third = followed(pool, folder)
+    assert names(folder) == [second, third]
+    pool.cluster.control("compaction", str(int(third[:20])))
+    assert pool.add("too-late", TOKENS, options=("--files", old)).end() == (1, COMPACTED)
+    pool.doors.pop()
+    assert pool.follow(old, TOKENS) == (1, "", f"{COMPACTED}\n")
+    assert names(old) == [first]
+    empty = folder_of(pool, "empty")
+    assert pool.follow(empty, TOKENS) == (1, "", f"{COMPACTED}\n")
+    assert [it.name for it in empty.iterdir()] == ["lock"]
+    judge.calls(100)
+    judge.mark_all()
+    assert followed(pool, folder) > third
+
+
+def refused(pool):
+    """Directories and files that cannot be used end the commands, with a message, and change nothing."""
+    folder, empty, none = folder_of(pool), folder_of(pool, "empty"), pathlib.Path(pool.room) / "none"
+    serve = lambda where, **more: pool.fails("i9", TOKENS, options=("--files", where), **more)
+    assert serve(empty) == (1, [NO_FILE])
+    assert serve(none) == (1, [UNUSABLE])
+    assert pool.follow(none, TOKENS) == (1, "", f"{UNUSABLE}\n")
+    status, _, errors = pool.follow(none, TOKENS, options=("--verbose",))
+    assert status == 1 and errors.splitlines()[-2] == UNUSABLE, errors
+    assert errors.splitlines()[-1].startswith(f"dss: cause: {none}: "), errors
+    assert Exchange(pool.doors[0]).ask(put(90))[0] == 201
+    first = followed(pool, folder)
+    assert Exchange(pool.doors[0]).ask(put(91))[0] == 201
+    second = followed(pool, folder)
+    # the files are of a pool with another salt
+    assert serve(folder, salt="another") == (1, [SETTINGS])
+    assert pool.follow(folder, TOKENS, salt="another") == (1, "", f"{SETTINGS}\n")
+    assert names(folder) == [first, second]
+    # another process writes
+    with open(folder / "lock", "w") as lock:
+        fcntl.flock(lock, fcntl.LOCK_EX)
+        assert pool.follow(folder, TOKENS) == (1, "", f"{BUSY}\n")
+    # what a stopped process left, and files of others
+    for name in "next.db", "next.db-wal", "next.db.begun", "other.db", f"{first}.copy":
+        (folder / name).write_bytes(b"x" * 9_000)
+    assert Exchange(pool.doors[0]).ask(put(92))[0] == 201
+    status, printed, errors = pool.follow(folder, TOKENS)
+    third = printed.removesuffix("\n")
+    assert (status, errors) == (0, "") and names(folder) == [second, third] and third > second, (status, printed, errors)
+    assert sorted(it.name for it in folder.iterdir()) == sorted(["lock", "other.db", f"{first}.copy", second, third])
+    two = [pool.add(f"late-{it}", TOKENS, options=("--files", folder)) for it in range(2)]
+    pool.ready(two)
+    # a damaged file: the one before is of use
+    (folder / third).write_bytes(b"x" * 9_000)
+    status, lines = serve(folder)
+    assert status == 1 and re.fullmatch(r"dss: db: fault \d+ \w+", lines[-1]), (status, lines)
+    (folder / third).unlink()
+    door = started(pool, "late", folder)
+    assert [Exchange(door).ask(get(it))[0] for it in (90, 91, 92)] == [200] * 3
+
+
+def limited(bytes_per_file):
+    """Returns what limits the length of files of a process. A write beyond it fails, as on a full disk."""
+    def limit():
+        signal.signal(signal.SIGXFSZ, signal.SIG_IGN)
+        resource.setrlimit(resource.RLIMIT_FSIZE, (bytes_per_file, bytes_per_file))
+    return limit
+
+
+def full_disk(pool):
+    """If the disk is full, `follow` fails, and the two newest files stay. Afterwards it succeeds."""
+    judge, folder = Judge(pool, 37), folder_of(pool)
+    judge.calls(100)
+    first = followed(pool, folder)
+    judge.calls(100)
+    second = followed(pool, folder)
+    judge.calls(100)
+    length = (folder / second).stat().st_size
+    for bytes_per_file in 0, 4_096, length // 2, length:
+        status, printed, errors = pool.follow(folder, TOKENS, preexec_fn=limited(bytes_per_file), restore_signals=False)
+        assert (status, printed) == (1, ""), (bytes_per_file, status, printed)
+        assert errors.startswith((f"{UNUSABLE}\n", "dss: db: fault")), (bytes_per_file, errors)
+        assert names(folder) == [first, second]
+        assert {it.name for it in folder.iterdir()} == {"lock", first, second}
+    third = followed(pool, folder)
+    assert names(folder) == [second, third]
+    started(pool, "late", folder)
+    judge.mark_all()
+
+
+def killed(pool):
+    """`follow` is killed at any time. The newest files stay, and the next run goes on."""
+    judge, folder, draw = Judge(pool, 41), folder_of(pool), random.Random(43)
+    judge.calls(300)
+    followed(pool, folder)
+    judge.calls(10)
+    began = time.monotonic()
+    newest = followed(pool, folder)
+    took, ended = time.monotonic() - began, 0
+    for _ in range(30):
+        before = names(folder)
+        judge.calls(10)
+        process = pool.start_follow(folder, TOKENS)
+        with contextlib.suppress(subprocess.TimeoutExpired):
+            process.wait(draw.uniform(0, took))
+        process.kill()
+        process.communicate()
+        ended += process.returncode == 0
+        after = names(folder)
+        assert before[-1] in after, (before, after)
+    assert ended < 30, "none was killed"
+    assert followed(pool, folder) > newest
+    started(pool, "late", folder)
+    judge.calls(100)
+    judge.mark_all()
+
+
+def silent_log(pool):
+    """Without a majority of etcd, `follow` ends within a minute, and the files stay."""
+    folder = folder_of(pool)
+    assert Exchange(pool.doors[0]).ask(put(93))[0] == 201
+    first = followed(pool, folder)
+    for it in (0, 1):
+        pool.cluster.stop(it)
+    began = time.monotonic()
+    status, printed, errors = pool.follow(folder, TOKENS)
+    took = time.monotonic() - began
+    assert (status, printed, errors.splitlines()[-1]) == (1, "", SILENT), (status, printed, errors)
+    assert 25 < took < 45, took
+    assert {it.name for it in folder.iterdir()} == {"lock", first}
+    for it in (0, 1):
+        pool.cluster.go_on(it)
+    pool.cluster.await_leader()
+    pool.ready()
+    assert Exchange(pool.doors[0]).ask(put(94))[0] == 201
+    assert followed(pool, folder) > first
+
+
+CASES = {
+    "files written": with_pool(written),
+    "files of an idle pool": with_pool(idle),
+    "files with the same airspace": with_pool(same_airspace),
+    "files and compaction": with_pool(compacted),
+    "files refused": with_pool(refused),
+    "files on a full disk": with_pool(full_disk),
+    "files of a killed process": with_pool(killed),
+    "files of a silent log": with_pool(silent_log),
+}
