@@ -273,7 +273,8 @@ def access_log(pool):
         wanted.append(status)
     for it in (0, 1):
         pool.cluster.stop(it)
-    assert way.ask(READ)[0] == 503
+    got = way.ask(READ)
+    assert got[0] == 503, got
     wanted.append(503)
     for it in (0, 1):
         pool.cluster.go_on(it)

@@ -8,6 +8,7 @@ import threading
 import time
 
 import wire
+from freezing import freeze
 from ports import free_port
 from program import BUILT, DSS
 
@@ -65,7 +66,7 @@ class Door:
         self.process.wait()
 
     def freeze(self):
-        self.process.send_signal(signal.SIGSTOP)
+        freeze(self.process)
 
     def go_on(self):
         self.process.send_signal(signal.SIGCONT)

@@ -12,6 +12,7 @@ import urllib.request
 
 sys.path.insert(1, str(pathlib.Path(__file__).resolve().parents[1] / "shared"))
 
+from freezing import freeze
 from ports import free_port
 
 WITH_US = ["setpriv", "--pdeathsig", "KILL", "--"] if shutil.which("setpriv") else []
@@ -93,7 +94,7 @@ class Cluster:
         self.processes[it].wait()
 
     def stop(self, it):
-        self.processes[it].send_signal(signal.SIGSTOP)
+        freeze(self.processes[it])
 
     def go_on(self, it):
         self.processes[it].send_signal(signal.SIGCONT)
