@@ -186,7 +186,7 @@ def proxy(sites):
     numbers = iter(range(1, 1_000))
     changed = lambda: way.ask(put(next(numbers)))[0]
     reads = lambda: way.ask(READ)[0]
-    # An instance that has not read the log yet says `serving`, too.
+    # An instance answers reads once it has read the log.
     ready = lambda port: until(lambda: answers(site, port), f"the instance at {port} has read the log", BACK)
     try:
         until(lambda: is_up(site, 443), "the proxy listens", BACK)
