@@ -6,15 +6,15 @@ use Rattle.std.proofs.lemmas.List.Concat.{flat_map-append}
 use Rattle.std.proofs.lemmas.List.Elements.{Contains-append_left, filter-append}
 use Rattle.entity_core.specs.Airspace.{Airspace}
 use Rattle.policy_core.specs.declared.call.Call.{Call}
-use Rattle.service_calls.specs.Run.{TimedCall, airspace_after}
+use Rattle.pool_core.specs.Acts.{Act, airspace_by}
 use Rattle.pool_core.specs.Events.{Batch, Offers, PoolEvent, Receives, batches_offered, entries_given, events_at}
 use Rattle.pool_core.specs.Log.{LogEntry}
 use Rattle.pool_core.specs.Pool.{IsPool, batches_by, count_given, count_offered, entry_of_batch}
-use Rattle.pool_core.specs.Serves.{airspace_at, calls_in}
+use Rattle.pool_core.specs.Serves.{airspace_at, acts_in}
+use Rattle.pool_core.proofs.Acts.{after_append}
 use Rattle.pool_core.proofs.Lists.{contains_same, fits_or_more, get_split, prefixes}
 use Rattle.pool_core.proofs.Projections.{at_append, event_of, given_append, lift, offer_at, offered_append, same_number}
 use Rattle.pool_core.proofs.Readings.{given_most, most_given, most_least}
-use Rattle.pool_core.proofs.States.{after_append}
 
 -- ---- beginnings of the events
 
@@ -49,12 +49,12 @@ take_past (x ∷ xs) b ys (suc n) le =
     let e : n - suc (length xs) ≡ suc n - suc (suc (length xs)) = omega arith in
     ap (λ v. x ∷ v) (take_past xs b ys n (omega (arith, le))) ∙ ap (λ v. x ∷ (xs ++ b ∷ take v ys)) e
 
-module _ (calls_of : List ℕ → List TimedCall) (salt : List ℕ) (start : Airspace) (events : List PoolEvent) (pool : IsPool events) where
+module _ (acts_of : List ℕ → List Act) (salt : List ℕ) (start : Airspace) (events : List PoolEvent) (pool : IsPool events) where
   abbrev pub entries : List LogEntry
   entries = map entry_of_batch pool.log
 
   abbrev pub state : ℕ → Airspace
-  state n = airspace_at calls_of salt start entries n
+  state n = airspace_at acts_of salt start entries n
 
   -- ---- what was given
 
@@ -82,23 +82,23 @@ module _ (calls_of : List ℕ → List TimedCall) (salt : List ℕ) (start : Air
       ap (λ v. take (length xs) (map entry_of_batch v)) split ∙ ap (λ v. take (length xs) v) (map-append entry_of_batch xs ys)
       ∙ take_at (map entry_of_batch xs) (map entry_of_batch ys) (length xs) (length-map xs entry_of_batch)
 
-  pub next_state : (xs : List Batch) (b : Batch) (ys : List Batch) → pool.log ≡ xs ++ b ∷ ys → airspace_after salt (state (length xs)) (calls_of b.bytes) ≡ state (suc (length xs))
+  pub next_state : (xs : List Batch) (b : Batch) (ys : List Batch) → pool.log ≡ xs ++ b ∷ ys → airspace_by salt (state (length xs)) (acts_of b.bytes) ≡ state (suc (length xs))
   next_state xs b ys split =
       let more = front_take (xs ++ b ∷ []) ys (split ∙ sym (append_assoc xs (b ∷ []) ys)) in
       let long : length (xs ++ b ∷ []) ≡ suc (length xs) = omega (arith, length-append xs (b ∷ [])) in
-      let calls : calls_in calls_of (map entry_of_batch (xs ++ b ∷ [])) ≡ calls_in calls_of (map entry_of_batch xs) ++ calls_of b.bytes =
-      ap (λ v. calls_in calls_of v) (map-append entry_of_batch xs (b ∷ [])) ∙ flat_map-append (λ (e : LogEntry). calls_of e.bytes) (map entry_of_batch xs) (entry_of_batch b ∷ [])
-      ∙ ap (λ v. calls_in calls_of (map entry_of_batch xs) ++ v) (append-nil (calls_of b.bytes)) in
-      ap (λ v. airspace_after salt (airspace_after salt start (calls_in calls_of v)) (calls_of b.bytes)) (front_take xs (b ∷ ys) split)
-      ∙ sym (after_append salt start (calls_in calls_of (map entry_of_batch xs)) (calls_of b.bytes))
-      ∙ ap (λ v. airspace_after salt start v) (sym calls)
-      ∙ ap (λ v. airspace_after salt start (calls_in calls_of v)) (sym more)
+      let calls : acts_in acts_of (map entry_of_batch (xs ++ b ∷ [])) ≡ acts_in acts_of (map entry_of_batch xs) ++ acts_of b.bytes =
+      ap (λ v. acts_in acts_of v) (map-append entry_of_batch xs (b ∷ [])) ∙ flat_map-append (λ (e : LogEntry). acts_of e.bytes) (map entry_of_batch xs) (entry_of_batch b ∷ [])
+      ∙ ap (λ v. acts_in acts_of (map entry_of_batch xs) ++ v) (append-nil (acts_of b.bytes)) in
+      ap (λ v. airspace_by salt (airspace_by salt start (acts_in acts_of v)) (acts_of b.bytes)) (front_take xs (b ∷ ys) split)
+      ∙ sym (after_append salt start (acts_in acts_of (map entry_of_batch xs)) (acts_of b.bytes))
+      ∙ ap (λ v. airspace_by salt start v) (sym calls)
+      ∙ ap (λ v. airspace_by salt start (acts_in acts_of v)) (sym more)
       ∙ ap (λ v. state v) long
 
-  pub state_steps : (n m : ℕ) (b : Batch) → slice_get pool.log n ≡ Some b → m ≡ n → airspace_after salt (state m) (calls_of b.bytes) ≡ state (suc m)
+  pub state_steps : (n m : ℕ) (b : Batch) → slice_get pool.log n ≡ Some b → m ≡ n → airspace_by salt (state m) (acts_of b.bytes) ≡ state (suc m)
   state_steps n m b h e =
       let s = get_split pool.log n b h in
-      subst (λ v. airspace_after salt (state v) (calls_of b.bytes) ≡ state (suc v)) (s.at ∙ sym e) (next_state s.front b s.back s.split)
+      subst (λ v. airspace_by salt (state v) (acts_of b.bytes) ≡ state (suc v)) (s.at ∙ sym e) (next_state s.front b s.back s.split)
 
   -- ---- batches
 

@@ -1,4 +1,5 @@
 pub mod Lists
+pub mod Acts
 pub mod Projections
 pub mod Served
 pub mod Readings
@@ -15,3 +16,7 @@ pub mod Atomic
 pub mod Witness
 pub mod Unlogged
 pub mod Starts
+pub mod Blind
+pub mod Unseen
+pub mod Histories
+pub mod Purges

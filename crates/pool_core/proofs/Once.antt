@@ -4,12 +4,12 @@ use Rattle.std.specs.Prelude.{count_by, filter, if◌then◌else◌}
 use Rattle.std.specs.List.{flat_map}
 use Rattle.std.proofs.lemmas.List.{append-nil}
 use Rattle.std.proofs.lemmas.List.Concat.{flat_map-append}
-use Rattle.service_calls.specs.Run.{TimedCall}
+use Rattle.pool_core.specs.Acts.{Act}
 use Rattle.pool_core.specs.Events.{Answers, AsksForEnd, Batch, Fails, Gets, InstanceEvent, LearnsEnd, Offers, PoolEvent, Receives, batch_in, batches_offered, events_at}
-use Rattle.pool_core.specs.OneList.{ListedCall, RequestName}
+use Rattle.pool_core.specs.OneList.{ListedAct, RequestName}
 use Rattle.pool_core.specs.Pool.{batches_by}
 use Rattle.pool_core.specs.Serves.{ids_offered, offered_in, times}
-use Rattle.pool_core.proofs.Build.{at_slot, batch_calls, listed, one_list}
+use Rattle.pool_core.proofs.Build.{at_slot, batch_acts, listed, one_list}
 use Rattle.pool_core.proofs.Lists.{count_append, count_cons, count_no}
 use Rattle.pool_core.proofs.Readings.{Reading, is_request, readings, reads_bound}
 use Rattle.pool_core.proofs.Served.{uses}
@@ -23,7 +23,7 @@ not_both k s = grind arith
 zero_le : (s : ℕ) → nat_le 0 s ≡ true
 zero_le s = grind arith
 
-module _ (p : ListedCall → Bool) where
+module _ (p : ListedAct → Bool) where
   -- How many readings from a slot on pass.
   abbrev pub from_slot : ℕ → List Reading → ℕ
   from_slot k [] = 0
@@ -57,47 +57,47 @@ module _ (p : ListedCall → Bool) where
   from_zero (r ∷ rs) =
       ap (λ b. cond (b && p r.call) 1 0 + from_slot 0 rs) (zero_le r.slot) ∙ ap (λ v. cond (p r.call) 1 0 + v) (from_zero rs) ∙ sym (count_cons (λ (v : Reading). p v.call) r rs)
 
-  pub one_bound : (calls_of : List ℕ → List TimedCall) (rs : List Reading) (k : ℕ) (log : List Batch)
-      → count_by p (one_list calls_of rs k log) ≤ from_slot k rs + count_by p (flat_map (batch_calls calls_of rs) log)
-  one_bound calls_of rs k [] = omega (arith, slot_rest k rs)
-  one_bound calls_of rs k (b ∷ log) =
+  pub one_bound : (acts_of : List ℕ → List Act) (rs : List Reading) (k : ℕ) (log : List Batch)
+      → count_by p (one_list acts_of rs k log) ≤ from_slot k rs + count_by p (flat_map (batch_acts acts_of rs) log)
+  one_bound acts_of rs k [] = omega (arith, slot_rest k rs)
+  one_bound acts_of rs k (b ∷ log) =
       omega (
         arith,
         slot_rest k rs,
-        one_bound calls_of rs (suc k) log,
-        count_append p (at_slot k rs) (batch_calls calls_of rs b ++ one_list calls_of rs (suc k) log),
-        count_append p (batch_calls calls_of rs b) (one_list calls_of rs (suc k) log),
-        count_append p (batch_calls calls_of rs b) (flat_map (batch_calls calls_of rs) log),
+        one_bound acts_of rs (suc k) log,
+        count_append p (at_slot k rs) (batch_acts acts_of rs b ++ one_list acts_of rs (suc k) log),
+        count_append p (batch_acts acts_of rs b) (one_list acts_of rs (suc k) log),
+        count_append p (batch_acts acts_of rs b) (flat_map (batch_acts acts_of rs) log),
       )
 
 -- ---- requests in batches
 
-listed_bound : (x : RequestName) (w : ℕ) (ids : List ℕ) (cs : List TimedCall) (b : Bool) → (x.instance == w) ≡ b → count_by (is_request x) (listed w ids cs) ≤ (if b then times x.id ids else 0)
+listed_bound : (x : RequestName) (w : ℕ) (ids : List ℕ) (cs : List Act) (b : Bool) → (x.instance == w) ≡ b → count_by (is_request x) (listed w ids cs) ≤ (if b then times x.id ids else 0)
 listed_bound x w ids [] b is = omega arith
 listed_bound x w [] (c ∷ cs) b is =
-    omega (arith, listed_bound x w [] cs b is, count_no (is_request x) (record { request = None; timed = c; logged = true }) (listed w [] cs) refl)
+    omega (arith, listed_bound x w [] cs b is, count_no (is_request x) (record { request = None; act = c; logged = true }) (listed w [] cs) refl)
 listed_bound x w (id ∷ ids) (c ∷ cs) true is =
-    let call : ListedCall = record { request = Some (record { instance = w; id = id }); timed = c; logged = true } in
+    let call : ListedAct = record { request = Some (record { instance = w; id = id }); act = c; logged = true } in
     let test : (is_request x call) ≡ (x.id == id) = ap (λ b. b && (x.id == id)) is in
     let one : count_by (is_request x) (call ∷ listed w ids cs) ≡ cond (x.id == id) 1 0 + count_by (is_request x) (listed w ids cs) = count_cons (is_request x) call (listed w ids cs) ∙ ap (λ b. cond b 1 0 + count_by (is_request x) (listed w ids cs)) test in
     omega (arith, one, listed_bound x w ids cs true is, count_cons (λ k. x.id == k) id ids)
 listed_bound x w (id ∷ ids) (c ∷ cs) false is =
-    let call : ListedCall = record { request = Some (record { instance = w; id = id }); timed = c; logged = true } in
+    let call : ListedAct = record { request = Some (record { instance = w; id = id }); act = c; logged = true } in
     omega (arith, listed_bound x w ids cs false is, count_no (is_request x) call (listed w ids cs) (ap (λ b. b && (x.id == id)) is))
 
 batch_case : (x : RequestName) (batch : Batch) (rest : List Batch) (b : Bool) → times x.id (flat_map (λ v. v.ids) (cond b (batch ∷ rest) rest)) ≡ (if b then times x.id batch.ids else 0) + times x.id (flat_map (λ v. v.ids) rest)
 batch_case x batch rest true = count_append (λ k. x.id == k) batch.ids (flat_map (λ v. v.ids) rest)
 batch_case x batch rest false = sym (zero-add (times x.id (flat_map (λ v. v.ids) rest)))
 
-batches_bound : (x : RequestName) (calls_of : List ℕ → List TimedCall) (rs : List Reading) (log : List Batch)
-    → count_by (is_request x) (flat_map (batch_calls calls_of rs) log) ≤ times x.id (flat_map (λ b. b.ids) (batches_by x.instance log))
-batches_bound x calls_of rs [] = omega arith
-batches_bound x calls_of rs (b ∷ log) =
+batches_bound : (x : RequestName) (acts_of : List ℕ → List Act) (rs : List Reading) (log : List Batch)
+    → count_by (is_request x) (flat_map (batch_acts acts_of rs) log) ≤ times x.id (flat_map (λ b. b.ids) (batches_by x.instance log))
+batches_bound x acts_of rs [] = omega arith
+batches_bound x acts_of rs (b ∷ log) =
     omega (
       arith,
-      batches_bound x calls_of rs log,
-      count_append (is_request x) (batch_calls calls_of rs b) (flat_map (batch_calls calls_of rs) log),
-      listed_bound x b.writer b.ids (calls_of b.bytes) (x.instance == b.writer) refl,
+      batches_bound x acts_of rs log,
+      count_append (is_request x) (batch_acts acts_of rs b) (flat_map (batch_acts acts_of rs) log),
+      listed_bound x b.writer b.ids (acts_of b.bytes) (x.instance == b.writer) refl,
       batch_case x b (batches_by x.instance log) (x.instance == b.writer),
     )
 
@@ -116,13 +116,13 @@ offered_ids i [] = refl
 offered_ids i (e ∷ es) = flat_map-append (λ (b : Batch). b.ids) (batch_in i e) (batches_offered i es) ∙ ap (λ v. v ++ flat_map (λ b. b.ids) (batches_offered i es)) (offered_one i e) ∙ ap (λ v. offered_in e ++ v) (offered_ids i es)
 
 -- A request is in the list as often as it was offered or answered as a reading, at most.
-pub list_bound : (x : RequestName) (serves : ℕ → Bool) (calls_of : List ℕ → List TimedCall) (events : List PoolEvent) (log : List Batch) (rest : List Batch)
+pub list_bound : (x : RequestName) (serves : ℕ → Bool) (acts_of : List ℕ → List Act) (events : List PoolEvent) (log : List Batch) (rest : List Batch)
     → batches_offered x.instance (events_at x.instance events) ≡ batches_by x.instance log ++ rest
-    → count_by (is_request x) (one_list calls_of (readings serves [] events) 0 log) ≤ uses x.id (events_at x.instance events)
-list_bound x serves calls_of events log rest own =
+    → count_by (is_request x) (one_list acts_of (readings serves [] events) 0 log) ≤ uses x.id (events_at x.instance events)
+list_bound x serves acts_of events log rest own =
     let rs = readings serves [] events in
     let these = events_at x.instance events in
     let split : times x.id (ids_offered these) ≡ times x.id (flat_map (λ b. b.ids) (batches_by x.instance log)) + times x.id (flat_map (λ b. b.ids) rest) =
     ap (λ v. times x.id v) (sym (offered_ids x.instance these) ∙ ap (λ v. flat_map (λ b. b.ids) v) own ∙ flat_map-append (λ (b : Batch). b.ids) (batches_by x.instance log) rest)
     ∙ count_append (λ k. x.id == k) (flat_map (λ b. b.ids) (batches_by x.instance log)) (flat_map (λ b. b.ids) rest) in
-    omega (arith, split, one_bound (is_request x) calls_of rs 0 log, from_zero (is_request x) rs, batches_bound x calls_of rs log, reads_bound serves x [] events)
+    omega (arith, split, one_bound (is_request x) acts_of rs 0 log, from_zero (is_request x) rs, batches_bound x acts_of rs log, reads_bound serves x [] events)

@@ -6,12 +6,12 @@ use Rattle.std.proofs.lemmas.List.Elements.{Contains-append_cases, Contains-appe
 use Rattle.entity_core.specs.Airspace.{Airspace}
 use Rattle.policy_core.specs.declared.call.Call.{Call}
 use Rattle.service_step.specs.declared.reply.Reply.{Reply}
-use Rattle.service_calls.specs.Run.{TimedCall}
+use Rattle.pool_core.specs.Acts.{Act}
 use Rattle.pool_core.specs.Events.{AfterFirst, Answers, AtOnce, Basis, InPlace, PoolEvent, Receives, events_at}
-use Rattle.pool_core.specs.OneList.{ListedCall, RequestName, StandsWith, at}
+use Rattle.pool_core.specs.OneList.{ListedAct, RequestName, StandsWith, at}
 use Rattle.pool_core.specs.Pool.{IsPool}
 use Rattle.pool_core.specs.Serves.{IsReplyBy, ServesPool}
-use Rattle.pool_core.proofs.Build.{InBatch, InSlot, InSlots, at_slot, batch_calls, batch_in_upto, contains_slot, in_slot, in_upto, slot_append, slot_in_upto, tail_from, upto}
+use Rattle.pool_core.proofs.Build.{InBatch, InSlot, InSlots, at_slot, batch_acts, batch_in_upto, contains_slot, in_slot, in_upto, slot_append, slot_in_upto, tail_from, upto}
 use Rattle.pool_core.proofs.Facts.{batch_fact, batch_late, reading_fact, reading_late}
 use Rattle.pool_core.proofs.Given.{given_fits, take_past}
 use Rattle.pool_core.proofs.Lists.{contains_at, contains_get, contains_same, contains_split, fits_or_more, get_from_split, some_same}
@@ -20,28 +20,28 @@ use Rattle.pool_core.proofs.Projections.{at_append, at_split, event_of}
 use Rattle.pool_core.proofs.Readings.{Reading, Source, given_most, most_given, most_least, reading, reading_in, readings, readings_append, source}
 use Rattle.pool_core.proofs.Served.{follows_at}
 
-module _ (calls_of : List ℕ → List TimedCall) (salt : List ℕ) (start : Airspace) (events : List PoolEvent) (pool : IsPool events) (serves : ℕ → Bool)
-    (served : (i : ℕ) → serves i ≡ true → ServesPool calls_of salt start i (events_at i events)) where
+module _ (acts_of : List ℕ → List Act) (salt : List ℕ) (start : Airspace) (events : List PoolEvent) (pool : IsPool events) (serves : ℕ → Bool)
+    (served : (i : ℕ) → serves i ≡ true → ServesPool acts_of salt start i (events_at i events)) where
   -- ---- answers
 
   pub answer_by : (earlier later : List PoolEvent) (x : RequestName) (basis : Basis) (reply : Reply) → serves x.instance ≡ true → events ≡ earlier ++ at x (Answers x.id basis reply) ∷ later
-      → IsReplyBy calls_of salt start x.instance (events_at x.instance earlier) x.id basis reply
+      → IsReplyBy acts_of salt start x.instance (events_at x.instance earlier) x.id basis reply
   answer_by earlier later x basis reply s split =
-      follows_at calls_of salt start x.instance (events_at x.instance events) (events_at x.instance earlier) (Answers x.id basis reply) (events_at x.instance later) (served x.instance s)
+      follows_at acts_of salt start x.instance (events_at x.instance events) (events_at x.instance earlier) (Answers x.id basis reply) (events_at x.instance later) (served x.instance s)
       (ap (λ v. events_at x.instance v) split ∙ at_split x.instance (Answers x.id basis reply) earlier later)
 
   -- A reading that stands behind entries that its instance had been given.
   pub record GivenReading (earlier later : List PoolEvent) (x : RequestName) (basis : Basis) (reply : Reply) : Type 0 where
-    pub made : ReadingAt calls_of salt start events pool serves served earlier later x basis reply
+    pub made : ReadingAt acts_of salt start events pool serves served earlier later x basis reply
     pub within : made.slot ≤ most_given earlier
 
   abbrev pub AnswerPlace : (earlier later : List PoolEvent) (x : RequestName) (basis : Basis) (reply : Reply) → Type 0
-  AnswerPlace earlier later x basis reply = Place calls_of salt start events pool serves served earlier x reply ⊎ GivenReading earlier later x basis reply
+  AnswerPlace earlier later x basis reply = Place acts_of salt start events pool serves served earlier x reply ⊎ GivenReading earlier later x basis reply
 
   pub answer_place : (earlier later : List PoolEvent) (x : RequestName) (basis : Basis) (reply : Reply) → serves x.instance ≡ true → events ≡ earlier ++ at x (Answers x.id basis reply) ∷ later
-      → IsReplyBy calls_of salt start x.instance (events_at x.instance earlier) x.id basis reply → AnswerPlace earlier later x basis reply
+      → IsReplyBy acts_of salt start x.instance (events_at x.instance earlier) x.id basis reply → AnswerPlace earlier later x basis reply
   answer_place earlier later x InPlace reply s split h =
-      inl (place_of calls_of salt start events pool serves served earlier (at x (Answers x.id InPlace reply) ∷ later) x reply s split h.1)
+      inl (place_of acts_of salt start events pool serves served earlier (at x (Answers x.id InPlace reply) ∷ later) x reply s split h.1)
   answer_place earlier later x (AfterFirst n t) reply s split h = inr (record {
     made = record { slot = n; timed = t; is_basis = (refl, refl); made = ap (λ b. if b then reading x.instance x.id n t ∷ [] else []) s };
     within = omega (arith, h.1.given, given_most x.instance earlier);
@@ -52,10 +52,10 @@ module _ (calls_of : List ℕ → List TimedCall) (salt : List ℕ) (start : Air
   })
 
   pub answer_stands : (earlier later : List PoolEvent) (x : RequestName) (basis : Basis) (reply : Reply) → serves x.instance ≡ true → events ≡ earlier ++ at x (Answers x.id basis reply) ∷ later
-      → StandsWith calls_of salt start (list calls_of salt start events pool serves served) x reply
+      → StandsWith acts_of salt start (list acts_of salt start events pool serves served) x reply
   answer_stands earlier later x basis reply s split = elim (answer_place earlier later x basis reply s split (answer_by earlier later x basis reply s split)) [
-    | inl place ↦ stands_place calls_of salt start events pool serves served earlier x reply place
-    | inr read ↦ stands_reading calls_of salt start events pool serves served earlier later x basis reply s split read.made
+    | inl place ↦ stands_place acts_of salt start events pool serves served earlier x reply place
+    | inr read ↦ stands_reading acts_of salt start events pool serves served earlier later x basis reply s split read.made
   ]
 
   -- ---- the front of the list, up to an answer
@@ -63,47 +63,47 @@ module _ (calls_of : List ℕ → List TimedCall) (salt : List ℕ) (start : Air
   abbrev pub these : List Reading
   these = readings serves [] events
 
-  -- The calls of the first entries, and the readings behind them in a beginning of the events.
-  abbrev pub front : (n : ℕ) → List PoolEvent → List ListedCall
-  front n earlier = upto calls_of these 0 (take n pool.log) ++ at_slot n (readings serves [] earlier)
+  -- The acts of the first entries, and the readings behind them in a beginning of the events.
+  abbrev pub front : (n : ℕ) → List PoolEvent → List ListedAct
+  front n earlier = upto acts_of these 0 (take n pool.log) ++ at_slot n (readings serves [] earlier)
 
-  abbrev pub back : (n : ℕ) → (earlier later : List PoolEvent) → List ListedCall
-  back n earlier later = at_slot n (readings serves earlier later) ++ tail_from calls_of these n (drop n pool.log)
+  abbrev pub back : (n : ℕ) → (earlier later : List PoolEvent) → List ListedAct
+  back n earlier later = at_slot n (readings serves earlier later) ++ tail_from acts_of these n (drop n pool.log)
 
-  pub front_back : (n : ℕ) (earlier later : List PoolEvent) → events ≡ earlier ++ later → n ≤ length pool.log → list calls_of salt start events pool serves served ≡ front n earlier ++ back n earlier later
+  pub front_back : (n : ℕ) (earlier later : List PoolEvent) → events ≡ earlier ++ later → n ≤ length pool.log → list acts_of salt start events pool serves served ≡ front n earlier ++ back n earlier later
   front_back n earlier later split le =
       let xs = take n pool.log in
       let ys = drop n pool.log in
       let long : length xs ≡ n = length-take-le n pool.log le in
       let slots : at_slot n these ≡ at_slot n (readings serves [] earlier) ++ at_slot n (readings serves earlier later) =
       ap (λ v. at_slot n (readings serves [] v)) split ∙ ap (λ v. at_slot n v) (readings_append serves [] earlier later) ∙ slot_append n (readings serves [] earlier) (readings serves earlier later) in
-      list_cut calls_of salt start events pool serves served xs ys (log_cut calls_of salt start events pool serves served n)
-      ∙ ap (λ v. upto calls_of these 0 xs ++ (at_slot v these ++ tail_from calls_of these v ys)) long
-      ∙ ap (λ v. upto calls_of these 0 xs ++ (v ++ tail_from calls_of these n ys)) slots
-      ∙ ap (λ v. upto calls_of these 0 xs ++ v) (append_assoc (at_slot n (readings serves [] earlier)) (at_slot n (readings serves earlier later)) (tail_from calls_of these n ys))
-      ∙ sym (append_assoc (upto calls_of these 0 xs) (at_slot n (readings serves [] earlier)) (back n earlier later))
+      list_cut acts_of salt start events pool serves served xs ys (log_cut acts_of salt start events pool serves served n)
+      ∙ ap (λ v. upto acts_of these 0 xs ++ (at_slot v these ++ tail_from acts_of these v ys)) long
+      ∙ ap (λ v. upto acts_of these 0 xs ++ (v ++ tail_from acts_of these n ys)) slots
+      ∙ ap (λ v. upto acts_of these 0 xs ++ v) (append_assoc (at_slot n (readings serves [] earlier)) (at_slot n (readings serves earlier later)) (tail_from acts_of these n ys))
+      ∙ sym (append_assoc (upto acts_of these 0 xs) (at_slot n (readings serves [] earlier)) (back n earlier later))
 
   pub most_fits : (earlier later : List PoolEvent) → events ≡ earlier ++ later → most_given earlier ≤ length pool.log
-  most_fits earlier later split = most_least earlier (length pool.log) (λ j. given_fits calls_of salt start events pool j earlier later split)
+  most_fits earlier later split = most_least earlier (length pool.log) (λ j. given_fits acts_of salt start events pool j earlier later split)
 
   -- A call of a request in a list.
-  pub record Among (calls : List ListedCall) (x : RequestName) : Type 0 where
-    pub call : ListedCall
+  pub record Among (calls : List ListedAct) (x : RequestName) : Type 0 where
+    pub call : ListedAct
     pub there : Contains calls call
     pub named : call.request ≡ Some x
 
   front_place : (earlier later : List PoolEvent) (x : RequestName) (basis : Basis) (reply : Reply) → events ≡ earlier ++ at x (Answers x.id basis reply) ∷ later
-      → (p : Place calls_of salt start events pool serves served earlier x reply) → Among (front (most_given earlier) (earlier ++ at x (Answers x.id basis reply) ∷ [])) x
+      → (p : Place acts_of salt start events pool serves served earlier x reply) → Among (front (most_given earlier) (earlier ++ at x (Answers x.id basis reply) ∷ [])) x
   front_place earlier later x basis reply split p =
       let n = most_given earlier in
-      let call = listed_call calls_of salt start events pool serves served x p.timed in
+      let call = listed_call acts_of salt start events pool serves served x p.timed in
       let le : suc (length p.front) ≤ n = omega (arith, p.given, given_most x.instance earlier) in
       let taken : take n pool.log ≡ p.front ++ p.batch ∷ take (n - suc (length p.front)) p.back = ap (λ v. take n v) p.split ∙ take_past p.front p.batch p.back n le in
-      let here = contains_get (batch_calls calls_of these p.batch) p.position call (place_listed calls_of salt start events pool serves served earlier x reply p) in
+      let here = contains_get (batch_acts acts_of these p.batch) p.position call (place_listed acts_of salt start events pool serves served earlier x reply p) in
       record {
         call = call;
-        there = Contains-append_left (upto calls_of these 0 (take n pool.log)) (at_slot n (readings serves [] (earlier ++ at x (Answers x.id basis reply) ∷ []))) call
-            (subst (λ v. Contains (upto calls_of these 0 v) call) (sym taken) (batch_in_upto calls_of these 0 p.front p.batch (take (n - suc (length p.front)) p.back) call here));
+        there = Contains-append_left (upto acts_of these 0 (take n pool.log)) (at_slot n (readings serves [] (earlier ++ at x (Answers x.id basis reply) ∷ []))) call
+            (subst (λ v. Contains (upto acts_of these 0 v) call) (sym taken) (batch_in_upto acts_of these 0 p.front p.batch (take (n - suc (length p.front)) p.back) call here));
         named = refl;
       }
 
@@ -113,15 +113,15 @@ module _ (calls_of : List ℕ → List TimedCall) (salt : List ℕ) (start : Air
       let n = most_given earlier in
       let r = reading x.instance x.id g.made.slot g.made.timed in
       let answer = at x (Answers x.id basis reply) in
-      let whole = reading_split calls_of salt start events pool serves served earlier later x basis reply split g.made in
+      let whole = reading_split acts_of salt start events pool serves served earlier later x basis reply split g.made in
       let r1 = readings serves [] earlier in
       let r2 = readings serves (earlier ++ answer ∷ []) later in
       let there = contains_slot g.made.slot these r refl (contains_same these (r1 ++ r ∷ r2) r whole (contains_at r1 r r2)) in
       let long : length (take n pool.log) ≡ n = length-take-le n pool.log (most_fits earlier (answer ∷ later) split) in
       record {
         call = r.call;
-        there = Contains-append_left (upto calls_of these 0 (take n pool.log)) (at_slot n (readings serves [] (earlier ++ answer ∷ []))) r.call
-            (slot_in_upto calls_of these 0 (take n pool.log) g.made.slot r.call (omega arith) (omega (arith, below, long)) there);
+        there = Contains-append_left (upto acts_of these 0 (take n pool.log)) (at_slot n (readings serves [] (earlier ++ answer ∷ []))) r.call
+            (slot_in_upto acts_of these 0 (take n pool.log) g.made.slot r.call (omega arith) (omega (arith, below, long)) there);
         named = refl;
       }
   front_reading earlier later x basis reply split g (inr not_below) =
@@ -134,7 +134,7 @@ module _ (calls_of : List ℕ → List TimedCall) (salt : List ℕ) (start : Air
       let same : r.slot ≡ n = omega (arith, g.within, not_below) in
       record {
         call = r.call;
-        there = Contains-append_right (upto calls_of these 0 (take n pool.log)) (at_slot n (readings serves [] (earlier ++ answer ∷ []))) r.call
+        there = Contains-append_right (upto acts_of these 0 (take n pool.log)) (at_slot n (readings serves [] (earlier ++ answer ∷ []))) r.call
             (contains_slot n (readings serves [] (earlier ++ answer ∷ [])) r same (contains_same (readings serves [] (earlier ++ answer ∷ [])) (r1 ++ r ∷ []) r here (contains_at r1 r [])));
         named = refl;
       }
@@ -152,27 +152,27 @@ module _ (calls_of : List ℕ → List TimedCall) (salt : List ℕ) (start : Air
   abbrev pub NotReceived : RequestName → List PoolEvent → Type 0
   NotReceived y p = (c : Call) → Contains (events_at y.instance p) (Receives y.id c) → ⊥
 
-  late_slots : (n : ℕ) (y : RequestName) (p q : List PoolEvent) → events ≡ p ++ q → NotReceived y p → n ≤ most_given p → n ≤ length pool.log → (call : ListedCall) → call.request ≡ Some y
-      → InSlots calls_of these 0 (0 + length (take n pool.log)) call → ⊥
+  late_slots : (n : ℕ) (y : RequestName) (p q : List PoolEvent) → events ≡ p ++ q → NotReceived y p → n ≤ most_given p → n ≤ length pool.log → (call : ListedAct) → call.request ≡ Some y
+      → InSlots acts_of these 0 (0 + length (take n pool.log)) call → ⊥
   late_slots n y p q cut new le fits call named s =
       let o = in_slot s.slot these call s.among in
       let src = source serves [] events o.one o.among in
       let name : RequestName = record { instance = src.instance; id = src.id } in
-      let same = some_same name y (sym src.request ∙ ap (λ (v : ListedCall). v.request) o.call ∙ named) in
-      let late = reading_late calls_of salt start events pool serves served o.one src p q cut (subst (λ (v : RequestName). NotReceived v p) (sym same) new) in
+      let same = some_same name y (sym src.request ∙ ap (λ (v : ListedAct). v.request) o.call ∙ named) in
+      let late = reading_late acts_of salt start events pool serves served o.one src p q cut (subst (λ (v : RequestName). NotReceived v p) (sym same) new) in
       omega (arith, late, o.slot, s.below, le, length-take-le n pool.log fits)
 
-  late_batch : (n : ℕ) (y : RequestName) (p q : List PoolEvent) → events ≡ p ++ q → serves y.instance ≡ true → NotReceived y p → n ≤ most_given p → n ≤ length pool.log → (call : ListedCall) → call.request ≡ Some y
-      → InBatch calls_of these (take n pool.log) call → ⊥
+  late_batch : (n : ℕ) (y : RequestName) (p q : List PoolEvent) → events ≡ p ++ q → serves y.instance ≡ true → NotReceived y p → n ≤ most_given p → n ≤ length pool.log → (call : ListedAct) → call.request ≡ Some y
+      → InBatch acts_of these (take n pool.log) call → ⊥
   late_batch n y p q cut s new le fits call named i =
       let rest = drop n pool.log in
-      let split : pool.log ≡ i.front ++ i.batch ∷ (i.back ++ rest) = log_cut calls_of salt start events pool serves served n ∙ ap (λ v. v ++ rest) i.split ∙ append_assoc i.front (i.batch ∷ i.back) rest in
-      let there = contains_split (batch_calls calls_of these i.batch) call i.among in
-      let fact = batch_fact calls_of salt start events pool serves served i.front i.batch (i.back ++ rest) split these i.among.0 call (get_from_split (batch_calls calls_of these i.batch) i.among.0 call there) y named s in
-      let late = batch_late calls_of salt start events pool serves served i.front i.batch (i.back ++ rest) split call y fact p q cut new in
+      let split : pool.log ≡ i.front ++ i.batch ∷ (i.back ++ rest) = log_cut acts_of salt start events pool serves served n ∙ ap (λ v. v ++ rest) i.split ∙ append_assoc i.front (i.batch ∷ i.back) rest in
+      let there = contains_split (batch_acts acts_of these i.batch) call i.among in
+      let fact = batch_fact acts_of salt start events pool serves served i.front i.batch (i.back ++ rest) split these i.among.0 call (get_from_split (batch_acts acts_of these i.batch) i.among.0 call there) y named s in
+      let late = batch_late acts_of salt start events pool serves served i.front i.batch (i.back ++ rest) split call y fact p q cut new in
       omega (arith, late, le, length-take-le n pool.log fits, ap (λ v. length v) i.split, length-append i.front (i.batch ∷ i.back))
 
-  late_here : (n : ℕ) (y : RequestName) (earlier between q : List PoolEvent) → events ≡ (earlier ++ between) ++ q → NotReceived y (earlier ++ between) → (call : ListedCall) → call.request ≡ Some y
+  late_here : (n : ℕ) (y : RequestName) (earlier between q : List PoolEvent) → events ≡ (earlier ++ between) ++ q → NotReceived y (earlier ++ between) → (call : ListedAct) → call.request ≡ Some y
       → InSlot n (readings serves [] earlier) call → ⊥
   late_here n y earlier between q cut new call named o =
       let src = source serves [] earlier o.one o.among in
@@ -192,20 +192,20 @@ module _ (calls_of : List ℕ → List TimedCall) (salt : List ℕ) (start : Air
         request = src.request;
         unlogged = src.unlogged;
       } in
-      let fact = reading_fact calls_of salt start events pool serves served o.one grown in
+      let fact = reading_fact acts_of salt start events pool serves served o.one grown in
       let name : RequestName = record { instance = src.instance; id = src.id } in
-      let same = some_same name y (sym src.request ∙ ap (λ (v : ListedCall). v.request) o.call ∙ named) in
-      let received : Contains (events_at src.instance (earlier ++ between)) (Receives src.id o.one.call.timed.1) =
-      contains_same (events_at src.instance (earlier ++ between)) (events_at src.instance src.earlier ++ events_at src.instance (answer ∷ (src.later ++ between))) (Receives src.id o.one.call.timed.1)
+      let same = some_same name y (sym src.request ∙ ap (λ (v : ListedAct). v.request) o.call ∙ named) in
+      let received : Contains (events_at src.instance (earlier ++ between)) (Receives src.id fact.timed.1) =
+      contains_same (events_at src.instance (earlier ++ between)) (events_at src.instance src.earlier ++ events_at src.instance (answer ∷ (src.later ++ between))) (Receives src.id fact.timed.1)
       (ap (λ v. events_at src.instance v) more ∙ at_append src.instance src.earlier (answer ∷ (src.later ++ between)))
-      (Contains-append_left (events_at src.instance src.earlier) (events_at src.instance (answer ∷ (src.later ++ between))) (Receives src.id o.one.call.timed.1) fact.received) in
-      (subst (λ (v : RequestName). NotReceived v (earlier ++ between)) (sym same) new) o.one.call.timed.1 received
+      (Contains-append_left (events_at src.instance src.earlier) (events_at src.instance (answer ∷ (src.later ++ between))) (Receives src.id fact.timed.1) fact.received) in
+      (subst (λ (v : RequestName). NotReceived v (earlier ++ between)) (sym same) new) fact.timed.1 received
 
   pub not_in_front : (n : ℕ) (y : RequestName) (earlier between q : List PoolEvent) → events ≡ (earlier ++ between) ++ q → serves y.instance ≡ true → NotReceived y (earlier ++ between)
       → n ≤ most_given (earlier ++ between) → n ≤ length pool.log → Among (front n earlier) y → ⊥
   not_in_front n y earlier between q cut s new le fits a =
-      elim (Contains-append_cases (upto calls_of these 0 (take n pool.log)) (at_slot n (readings serves [] earlier)) a.call a.there) [
-        | inl up ↦ elim (in_upto calls_of these 0 (take n pool.log) a.call up) [
+      elim (Contains-append_cases (upto acts_of these 0 (take n pool.log)) (at_slot n (readings serves [] earlier)) a.call a.there) [
+        | inl up ↦ elim (in_upto acts_of these 0 (take n pool.log) a.call up) [
           | inl slots ↦ late_slots n y (earlier ++ between) q cut new le fits a.call a.named slots
           | inr batch ↦ late_batch n y (earlier ++ between) q cut s new le fits a.call a.named batch
         ]

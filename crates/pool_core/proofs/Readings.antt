@@ -8,8 +8,9 @@ use Rattle.std.proofs.lemmas.List.Concat.{flat_map-append}
 use Rattle.std.proofs.lemmas.List.Elements.{Contains-append_cases}
 use Rattle.service_step.specs.declared.reply.Reply.{Reply}
 use Rattle.service_calls.specs.Run.{TimedCall}
+use Rattle.pool_core.specs.Acts.{Act, Makes}
 use Rattle.pool_core.specs.Events.{AfterFirst, Answers, AsksForEnd, AtOnce, Basis, Fails, Gets, InPlace, InstanceEvent, LearnsEnd, Offers, PoolEvent, Receives, entries_given, events_at}
-use Rattle.pool_core.specs.OneList.{ListedCall, RequestName}
+use Rattle.pool_core.specs.OneList.{ListedAct, RequestName}
 use Rattle.pool_core.specs.Pool.{count_given}
 use Rattle.pool_core.specs.Serves.{times}
 use Rattle.pool_core.proofs.Lists.{contains_one, contains_none, count_append, count_no, count_yes}
@@ -58,29 +59,29 @@ most_least before m h = most_bound before before m h
 
 pub record Reading : Type 0 where
   pub slot : ℕ
-  pub call : ListedCall
+  pub call : ListedAct
 
 abbrev pub reading : (i id slot : ℕ) (timed : TimedCall) → Reading
 reading i id slot timed = record {
   slot = slot;
-  call = record { request = Some (record { instance = i; id = id }); timed = timed; logged = false };
+  call = record { request = Some (record { instance = i; id = id }); act = Makes timed; logged = false };
 }
 
 -- Holds if a reading by this basis stands there with this call.
-abbrev pub IsBasis : List PoolEvent → Basis → ℕ → TimedCall → Type 0
-IsBasis before InPlace slot timed = ⊥
-IsBasis before (AfterFirst count call) slot timed = (slot ≡ count) × (timed ≡ call)
-IsBasis before (AtOnce call) slot timed = (slot ≡ most_given before) × (timed ≡ call)
+abbrev pub IsBasis : List PoolEvent → Basis → ℕ → Act → Type 0
+IsBasis before InPlace slot act = ⊥
+IsBasis before (AfterFirst count timed) slot act = (slot ≡ count) × (act ≡ Makes timed)
+IsBasis before (AtOnce timed) slot act = (slot ≡ most_given before) × (act ≡ Makes timed)
 
 -- Returns true if a call is of this request.
 abbrev pub is_named : RequestName → Option RequestName → Bool
 is_named x None = false
 is_named x (Some y) = (x.instance == y.instance) && (x.id == y.id)
 
-abbrev pub is_request : RequestName → ListedCall → Bool
+abbrev pub is_request : RequestName → ListedAct → Bool
 is_request x call = is_named x call.request
 
-pub request_same : (x : RequestName) (call : ListedCall) → call.request ≡ Some x → is_request x call ≡ true
+pub request_same : (x : RequestName) (call : ListedAct) → call.request ≡ Some x → is_request x call ≡ true
 request_same x call h = ap (λ v. is_named x v) h ∙ ap (λ b. b && (x.id == x.id)) (same_number x.instance) ∙ same_number x.id
 
 module _ (serves : ℕ → Bool) where
@@ -113,7 +114,7 @@ module _ (serves : ℕ → Bool) where
     pub later : List PoolEvent
     pub split : es ≡ earlier ++ event_of instance (Answers id basis reply) ∷ later
     pub serves_it : serves instance ≡ true
-    pub is_basis : IsBasis (before ++ earlier) basis r.slot r.call.timed
+    pub is_basis : IsBasis (before ++ earlier) basis r.slot r.call.act
     pub request : r.call.request ≡ Some (record { instance = instance; id = id })
     pub unlogged : r.call.logged ≡ false
 
@@ -127,13 +128,13 @@ module _ (serves : ℕ → Bool) where
     later = s.later;
     split = ap (λ v. e ∷ v) s.split;
     serves_it = s.serves_it;
-    is_basis = subst (λ v. IsBasis v s.basis r.slot r.call.timed) (append_assoc before (e ∷ []) s.earlier) s.is_basis;
+    is_basis = subst (λ v. IsBasis v s.basis r.slot r.call.act) (append_assoc before (e ∷ []) s.earlier) s.is_basis;
     request = s.request;
     unlogged = s.unlogged;
   }
 
   -- One event.
-  source_if : (before : List PoolEvent) (i id : ℕ) (basis : Basis) (reply : Reply) (es : List PoolEvent) (made r : Reading) → IsBasis before basis made.slot made.call.timed
+  source_if : (before : List PoolEvent) (i id : ℕ) (basis : Basis) (reply : Reply) (es : List PoolEvent) (made r : Reading) → IsBasis before basis made.slot made.call.act
       → made.call.request ≡ Some (record { instance = i; id = id }) → made.call.logged ≡ false
       → (b : Bool) → serves i ≡ b → Contains (if b then made ∷ [] else []) r → Source before (event_of i (Answers id basis reply) ∷ es) r
   source_if before i id basis reply es made r is named unlogged false s h = contains_none r h
@@ -148,7 +149,7 @@ module _ (serves : ℕ → Bool) where
         later = es;
         split = refl;
         serves_it = s;
-        is_basis = subst (λ (v : List PoolEvent). IsBasis v basis r.slot r.call.timed) (sym (append-nil before)) (subst (λ (v : Reading). IsBasis before basis v.slot v.call.timed) e is);
+        is_basis = subst (λ (v : List PoolEvent). IsBasis v basis r.slot r.call.act) (sym (append-nil before)) (subst (λ (v : Reading). IsBasis before basis v.slot v.call.act) e is);
         request = sym (ap (λ (v : Reading). v.call.request) e) ∙ named;
         unlogged = sym (ap (λ (v : Reading). v.call.logged) e) ∙ unlogged;
       }

@@ -5,7 +5,7 @@ use Rattle.std.proofs.lemmas.List.{append-nil}
 use Rattle.std.proofs.lemmas.List.Concat.{flat_map-append}
 use Rattle.entity_core.specs.Airspace.{Airspace}
 use Rattle.policy_core.specs.declared.call.Call.{Call}
-use Rattle.service_calls.specs.Run.{TimedCall}
+use Rattle.pool_core.specs.Acts.{Act, Makes, Purges}
 use Rattle.pool_core.specs.Events.{AfterFirst, Answers, AsksForEnd, AtOnce, Fails, Gets, InPlace, InstanceEvent, LearnsEnd, Offers, Receives}
 use Rattle.pool_core.specs.Serves.{AllMayFollow, AreOpen, IsOpen, MayFollow, ServesPool, ended_in, ids_ended, ids_offered, offered_in, times}
 use Rattle.pool_core.proofs.Lists.{count_append, count_no, count_yes}
@@ -13,27 +13,27 @@ use Rattle.pool_core.proofs.Projections.{same_number}
 
 -- ---- single events
 
-module _ (calls_of : List ℕ → List TimedCall) (salt : List ℕ) (start : Airspace) (me : ℕ) where
-  all_at : (before p : List InstanceEvent) (e : InstanceEvent) (q : List InstanceEvent) → AllMayFollow calls_of salt start me before (p ++ e ∷ q) → MayFollow calls_of salt start me (before ++ p) e
-  all_at before [] e q h = subst (λ v. MayFollow calls_of salt start me v e) (sym (append-nil before)) h.0
-  all_at before (y ∷ p) e q h = subst (λ v. MayFollow calls_of salt start me v e) (append_assoc before (y ∷ []) p) (all_at (before ++ y ∷ []) p e q h.1)
+module _ (acts_of : List ℕ → List Act) (salt : List ℕ) (start : Airspace) (me : ℕ) where
+  all_at : (before p : List InstanceEvent) (e : InstanceEvent) (q : List InstanceEvent) → AllMayFollow acts_of salt start me before (p ++ e ∷ q) → MayFollow acts_of salt start me (before ++ p) e
+  all_at before [] e q h = subst (λ v. MayFollow acts_of salt start me v e) (sym (append-nil before)) h.0
+  all_at before (y ∷ p) e q h = subst (λ v. MayFollow acts_of salt start me v e) (append_assoc before (y ∷ []) p) (all_at (before ++ y ∷ []) p e q h.1)
 
-  pub follows_at : (events p : List InstanceEvent) (e : InstanceEvent) (q : List InstanceEvent) → ServesPool calls_of salt start me events → events ≡ p ++ e ∷ q → MayFollow calls_of salt start me p e
-  follows_at events p e q h split = all_at [] p e q (subst (λ v. ServesPool calls_of salt start me v) split h)
+  pub follows_at : (events p : List InstanceEvent) (e : InstanceEvent) (q : List InstanceEvent) → ServesPool acts_of salt start me events → events ≡ p ++ e ∷ q → MayFollow acts_of salt start me p e
+  follows_at events p e q h split = all_at [] p e q (subst (λ v. ServesPool acts_of salt start me v) split h)
 
-  all_after : (before p q : List InstanceEvent) → AllMayFollow calls_of salt start me before (p ++ q) → AllMayFollow calls_of salt start me (before ++ p) q
-  all_after before [] q h = subst (λ v. AllMayFollow calls_of salt start me v q) (sym (append-nil before)) h
-  all_after before (y ∷ p) q h = subst (λ v. AllMayFollow calls_of salt start me v q) (append_assoc before (y ∷ []) p) (all_after (before ++ y ∷ []) p q h.1)
+  all_after : (before p q : List InstanceEvent) → AllMayFollow acts_of salt start me before (p ++ q) → AllMayFollow acts_of salt start me (before ++ p) q
+  all_after before [] q h = subst (λ v. AllMayFollow acts_of salt start me v q) (sym (append-nil before)) h
+  all_after before (y ∷ p) q h = subst (λ v. AllMayFollow acts_of salt start me v q) (append_assoc before (y ∷ []) p) (all_after (before ++ y ∷ []) p q h.1)
 
-  pub serves_after : (p q : List InstanceEvent) → ServesPool calls_of salt start me (p ++ q) → AllMayFollow calls_of salt start me p q
+  pub serves_after : (p q : List InstanceEvent) → ServesPool acts_of salt start me (p ++ q) → AllMayFollow acts_of salt start me p q
   serves_after p q h = all_after [] p q h
 
-  follow_then : (before p q : List InstanceEvent) → AllMayFollow calls_of salt start me before p → AllMayFollow calls_of salt start me (before ++ p) q → AllMayFollow calls_of salt start me before (p ++ q)
-  follow_then before [] q h k = subst (λ v. AllMayFollow calls_of salt start me v q) (append-nil before) k
-  follow_then before (e ∷ p) q h k = (h.0, follow_then (before ++ e ∷ []) p q h.1 (subst (λ v. AllMayFollow calls_of salt start me v q) (sym (append_assoc before (e ∷ []) p)) k))
+  follow_then : (before p q : List InstanceEvent) → AllMayFollow acts_of salt start me before p → AllMayFollow acts_of salt start me (before ++ p) q → AllMayFollow acts_of salt start me before (p ++ q)
+  follow_then before [] q h k = subst (λ v. AllMayFollow acts_of salt start me v q) (append-nil before) k
+  follow_then before (e ∷ p) q h k = (h.0, follow_then (before ++ e ∷ []) p q h.1 (subst (λ v. AllMayFollow acts_of salt start me v q) (sym (append_assoc before (e ∷ []) p)) k))
 
   -- An instance that served, and goes on.
-  pub serves_then : (p q : List InstanceEvent) → ServesPool calls_of salt start me p → AllMayFollow calls_of salt start me p q → ServesPool calls_of salt start me (p ++ q)
+  pub serves_then : (p q : List InstanceEvent) → ServesPool acts_of salt start me p → AllMayFollow acts_of salt start me p q → ServesPool acts_of salt start me (p ++ q)
   serves_then p q h k = follow_then [] p q h k
 
 -- ---- requests that were offered or answered as readings
@@ -79,17 +79,18 @@ open_case : (id : ℕ) (before : List InstanceEvent) (k : ℕ) (ids : List ℕ) 
 open_case id before k ids call is rest some true h = let e : id ≡ k = grind (arith, h) in ap (λ v. ends v before) e ∙ is.unended
 open_case id before k ids call is rest some false h = rest (omega (arith, some, count_no (λ n. id == n) k ids h))
 
-open_unended : (id : ℕ) (before : List InstanceEvent) (ids : List ℕ) (cs : List TimedCall) → AreOpen before ids cs → 1 ≤ times id ids → ends id before ≡ 0
-open_unended id before [] cs h some = absurd (omega (arith, some))
+open_unended : (id : ℕ) (before : List InstanceEvent) (ids : List ℕ) (xs : List Act) → AreOpen before ids xs → 1 ≤ times id ids → ends id before ≡ 0
+open_unended id before [] xs h some = absurd (omega (arith, some))
 open_unended id before (k ∷ ids) [] h some = absurd h
-open_unended id before (k ∷ ids) (c ∷ cs) h some = open_case id before k ids c.1 h.0 (open_unended id before ids cs h.1) some (id == k) refl
+open_unended id before (k ∷ ids) (Makes c ∷ xs) h some = open_case id before k ids c.1 h.0 (open_unended id before ids xs h.1) some (id == k) refl
+open_unended id before (k ∷ ids) (Purges until ∷ xs) h some = absurd h
 
 -- Some or none.
 some_or_none : (n : ℕ) → (1 ≤ n) ⊎ (n ≡ 0)
 some_or_none zero = inr refl
 some_or_none (suc n) = inl (omega arith)
 
-offers_once : (before : List InstanceEvent) (ids : List ℕ) (cs : List TimedCall) (id : ℕ) → AreOpen before ids cs → times id (ids_offered before ++ ids) ≤ 1 → uses id before ≤ 1
+offers_once : (before : List InstanceEvent) (ids : List ℕ) (cs : List Act) (id : ℕ) → AreOpen before ids cs → times id (ids_offered before ++ ids) ≤ 1 → uses id before ≤ 1
     → times id ids + uses id before ≤ 1
 offers_once before ids cs id calls once le = elim (some_or_none (times id ids)) [
   | inl some ↦ omega (arith, once, times_append id (ids_offered before) ids, open_unended id before ids cs calls some, read_ended id before)
@@ -104,7 +105,7 @@ reads_once before id x unended unoffered le true is =
     omega (arith, none, count_yes (λ k. id == k) x [] is)
 reads_once before id x unended unoffered le false is = omega (arith, le, count_no (λ k. id == k) x [] is)
 
-none_offered : (before : List InstanceEvent) (ids : List ℕ) (cs : List TimedCall) (id : ℕ) → AreOpen before ids cs → 1 ≤ ends id before → times id ids ≡ 0
+none_offered : (before : List InstanceEvent) (ids : List ℕ) (cs : List Act) (id : ℕ) → AreOpen before ids cs → 1 ≤ ends id before → times id ids ≡ 0
 none_offered before ids cs id calls ended = elim (some_or_none (times id ids)) [
   | inl some ↦ absurd (omega (arith, ended, open_unended id before ids cs calls some))
   | inr none ↦ none
@@ -117,11 +118,11 @@ none_read before id x unended ended true is =
     absurd (omega (arith, same, ended))
 none_read before id x unended ended false is = count_no (λ k. id == k) x [] is
 
-module _ (calls_of : List ℕ → List TimedCall) (salt : List ℕ) (start : Airspace) (me : ℕ) (id : ℕ) where
+module _ (acts_of : List ℕ → List Act) (salt : List ℕ) (start : Airspace) (me : ℕ) (id : ℕ) where
   -- One more event uses the request once at most, and only if it was unused.
-  once_more : (before : List InstanceEvent) (e : InstanceEvent) → MayFollow calls_of salt start me before e → uses id before ≤ 1 → times id (offered_in e) + times id (read_in e) + uses id before ≤ 1
+  once_more : (before : List InstanceEvent) (e : InstanceEvent) → MayFollow acts_of salt start me before e → uses id before ≤ 1 → times id (offered_in e) + times id (read_in e) + uses id before ≤ 1
   once_more before (Receives x call) h le = omega (arith, le)
-  once_more before (Offers ids bytes) h le = omega (arith, offers_once before ids (calls_of bytes) id h.calls (h.once id) le)
+  once_more before (Offers ids bytes) h le = omega (arith, offers_once before ids (acts_of bytes) id h.calls (h.once id) le)
   once_more before (Gets entry) h le = omega (arith, le)
   once_more before (AsksForEnd question) h le = omega (arith, le)
   once_more before (LearnsEnd question count) h le = omega (arith, le)
@@ -133,20 +134,20 @@ module _ (calls_of : List ℕ → List TimedCall) (salt : List ℕ) (start : Air
   uses_more : (before : List InstanceEvent) (e : InstanceEvent) → uses id (before ++ e ∷ []) ≡ times id (offered_in e) + times id (read_in e) + uses id before
   uses_more before e = omega (arith, times_more id offered_in before e, times_more id read_in before e)
 
-  once_all : (before es : List InstanceEvent) → AllMayFollow calls_of salt start me before es → uses id before ≤ 1 → uses id (before ++ es) ≤ 1
+  once_all : (before es : List InstanceEvent) → AllMayFollow acts_of salt start me before es → uses id before ≤ 1 → uses id (before ++ es) ≤ 1
   once_all before [] h le = subst (λ v. uses id v ≤ 1) (sym (append-nil before)) le
   once_all before (e ∷ es) h le =
       let more : uses id (before ++ e ∷ []) ≤ 1 = omega (arith, uses_more before e, once_more before e h.0 le) in
       subst (λ v. uses id v ≤ 1) (append_assoc before (e ∷ []) es) (once_all (before ++ e ∷ []) es h.1 more)
 
   -- A request is offered or answered as a reading once at most.
-  pub used_once : (events : List InstanceEvent) → ServesPool calls_of salt start me events → uses id events ≤ 1
+  pub used_once : (events : List InstanceEvent) → ServesPool acts_of salt start me events → uses id events ≤ 1
   used_once events h = once_all [] events h (omega arith)
 
   -- A request that ended is not used any more.
-  none_more : (before : List InstanceEvent) (e : InstanceEvent) → MayFollow calls_of salt start me before e → 1 ≤ ends id before → times id (offered_in e) + times id (read_in e) ≡ 0
+  none_more : (before : List InstanceEvent) (e : InstanceEvent) → MayFollow acts_of salt start me before e → 1 ≤ ends id before → times id (offered_in e) + times id (read_in e) ≡ 0
   none_more before (Receives x call) h ended = omega arith
-  none_more before (Offers ids bytes) h ended = omega (arith, none_offered before ids (calls_of bytes) id h.calls ended)
+  none_more before (Offers ids bytes) h ended = omega (arith, none_offered before ids (acts_of bytes) id h.calls ended)
   none_more before (Gets entry) h ended = omega arith
   none_more before (AsksForEnd question) h ended = omega arith
   none_more before (LearnsEnd question count) h ended = omega arith
@@ -155,7 +156,7 @@ module _ (calls_of : List ℕ → List TimedCall) (salt : List ℕ) (start : Air
   none_more before (Answers x (AtOnce timed) reply) h ended = omega (arith, none_read before id x h.0.unended ended (id == x) refl)
   none_more before (Fails x) h ended = omega arith
 
-  unused_after : (before es : List InstanceEvent) → AllMayFollow calls_of salt start me before es → 1 ≤ ends id before → uses id (before ++ es) ≡ uses id before
+  unused_after : (before es : List InstanceEvent) → AllMayFollow acts_of salt start me before es → 1 ≤ ends id before → uses id (before ++ es) ≡ uses id before
   unused_after before [] h ended = ap (λ v. uses id v) (append-nil before)
   unused_after before (e ∷ es) h ended =
       let still : 1 ≤ ends id (before ++ e ∷ []) = omega (arith, ended, times_more id ended_in before e) in
@@ -163,13 +164,13 @@ module _ (calls_of : List ℕ → List TimedCall) (salt : List ℕ) (start : Air
       sym (ap (λ v. uses id v) (append_assoc before (e ∷ []) es)) ∙ unused_after (before ++ e ∷ []) es h.1 still ∙ same
 
   -- A request that failed before it was offered is never used.
-  pub never_used : (events p q : List InstanceEvent) → ServesPool calls_of salt start me events → events ≡ p ++ Fails id ∷ q → times id (ids_offered p) ≡ 0 → uses id events ≡ 0
+  pub never_used : (events p q : List InstanceEvent) → ServesPool acts_of salt start me events → events ≡ p ++ Fails id ∷ q → times id (ids_offered p) ≡ 0 → uses id events ≡ 0
   never_used events p q h split unoffered =
-      let all = subst (λ v. ServesPool calls_of salt start me v) (split ∙ sym (append_assoc p (Fails id ∷ []) q)) h in
+      let all = subst (λ v. ServesPool acts_of salt start me v) (split ∙ sym (append_assoc p (Fails id ∷ []) q)) h in
       let failed : ends id (p ++ Fails id ∷ []) ≡ ends id p + times id (id ∷ []) = times_more id ended_in p (Fails id) in
       let one : times id (id ∷ []) ≡ 1 = count_yes (λ k. id == k) id [] (same_number id) in
-      let unended : ends id p ≡ 0 = (follows_at calls_of salt start me events p (Fails id) q h split).1.unended in
+      let unended : ends id p ≡ 0 = (follows_at acts_of salt start me events p (Fails id) q h split).1.unended in
       let same : uses id (p ++ Fails id ∷ []) ≡ uses id p = omega (arith, uses_more p (Fails id)) in
       ap (λ v. uses id v) (split ∙ sym (append_assoc p (Fails id ∷ []) q))
-      ∙ unused_after (p ++ Fails id ∷ []) q (serves_after calls_of salt start me (p ++ Fails id ∷ []) q all) (omega (arith, failed, one))
+      ∙ unused_after (p ++ Fails id ∷ []) q (serves_after acts_of salt start me (p ++ Fails id ∷ []) q all) (omega (arith, failed, one))
       ∙ same ∙ omega (arith, unoffered, unended, read_ended id p)

@@ -1,9 +1,8 @@
 -- Lemmas: a new instance that is given the first entries at once.
-use Rattle.std.proofs.Common.{◌≡◌, ◌==◌, ℕ, zero, suc, ◌+◌, ◌≤◌, Bool, true, false, List, [], ◌∷◌, ◌++◌, length, map, take, drop, Some, slice_get, refl, sym, ap, subst, ◌∙◌, append_assoc, arith, length-append}
-use Rattle.std.specs.Prelude.{if◌then◌else◌}
+use Rattle.std.proofs.Common.{◌≡◌, ℕ, List, [], ◌∷◌, ◌++◌, length, map, take, drop, Some, slice_get, refl, sym, ap, subst, ◌∙◌, append_assoc, arith, length-append}
 use Rattle.std.proofs.lemmas.List.{append-nil, take-append-drop}
 use Rattle.pool_core.specs.Events.{Batch, Gets, PoolEvent, entries_given, events_at}
-use Rattle.pool_core.specs.Pool.{IsPool, count_given, entry_of_batch}
+use Rattle.pool_core.specs.Pool.{count_given, entry_of_batch}
 use Rattle.pool_core.specs.Starts.{MayStartBehind, gets_of}
 use Rattle.pool_core.proofs.Atomic.{Shares, get_untold, gives_one, shares_more}
 use Rattle.pool_core.proofs.Lists.{get_at}

@@ -14,9 +14,9 @@ pub data Basis : Type 0 where
   AtOnce : (timed : TimedCall) → Basis
 
 -- An event at one instance. A request, which has an id, was received whole and makes this call. A
--- batch of the calls of these requests was offered to the log, in these bytes. The log gave its
--- next entry, was asked for its end, or answered. A request got this reply, or failed: then its
--- client learns nothing about its effect.
+-- batch of the calls of these requests was offered to the log, in these bytes, or a purge, which
+-- has no requests. The log gave its next entry, was asked for its end, or answered. A request got
+-- this reply, or failed: then its client learns nothing about its effect.
 pub data InstanceEvent : Type 0 where
   Receives : (id : ℕ) → (call : Call) → InstanceEvent
   Offers : (ids : List ℕ) → (bytes : List ℕ) → InstanceEvent
@@ -56,7 +56,7 @@ entry_in event = []
 abbrev pub entries_given : List InstanceEvent → List LogEntry
 entries_given events = flat_map entry_in events
 
--- A batch that an instance offered: the ids of its requests, and its bytes.
+-- A batch that an instance offered, or a purge: the ids of its requests, and its bytes.
 pub record Batch : Type 0 where
   pub writer : ℕ
   pub ids : List ℕ

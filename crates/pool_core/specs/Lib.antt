@@ -1,4 +1,5 @@
 pub mod Log
+pub mod Acts
 pub mod Events
 pub mod Pool
 pub mod Serves
@@ -7,3 +8,6 @@ pub mod FromEmpty
 pub mod Atomic
 pub mod Unlogged
 pub mod Starts
+pub mod Blind
+pub mod Unseen
+pub mod Purging

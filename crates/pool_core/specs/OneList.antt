@@ -1,37 +1,38 @@
--- The calls of a pool as one list.
+-- The calls and purges of a pool as one list.
 use Rattle.std.specs.Prelude.{◌≡◌, ◌<◌, ◌≤◌, ℕ, Bool, true, false, List, ◌∷◌, ◌++◌, Contains, filter, map, take, Option, Some, slice_get}
 use Rattle.entity_core.specs.Airspace.{Airspace}
 use Rattle.policy_core.specs.declared.call.Call.{Call}
 use Rattle.service_step.specs.declared.reply.Reply.{Reply}
-use Rattle.service_calls.specs.Run.{TimedCall, airspace_after, replies_of}
+use Rattle.service_calls.specs.Run.{TimedCall}
+use Rattle.pool_core.specs.Acts.{Act, Makes, airspace_by, replies_by}
 use Rattle.pool_core.specs.Events.{Answers, Basis, Batch, Fails, InstanceEvent, PoolEvent, Receives, entries_given, events_at}
 use Rattle.pool_core.specs.Pool.{IsPool, count_given, entry_of_batch}
-use Rattle.pool_core.specs.Serves.{ServesPool, airspace_at, calls_in, ids_offered, times}
+use Rattle.pool_core.specs.Serves.{ServesPool, airspace_at, acts_in, ids_offered, times}
 
 -- A request of a pool: the instance that received it, and its id there.
 pub record RequestName : Type 0 where
   pub instance : ℕ
   pub id : ℕ
 
--- A call of the list, with its request if it is known. `logged` says whether it is a call of an
--- entry in the log.
-pub record ListedCall : Type 0 where
+-- An act of the list. A call has its request, if it is known. `logged` says whether it is an act of
+-- an entry in the log.
+pub record ListedAct : Type 0 where
   pub request : Option RequestName
-  pub timed : TimedCall
+  pub act : Act
   pub logged : Bool
 
-abbrev pub timed_calls : List ListedCall → List TimedCall
-timed_calls list = map (λ call. call.timed) list
+abbrev pub listed_acts : List ListedAct → List Act
+listed_acts list = map (λ listed. listed.act) list
 
 -- The event that this happened at the instance of a request.
 abbrev pub at : RequestName → InstanceEvent → PoolEvent
 at x event = record { instance = x.instance; event = event }
 
--- Holds if the call of a request is at a position of the list.
-pub record Stands (list : List ListedCall) (x : RequestName) (position : ℕ) : Type 0 where
-  pub call : ListedCall
-  pub there : slice_get list position ≡ Some call
-  pub of : call.request ≡ Some x
+-- Holds if the act of a request is at a position of the list.
+pub record Stands (list : List ListedAct) (x : RequestName) (position : ℕ) : Type 0 where
+  pub listed : ListedAct
+  pub there : slice_get list position ≡ Some listed
+  pub of : listed.request ≡ Some x
 
 -- Holds if a request was answered before another was received.
 pub record AnsweredBefore (events : List PoolEvent) (x y : RequestName) : Type 0 where
@@ -51,27 +52,30 @@ pub record FailedUnsent (events : List PoolEvent) (x : RequestName) : Type 0 whe
   pub split : events ≡ before ++ at x (Fails x.id) ∷ after
   pub unoffered : times x.id (ids_offered (events_at x.instance before)) ≡ 0
 
-module _ (calls_of : List ℕ → List TimedCall) (salt : List ℕ) (start : Airspace) where
+module _ (acts_of : List ℕ → List Act) (salt : List ℕ) (start : Airspace) where
   -- Holds if a request is at some position, and its reply is that of the policy there.
-  pub record StandsWith (list : List ListedCall) (x : RequestName) (reply : Reply) : Type 0 where
+  pub record StandsWith (list : List ListedAct) (x : RequestName) (reply : Reply) : Type 0 where
     pub position : ℕ
     pub stands : Stands list x position
-    pub is_policy : slice_get (replies_of salt start (timed_calls list)) position ≡ Some reply
+    pub is_policy : slice_get (replies_by salt start (listed_acts list)) position
+        ≡ Some (Some reply)
 
-  -- Holds if the calls of the log, with readings between them, are one list of calls for the
+  -- Holds if the acts of the log, with readings between them, are one list of acts for the
   -- instances that serve.
   pub record IsOneList (serves : ℕ → Bool) (events : List PoolEvent) (log : List Batch)
-      (list : List ListedCall) : Type 0 where
-    -- The list has the calls of the log, in their order.
-    pub logged : timed_calls (filter (λ call. call.logged) list)
-        ≡ calls_in calls_of (map entry_of_batch log)
-    -- Any other call was answered.
-    pub others : (n : ℕ) (call : ListedCall) → slice_get list n ≡ Some call → call.logged ≡ false
-        → (x : RequestName) × (call.request ≡ Some x) × (serves x.instance ≡ true)
+      (list : List ListedAct) : Type 0 where
+    -- The list has the acts of the log, in their order.
+    pub logged : listed_acts (filter (λ listed. listed.logged) list)
+        ≡ acts_in acts_of (map entry_of_batch log)
+    -- Any other act is a call that was answered. So each purge of the list is one of the log.
+    pub others : (n : ℕ) (listed : ListedAct) → slice_get list n ≡ Some listed
+        → listed.logged ≡ false → ((timed : TimedCall) × (listed.act ≡ Makes timed))
+        × (x : RequestName) × (listed.request ≡ Some x) × (serves x.instance ≡ true)
         × ((basis : Basis) × (reply : Reply) × Contains events (at x (Answers x.id basis reply)))
-    -- The call of a request is the one that was received.
+    -- The act of a request is the call that was received.
     pub received : (x : RequestName) → serves x.instance ≡ true → (n : ℕ) (s : Stands list x n)
-        → Contains events (at x (Receives x.id s.call.timed.1))
+        → (timed : TimedCall) × (s.listed.act ≡ Makes timed)
+        × Contains events (at x (Receives x.id timed.1))
     -- A request that was answered is in the list, and its reply is that of the policy there.
     pub answered : (x : RequestName) (basis : Basis) (reply : Reply) → serves x.instance ≡ true
         → Contains events (at x (Answers x.id basis reply)) → StandsWith list x reply
@@ -86,14 +90,14 @@ module _ (calls_of : List ℕ → List TimedCall) (salt : List ℕ) (start : Air
     -- The airspace after entries that an instance was given is the one after a beginning of the
     -- list.
     pub held : (i count : ℕ) → count ≤ count_given i events → (n : ℕ)
-        × (airspace_after salt start (timed_calls (take n list))
-        ≡ airspace_at calls_of salt start (entries_given (events_at i events)) count)
+        × (airspace_by salt start (listed_acts (take n list))
+        ≡ airspace_at acts_of salt start (entries_given (events_at i events)) count)
 
--- States that the calls of a pool are one list, in which each reply is that of the policy. It
--- concerns the requests of the instances that serve the pool. The others may write and answer
--- anything.
+-- States that the calls and purges of a pool are one list, in which each reply is that of the
+-- policy. It concerns the requests of the instances that serve the pool. The others may write and
+-- answer anything.
 abbrev pub PoolIsOneList : Type 0
-PoolIsOneList = (calls_of : List ℕ → List TimedCall) (salt : List ℕ) (start : Airspace)
+PoolIsOneList = (acts_of : List ℕ → List Act) (salt : List ℕ) (start : Airspace)
     (serves : ℕ → Bool) (events : List PoolEvent) (pool : IsPool events)
-    → ((i : ℕ) → serves i ≡ true → ServesPool calls_of salt start i (events_at i events))
-    → (list : List ListedCall) × IsOneList calls_of salt start serves events pool.log list
+    → ((i : ℕ) → serves i ≡ true → ServesPool acts_of salt start i (events_at i events))
+    → (list : List ListedAct) × IsOneList acts_of salt start serves events pool.log list

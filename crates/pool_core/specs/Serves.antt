@@ -5,7 +5,8 @@ use Rattle.entity_core.specs.Airspace.{Airspace}
 use Rattle.policy_core.specs.declared.call.Call.{Call}
 use Rattle.service_step.specs.declared.reply.Reply.{Reply}
 use Rattle.service_step.specs.Step.{step}
-use Rattle.service_calls.specs.Run.{TimedCall, airspace_after, replies_of}
+use Rattle.service_calls.specs.Run.{TimedCall}
+use Rattle.pool_core.specs.Acts.{Act, Makes, Purges, airspace_by, replies_by}
 use Rattle.pool_core.specs.Events.{AfterFirst, Answers, AsksForEnd, AtOnce, Basis, Batch, Fails, Gets, InPlace, InstanceEvent, LearnsEnd, Offers, Receives, batches_offered, entries_given}
 use Rattle.pool_core.specs.Log.{LogEntry}
 
@@ -37,12 +38,16 @@ pub record IsOpen (before : List InstanceEvent) (id : ℕ) (call : Call) : Type 
   pub received : Contains before (Receives id call)
   pub unended : times id (ids_ended before) ≡ 0
 
--- Holds if these are the ids of open requests with these calls, one for each.
-abbrev pub AreOpen : List InstanceEvent → List ℕ → List TimedCall → Type 0
+-- Holds if these are the ids of open requests with the calls of these acts, one for each. Purges,
+-- which have no ids, come after the calls.
+abbrev pub AreOpen : List InstanceEvent → List ℕ → List Act → Type 0
 AreOpen before [] [] = Unit {0}
-AreOpen before [] (c ∷ cs) = ⊥
+AreOpen before [] (Makes timed ∷ acts) = ⊥
+AreOpen before [] (Purges until ∷ acts) = AreOpen before [] acts
 AreOpen before (id ∷ ids) [] = ⊥
-AreOpen before (id ∷ ids) (c ∷ cs) = IsOpen before id c.1 × AreOpen before ids cs
+AreOpen before (id ∷ ids) (Makes timed ∷ acts) =
+    IsOpen before id timed.1 × AreOpen before ids acts
+AreOpen before (id ∷ ids) (Purges until ∷ acts) = ⊥
 
 -- Holds if the instance asked for the end of the log after it received the request, and learned an
 -- end that these entries reach.
@@ -60,18 +65,18 @@ pub record ReachesEnd (before : List InstanceEvent) (id : ℕ) (call : Call) (co
 
 -- ---- events
 
--- The calls of entries. Bytes that spell no batch have none.
-abbrev pub calls_in : (calls_of : List ℕ → List TimedCall) → List LogEntry → List TimedCall
-calls_in calls_of entries = flat_map (λ entry. calls_of entry.bytes) entries
+-- The acts of entries. Bytes that spell neither a batch nor a purge have none.
+abbrev pub acts_in : (acts_of : List ℕ → List Act) → List LogEntry → List Act
+acts_in acts_of entries = flat_map (λ entry. acts_of entry.bytes) entries
 
-module _ (calls_of : List ℕ → List TimedCall) (salt : List ℕ) (start : Airspace) where
+module _ (acts_of : List ℕ → List Act) (salt : List ℕ) (start : Airspace) where
   -- The airspace after the first entries.
   abbrev pub airspace_at : List LogEntry → ℕ → Airspace
-  airspace_at entries count = airspace_after salt start (calls_in calls_of (take count entries))
+  airspace_at entries count = airspace_by salt start (acts_in acts_of (take count entries))
 
   -- Holds if the bytes have the calls of these open requests, and none was offered before.
   pub record MayOffer (before : List InstanceEvent) (ids bytes : List ℕ) : Type 0 where
-    pub calls : AreOpen before ids (calls_of bytes)
+    pub calls : AreOpen before ids (acts_of bytes)
     pub once : (id : ℕ) → times id (ids_offered before ++ ids) ≤ 1
 
   module _ (me : ℕ) where
@@ -87,9 +92,9 @@ module _ (calls_of : List ℕ → List TimedCall) (salt : List ℕ) (start : Air
           (count_by (λ entry. me == entry.writer) (take index (entries_given before))) ≡ Some batch
       pub position : ℕ
       pub asked : slice_get batch.ids position ≡ Some id
-      pub is_policy : slice_get (replies_of salt start (calls_in calls_of (entries_given before)))
-          (length (calls_in calls_of (take index (entries_given before))) + position)
-          ≡ Some reply
+      pub is_policy : slice_get (replies_by salt start (acts_in acts_of (entries_given before)))
+          (length (acts_in acts_of (take index (entries_given before))) + position)
+          ≡ Some (Some reply)
 
     -- Holds if the reply is that of the policy after the first entries, which reach an end that was
     -- asked for after the request, and the call changes nothing there.

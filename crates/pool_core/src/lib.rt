@@ -3,3 +3,5 @@
 
 pub mod laws;
 pub mod log;
+pub mod log_io;
+pub mod purge;

@@ -54,6 +54,17 @@ pub trait Log {
     fn number(&self) -> u64
         ensures { result ≡ writer self.now };
 
+    /// Returns true if the next entry was written with another clock than that of this instance,
+    /// after this instance started. Returns false if the log does not know.
+    fn next_has_other_clock(&self) -> bool;
+
+    /// Returns true once the log was read up to the start of this instance.
+    fn is_read(&self) -> bool;
+
+    /// Returns true if the pool lets this instance act for this USS, as far as the log was read. An
+    /// entry with a call of another USS would have no effect.
+    fn admits(&self, uss: &str) -> bool;
+
     /// Offers a batch. It becomes an entry or never does, which is open until `next` returns it.
     ///
     /// An instance can offer more batches before. They become entries in the order of their offers.

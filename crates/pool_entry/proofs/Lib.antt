@@ -4,3 +4,4 @@ pub mod Calls
 pub mod Loop
 pub mod Entries
 pub mod Sizes
+pub mod Callers

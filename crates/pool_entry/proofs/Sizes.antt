@@ -5,8 +5,8 @@ use Rattle.std.specs.List.{flat_map}
 use Rattle.std.proofs.lemmas.Fmt.{length-decimal-le}
 use Rattle.std.proofs.lemmas.List.{length-append}
 use Rattle.pool_entry.specs.declared.pool_call.PoolCall.{PoolCall}
-use Rattle.pool_entry.specs.Spelling.{number_text, counted_text, scopes_text, call_text, header, IsCall}
-use Rattle.pool_entry.specs.Laws.{OneCallFits}
+use Rattle.pool_entry.specs.Spelling.{number_text, counted_text, scopes_text, call_text, header, purge_header, IsCall}
+use Rattle.pool_entry.specs.Laws.{OneCallFits, PurgeFits}
 use Rattle.pool_entry.proofs.Fields.{name_short}
 
 number_len : (last n : ℕ) → n < 2 ^ 64 → length (number_text last n) ≤ 21
@@ -44,3 +44,6 @@ one_call_fits_lem c fits head body =
     let text = call_text c in
     let one : length text ≤ 1056947 = omega (arith, call_len c fits) in
     record { count = omega arith; size = omega (arith, length-append header (flat_map call_text (c ∷ [])), length-append text [], one); fits = (fits, tt) }
+
+pub purge_fits_lem : PurgeFits
+purge_fits_lem until lt = omega (arith, length-append purge_header (number_text 10 until), number_len 10 until lt)

@@ -6,12 +6,14 @@ use Rattle.entity_core.specs.IdTexts.{name_fault}
 use Rattle.policy_core.specs.Scope.{Scopes}
 use Rattle.pool_entry.specs.declared.batch_fault.Field.TheVariants as fields
 use Rattle.pool_entry.specs.declared.batch_fault.BatchFault.{BatchFault}
-use Rattle.pool_entry.specs.declared.batch_fault.BatchFault.TheVariants.{TooLong, Header, TooMany, Call}
+use Rattle.pool_entry.specs.declared.batch_fault.BatchFault.TheVariants.{TooLong, Header, TooMany, Call, Until}
 use Rattle.pool_entry.specs.declared.batch_fault.ReadError.{ReadError}
 use Rattle.pool_entry.specs.declared.batch_fault.ReadError.TheVariants as errors
 use Rattle.pool_entry.specs.declared.pool_call.PoolCall.{PoolCall}
+use Rattle.pool_entry.specs.declared.read.EntryContent.{EntryContent}
+use Rattle.pool_entry.specs.declared.read.EntryContent.TheVariants.{Batch, Purge}
 use Rattle.pool_entry.specs.declared.limits.TheConstants.{MAX_CALLS, MAX_BYTES}
-use Rattle.pool_entry.specs.Spelling.{header}
+use Rattle.pool_entry.specs.Spelling.{header, purge_header}
 
 infixl 10 ◌>>=◌
 abbrev pub ◌>>=◌ : {A B : Type 0} → Result A BatchFault → (A → Result B BatchFault)
@@ -128,3 +130,36 @@ batch_in bytes =
     if nat_lt MAX_BYTES (length bytes) then Err TooLong
     else (if bytes_eq (take (length header) bytes) header
     then calls_at MAX_CALLS 0 (drop (length header) bytes) else Err Header)
+
+-- ---- purges
+
+-- A number, if no bytes are after it.
+abbrev pub alone : BatchFault → ℕ × List ℕ → Result ℕ BatchFault
+alone fault (n, []) = Ok n
+alone fault (n, b ∷ rest) = Err fault
+
+-- The time that is all of the bytes, with a line feed.
+unfoldable pub until_in : List ℕ → Result ℕ BatchFault
+until_in bytes = number_at Until 10 bytes >>= alone Until
+
+-- ---- entries
+
+-- What an entry is: a batch of calls, or a purge up to a time.
+pub data EntryForm : Type 0 where
+  BatchOf : (calls : List PoolCall) → EntryForm
+  PurgeUpTo : (until : ℕ) → EntryForm
+
+-- True if bytes begin with the first line of a purge.
+abbrev pub begins_purge : List ℕ → Bool
+begins_purge bytes = bytes_eq (take (length purge_header) bytes) purge_header
+
+-- What was read of an entry.
+abbrev pub form_of : EntryContent → EntryForm
+form_of (Batch calls) = BatchOf calls.items
+form_of (Purge until) = PurgeUpTo until
+
+-- What the bytes of an entry represent, or the first fault.
+unfoldable pub entry_in : List ℕ → Result EntryForm BatchFault
+entry_in bytes = if begins_purge bytes
+    then until_in (drop (length purge_header) bytes) >>= (λ until. Ok (PurgeUpTo until))
+    else batch_in bytes >>= (λ calls. Ok (BatchOf calls))

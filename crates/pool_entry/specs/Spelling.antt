@@ -1,5 +1,5 @@
--- The bytes of a batch of calls: a first line, then the fields of each call. Each batch has one
--- spelling.
+-- The bytes of a batch of calls: a first line, then the fields of each call. The bytes of a purge:
+-- a first line, then its time. Each batch and each purge has one spelling.
 use Rattle.std.specs.Prelude.{◌≡◌, ◌<◌, ◌≤◌, ◌^◌, ℕ, Bool, true, false, List, [], ◌∷◌, ◌++◌, length, codes, decimal, None, IsUtf8}
 use Rattle.std.specs.List.{flat_map, AllByRecursion}
 use Rattle.entity_core.specs.IdTexts.{name_fault}
@@ -33,11 +33,11 @@ call_text c = number_text 32 c.moment
     ++ (scopes_text c.caller.scopes
     ++ (counted_text 32 c.method ++ (counted_text 32 c.path ++ counted_text 10 c.body))))
 
--- The first line, with the version of the format.
+-- The first line of a batch, with the version of the format.
 abbrev pub header : List ℕ
 header = codes "dss-batch 1" ++ 10 ∷ []
 
--- The bytes of an entry.
+-- The bytes of a batch.
 abbrev pub batch_text : List PoolCall → List ℕ
 batch_text calls = header ++ flat_map call_text calls
 
@@ -61,3 +61,18 @@ pub record IsBatch (calls : List PoolCall) : Type 0 where
 pub record SpellsBatch (bytes : List ℕ) (calls : List PoolCall) : Type 0 where
   pub bytes_are : bytes ≡ batch_text calls
   pub batch : IsBatch calls
+
+-- ---- purges
+
+-- The first line of a purge, with the version of the format. It is as long as that of a batch.
+abbrev pub purge_header : List ℕ
+purge_header = codes "dss-purge 1" ++ 10 ∷ []
+
+-- The bytes of a purge up to a time: the first line, and the time with a line feed.
+abbrev pub purge_text : ℕ → List ℕ
+purge_text until = purge_header ++ number_text 10 until
+
+-- Holds if the bytes represent a purge up to this time, which is a number of 64 bits.
+pub record SpellsPurge (bytes : List ℕ) (until : ℕ) : Type 0 where
+  pub bytes_are : bytes ≡ purge_text until
+  pub fits : until < 2 ^ 64

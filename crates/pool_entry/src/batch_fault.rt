@@ -15,25 +15,27 @@ pub enum Field {
     Body,
 }
 
-/// The first fault of bytes that represent no batch.
+/// The first fault of bytes that represent neither a batch nor a purge.
 #[derive(Clone, Copy, Debug, PartialEq, Eq)]
 pub enum BatchFault {
     /// The entry is longer than `MAX_BYTES`.
     TooLong,
-    /// The first line is not that of this format.
+    /// The first line is not that of a batch or a purge.
     Header,
     /// Bytes follow the last call that an entry may have.
     TooMany,
     /// This field of the call with this index, which counts from 0, is missing or has another form.
     Call(usize, Field),
+    /// The first line is that of a purge, and the rest is not one time with a line feed.
+    Until,
 }
 
-/// Why no batch was read.
+/// Why no batch or purge was read.
 #[derive(Debug, Drop)]
 pub enum ReadError {
     /// Memory ran out: nothing is known of the bytes.
     Memory,
-    /// The bytes represent no batch.
+    /// The bytes represent none.
     Fault(BatchFault),
 }
 

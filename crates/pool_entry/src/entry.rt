@@ -1,14 +1,24 @@
-//! The calls that an entry represents.
+//! The acts that an entry represents: calls, or a purge.
 ghost use Rattle.std.specs.Prelude.{◌≡◌, map, IfOk, IfErr};
-ghost use Rattle.pool_entry.specs.Calls.{IsEntryError, calls_of, operation_of, timed_call};
+ghost use Rattle.pool_entry.specs.Acts.{IsEntryError, acts_of, acts_read};
+ghost use Rattle.pool_entry.specs.Calls.{operation_of, timed_call};
 
 use crate::batch_fault::ReadError;
 use crate::pool_call::PoolCall;
-use crate::read::read_batch;
+use crate::read::{EntryContent, read_entry};
 use policy_core::call::{Call, Operation};
 use std::alloc::{AllocError, Global};
 use wire_operation::operation::read_operation;
 use wire_route::routes::Routes;
+
+/// What an entry makes every instance do.
+#[derive(Debug, Drop)]
+pub enum EntryActs {
+    /// These calls, each with its time.
+    Calls(Vec<(u64, Call)>),
+    /// A purge up to this time, in Unix seconds.
+    Purge(u64),
+}
 
 // Returns the operation that a path, a method and a body give.
 fn operation_of(
@@ -61,19 +71,20 @@ fn timed_calls(
     Ok(calls)
 }
 
-/// Returns the calls that the bytes of an entry represent, each with its time.
+/// Returns the acts that the bytes of an entry represent.
 ///
-/// Returns a fault if they represent no batch. The entry then has no calls. Returns `Memory` if
-/// memory runs out: the caller then must not go on with the next entry, since other instances have
-/// made the calls of this one.
-pub fn entry_calls(
-    alloc: Global,
-    routes: &Routes,
-    bytes: &[u8],
-) -> Result<Vec<(u64, Call)>, ReadError>
-    ensures calls { IfOk result (λ calls. calls.items ≡ calls_of bytes.now) }
+/// Returns a fault if they represent neither a batch nor a purge. The entry then has no acts.
+/// Returns `Memory` if memory runs out: the caller then must not go on with the next entry, since
+/// other instances have done the acts of this one.
+pub fn entry_acts(alloc: Global, routes: &Routes, bytes: &[u8]) -> Result<EntryActs, ReadError>
+    ensures acts { IfOk result (λ acts. acts_read acts ≡ acts_of bytes.now) }
     ensures errors { IfErr result (λ e. IsEntryError e bytes.now) }
 {
-    let batch = read_batch(alloc, bytes)?;
-    Ok(timed_calls(alloc, routes, batch)?)
+    match read_entry(alloc, bytes)? {
+        EntryContent::Batch(batch) => {
+            let calls = timed_calls(alloc, routes, batch)?;
+            Ok(EntryActs::Calls(calls))
+        }
+        EntryContent::Purge(until) => Ok(EntryActs::Purge(until)),
+    }
 }

@@ -1,6 +1,6 @@
-//! The entries of a pool's log: batches of calls as bytes.
+//! The entries of a pool's log: batches of calls, and purges, as bytes.
 //!
-//! Every instance of a pool reads each entry of the log and makes its calls, so that what the bytes
+//! Every instance of a pool reads each entry of the log and does its acts, so that what the bytes
 //! of an entry represent is a function of the bytes alone.
 #![tactic(auto)]
 
@@ -11,6 +11,8 @@ pub mod entry;
 pub mod laws;
 pub mod limits;
 pub mod pool_call;
+pub mod purge;
 pub mod read;
 mod read_field;
+pub mod suppliers;
 mod write;

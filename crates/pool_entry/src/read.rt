@@ -1,17 +1,26 @@
-//! The calls that the bytes of an entry represent.
+//! The batch or the purge that the bytes of an entry represent.
 ghost use Rattle.std.specs.Prelude.{◌≡◌, List, Ok, IfOk};
 ghost use Rattle.pool_entry.specs.declared.pool_call.PoolCall.{PoolCall};
 ghost use Rattle.pool_entry.specs.Spelling.{SpellsBatch, header};
-ghost use Rattle.pool_entry.specs.Reading.{Gives, batch_in, call_at, calls_at};
+ghost use Rattle.pool_entry.specs.Reading.{Gives, batch_in, call_at, calls_at, entry_in, form_of, until_in};
 
 use crate::batch_fault::{BatchFault, Field, ReadError};
 use crate::bytes::Bytes;
 use crate::limits::{MAX_BYTES, MAX_CALLS};
 use crate::pool_call::PoolCall;
 use crate::read_field::{counted_at, number_at, path_in, scopes_at, uss_in};
-use crate::write::HEADER;
+use crate::write::{HEADER, PURGE_HEADER};
 use policy_core::scope::Caller;
 use std::alloc::Global;
+
+/// What the bytes of an entry represent.
+#[derive(Debug, Drop)]
+pub enum EntryContent {
+    /// A batch of these calls.
+    Batch(Vec<PoolCall>),
+    /// A purge up to this time, in Unix seconds.
+    Purge(u64),
+}
 
 // Reads the call at the front, which has this index.
 #[tactic(auto, unfolding(crate::specs::Reading::call_at))]
@@ -91,4 +100,32 @@ pub fn read_batch(alloc: Global, bytes: &[u8]) -> Result<Vec<PoolCall>, ReadErro
     ensures exact { Gives (λ v. v.items) result (batch_in bytes.now) }
 {
     batch_in(alloc, bytes)
+}
+
+// Reads the time that is all of the bytes, with a line feed.
+#[tactic(auto, unfolding(crate::specs::Reading::until_in))]
+fn until_in(bytes: &[u8]) -> Result<u64, ReadError>
+    ensures { Gives (λ n. n) result (until_in bytes.now) }
+{
+    let (until, rest) = number_at(BatchFault::Until, b'\n', bytes)?;
+    if rest.is_empty() {
+        Ok(until)
+    } else {
+        Err(ReadError::Fault(BatchFault::Until))
+    }
+}
+
+/// Reads the batch or the purge that the bytes of an entry represent.
+///
+/// Returns a fault exactly if they represent none. If memory runs out, returns `Memory`.
+#[tactic(auto, unfolding(crate::specs::Reading::entry_in))]
+pub fn read_entry(alloc: Global, bytes: &[u8]) -> Result<EntryContent, ReadError>
+    ensures { Gives (λ content. form_of content) result (entry_in bytes.now) }
+{
+    let Some(rest) = bytes.strip_prefix(PURGE_HEADER) else {
+        let calls = read_batch(alloc, bytes)?;
+        return Ok(EntryContent::Batch(calls));
+    };
+    let until = until_in(rest)?;
+    Ok(EntryContent::Purge(until))
 }

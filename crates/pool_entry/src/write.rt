@@ -8,10 +8,14 @@ use itoa::Buffer;
 use policy_core::scope::{Scope, ScopeSet};
 use std::alloc::{AllocError, Global};
 
-/// The first line of an entry, with the version of the format.
+/// The first line of a batch, with the version of the format.
 pub(crate) const HEADER: &[u8] = b"dss-batch 1\n";
 
-fn push_number(out: &mut Vec<u8>, last: u8, n: u64) -> Result<(), AllocError>
+/// The first line of a purge, with the version of the format.
+pub(crate) const PURGE_HEADER: &[u8] = b"dss-purge 1\n";
+
+/// Adds a number and the byte that ends it.
+pub(crate) fn push_number(out: &mut Vec<u8>, last: u8, n: u64) -> Result<(), AllocError>
     ensures { OnOk result (out.new.items ≡ out.old.items ++ number_text last n) }
 {
     let mut buffer = Buffer::new();

@@ -14,6 +14,7 @@ mod maps;
 pub mod memory;
 mod names;
 mod near;
+pub mod purge_ended;
 mod purged;
 mod snapshot;
 pub mod to_memory;

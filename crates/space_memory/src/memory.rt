@@ -75,7 +75,7 @@ impl MemorySpace {
     }
 
     // Counts an `Unchanged` result and changes nothing else.
-    fn refuse(&mut self) -> SpaceFault
+    pub(crate) fn refuse(&mut self) -> SpaceFault
         ensures fault { result ≡ Unchanged }
         ensures content { content_of self.new ≡ content_of self.old }
         ensures counted { self.new.refusals ≡ min (self.old.refusals + 1) max_count }

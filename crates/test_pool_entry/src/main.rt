@@ -1,4 +1,5 @@
-//! Prints an entry of a pool's log, the calls that it represents, and the faults of other bytes.
+//! Prints entries of a pool's log, the calls or the purge that they represent, and the faults of other
+//! bytes.
 #![tactic(auto)]
 
 use anyhow::{Context, Result};
@@ -9,8 +10,9 @@ use policy_core::scope::{Caller, Scope, ScopeSet};
 use pool_entry::batch::Batch;
 use pool_entry::batch_fault::ReadError;
 use pool_entry::bytes::Bytes;
-use pool_entry::entry::entry_calls;
+use pool_entry::entry::{EntryActs, entry_acts};
 use pool_entry::pool_call::PoolCall;
+use pool_entry::purge::purge_bytes;
 use std::alloc::Global;
 use wire_route::routes::Routes;
 
@@ -19,7 +21,7 @@ const INTENT: &str = "/dss/v1/operational_intent_references/2f8343be-6482-4d1b-a
 const BODY: &str =
     r#"{"extents":[{"cells":["89c25904"],"altitude_lower":0,"altitude_upper":1200,"time_start":900,"time_end":2000}],"state":"Accepted","uss_base_url":"https://a.example"}"#;
 
-// Bytes that represent no batch, each with what is wrong with them.
+// Bytes that represent neither a batch nor a purge, each with what is wrong with them.
 const OTHERS: &[(&str, &str)] = &[
     ("no first line", ""),
     ("another version", "dss-batch 2\n"),
@@ -49,6 +51,15 @@ const OTHERS: &[(&str, &str)] = &[
     (
         "more behind it",
         "dss-batch 1\n7 5:uss-a s---- 3:PUT 1:/ 0:\n\n",
+    ),
+    ("another version of a purge", "dss-purge 2\n7\n"),
+    ("a purge without a time", "dss-purge 1\n"),
+    ("a purge without end", "dss-purge 1\n7"),
+    ("a purge with a leading zero", "dss-purge 1\n07\n"),
+    ("a purge with two times", "dss-purge 1\n7\n8\n"),
+    (
+        "a purge with a time that is too large",
+        "dss-purge 1\n18446744073709551616\n",
     ),
 ];
 
@@ -109,6 +120,19 @@ fn print_call(rt: &impl Print, moment: u64, call: &Call) -> Result<()> {
     Ok(())
 }
 
+fn print_acts(rt: &impl Print, routes: &Routes, alloc: Global, bytes: &[u8]) -> Result<()> {
+    let acts = entry_acts(alloc, routes, bytes).ok();
+    match acts.context("the entry has no acts")? {
+        EntryActs::Calls(calls) => {
+            for made in &calls {
+                print_call(rt, made.0, &made.1)?;
+            }
+        }
+        EntryActs::Purge(until) => rt.println(format_args!("purge up to {until}"))?,
+    }
+    Ok(())
+}
+
 fn print_fault(
     rt: &impl Print,
     routes: &Routes,
@@ -116,11 +140,12 @@ fn print_fault(
     what: &str,
     bytes: &str,
 ) -> Result<()> {
-    match entry_calls(alloc, routes, bytes.as_bytes()) {
-        Ok(calls) => {
+    match entry_acts(alloc, routes, bytes.as_bytes()) {
+        Ok(EntryActs::Calls(calls)) => {
             let count = calls.len();
             rt.println(format_args!("{what}: {count} calls"))?;
         }
+        Ok(EntryActs::Purge(until)) => rt.println(format_args!("{what}: purge up to {until}"))?,
         Err(ReadError::Memory) => rt.println(format_args!("{what}: out of memory"))?,
         Err(ReadError::Fault(fault)) => rt.println(format_args!("{what}: {fault:?}"))?,
     }
@@ -136,11 +161,12 @@ fn main(rt: HostRuntime) -> Result<()> {
         .ok()
         .context("the entry is no text")?;
     rt.print(text)?;
-    let calls = entry_calls(rt.alloc(), &routes, batch.bytes()).ok();
-    let calls = calls.context("the entry has no calls")?;
-    for made in &calls {
-        print_call(&rt, made.0, &made.1)?;
-    }
+    print_acts(&rt, &routes, rt.alloc(), batch.bytes())?;
+    let purge = purge_bytes(rt.alloc(), 1_790_000_002).ok();
+    let purge = purge.context("no memory for a purge")?;
+    let text = str::from_utf8(&purge).ok().context("the entry is no text")?;
+    rt.print(text)?;
+    print_acts(&rt, &routes, rt.alloc(), &purge)?;
     for other in OTHERS {
         print_fault(&rt, &routes, rt.alloc(), other.0, other.1)?;
     }

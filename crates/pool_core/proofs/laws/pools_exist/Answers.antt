@@ -1,5 +1,5 @@
 use Rattle.pool_core.proofs.Atomic.{atomic_pool}
-use Rattle.pool_core.proofs.Witness.{pool_answers}
+use Rattle.pool_core.proofs.Witness.{pool_answers, pool_purges}
 use Rattle.pool_core.proofs.laws.pools_exist.Goals as goal
 
 pub returns-clause-atomic : goal.returns-clause-atomic
@@ -7,3 +7,6 @@ returns-clause-atomic c = atomic_pool
 
 pub returns-clause-answers : goal.returns-clause-answers
 returns-clause-answers c = pool_answers
+
+pub returns-clause-purges : goal.returns-clause-purges
+returns-clause-purges c = pool_purges
