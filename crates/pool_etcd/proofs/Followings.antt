@@ -1,19 +1,33 @@
 -- Lemmas: the values of one more change.
-use Rattle.std.proofs.Common.{◌≡◌, ℕ, ◌+◌, ◌<◌, List, [], ◌∷◌, ◌++◌, length, get_or, take, Option, Some, None, refl, sym, ◌∙◌, ap, subst}
+use Rattle.std.proofs.Common.{◌≡◌, ℕ, ◌+◌, ◌<◌, List, [], ◌∷◌, ◌++◌, length, get_or, take, Bool, true, false, ◌||◌, ◌==◌, Option, Some, None, refl, sym, ◌∙◌, ap, subst}
 use Rattle.std.proofs.lemmas.List.{append-nil, take_more}
+use Rattle.std.specs.Prelude.{unwrap_or}
+use Rattle.std.specs.Option.{option_or}
+use Rattle.pool_etcd.specs.declared.following.Following.{Following}
 use Rattle.pool_etcd.specs.declared.following.LineValues.{LineValues}
 use Rattle.pool_etcd.specs.declared.log_value.LogEntry.{LogEntry}
 use Rattle.pool_etcd.specs.declared.log_value.LogValue.{LogValue}
-use Rattle.pool_etcd.specs.declared.log_value.LogValue.TheVariants.{Entry, Fence, Other}
+use Rattle.pool_etcd.specs.declared.log_value.LogValue.TheVariants.{Entry, Fence, Suppliers, Other}
 use Rattle.pool_etcd.specs.declared.response.KeyValue.{KeyValue}
 use Rattle.pool_etcd.specs.declared.watch_line.Change.{Change}
 use Rattle.pool_etcd.specs.declared.watch_line.Change.TheVariants.{Put}
-use Rattle.pool_etcd.specs.Value.{IsValue}
-use Rattle.pool_etcd.specs.Following.{AddsValue, Ascends, HasLine, HasValue, HasValues, entries_in, first_fence, last_revision, pool_after, revision_of}
+use Rattle.pool_etcd.specs.Admitted.{entries_in, list_after, refused_in}
+use Rattle.pool_etcd.specs.Following.{Adds, AddsValue, Ascends, HasLine, HasRefusal, HasValue, HasValues, Refuses, first_fence, has_writer, last_revision, list_in, pool_after, revision_of}
+use Rattle.pool_etcd.specs.Suppliers.{is_admitted}
+use Rattle.pool_etcd.proofs.Admissions.{entries_of_both, entry_kept, entry_refused, has_writer_of_both, list_of_both, no_refusal, refusal_of}
 
-same_pool : (pool : Option ℕ) → pool ≡ pool_after pool (Other ∷ [])
-same_pool None = refl
-same_pool (Some n) = refl
+-- A value that is no fence tells no settings.
+same_pool_of_entry : (e : LogEntry) (pool : Option ℕ) → pool ≡ pool_after pool (Entry e ∷ [])
+same_pool_of_entry e None = refl
+same_pool_of_entry e (Some n) = refl
+
+same_pool_of_list : (list : List ℕ) (pool : Option ℕ) → pool ≡ pool_after pool (Suppliers list ∷ [])
+same_pool_of_list list None = refl
+same_pool_of_list list (Some n) = refl
+
+same_pool_of_other : (pool : Option ℕ) → pool ≡ pool_after pool (Other ∷ [])
+same_pool_of_other None = refl
+same_pool_of_other (Some n) = refl
 
 values_then : (cs : List Change) (vs : List LogValue) (c : Change) (v : LogValue) → HasValues cs vs → HasValue c v → HasValues (cs ++ c ∷ []) (vs ++ v ∷ [])
 values_then [] [] c v h g = (g, refl)
@@ -21,27 +35,72 @@ values_then [] (w ∷ vs) c v h g = let e : ⊥ = cc in absurd e
 values_then (d ∷ cs) [] c v h g = absurd h
 values_then (d ∷ cs) (w ∷ vs) c v h g = (h.0, values_then cs vs c v h.1 g)
 
--- The entries among all values are those among the first ones, and those among the others.
-pub entries_of_both : (vs ws : List LogValue) → entries_in (vs ++ ws) ≡ entries_in vs ++ entries_in ws
-entries_of_both [] ws = refl
-entries_of_both (Entry e ∷ vs) ws = ap (λ (es : List LogEntry). e ∷ es) (entries_of_both vs ws)
-entries_of_both (Fence n ∷ vs) ws = entries_of_both vs ws
-entries_of_both (Other ∷ vs) ws = entries_of_both vs ws
-
 -- The first fence among all values is the one among the first ones, or else the one among the others.
 pub fence_of_both : (vs ws : List LogValue) → first_fence (vs ++ ws) ≡ pool_after (first_fence vs) ws
 fence_of_both [] ws = refl
 fence_of_both (Entry e ∷ vs) ws = fence_of_both vs ws
 fence_of_both (Fence n ∷ vs) ws = refl
+fence_of_both (Suppliers list ∷ vs) ws = fence_of_both vs ws
 fence_of_both (Other ∷ vs) ws = fence_of_both vs ws
 
--- A value that is neither entry nor fence adds nothing.
-pub adds_nothing : (put : KeyValue) (line : LineValues) → IsValue put.key put.stored.value Other → AddsValue put line line
-adds_nothing put line given = record {
-  value = Other;
-  given = given;
+same_list : (f : Following) (old new : LineValues) → new.suppliers ≡ old.suppliers → list_in f new ≡ list_in f old
+same_list f old new e = ap (λ (o : Option (List ℕ)). unwrap_or o f.suppliers) e
+
+or_false : (b : Bool) → b ≡ (b || false)
+or_false true = refl
+or_false false = refl
+
+-- An admitted entry is added.
+pub adds_entry : (f : Following) (e : LogEntry) (old new : LineValues) → is_admitted (list_in f old) e ≡ true → new.entries.items ≡ old.entries.items ++ e ∷ [] → new.fence ≡ old.fence
+    → new.suppliers ≡ old.suppliers → new.is_refused ≡ old.is_refused → Adds f (Entry e) old new
+adds_entry f e old new admitted entries fence suppliers refused =
+    let kept = entry_kept (list_in f old) e admitted in record {
+      entries = entries ∙ ap (λ (es : List LogEntry). old.entries.items ++ es) (sym kept.0);
+      fence = fence ∙ same_pool_of_entry e old.fence;
+      suppliers = same_list f old new suppliers;
+      refused = refused ∙ or_false old.is_refused ∙ ap (λ (es : List LogEntry). old.is_refused || has_writer f.writer es) (sym kept.1);
+    }
+
+-- An entry that is not admitted is passed over, or recorded if it is an own one.
+pub adds_refusal : (f : Following) (e : LogEntry) (old new : LineValues) → is_admitted (list_in f old) e ≡ false → new.entries.items ≡ old.entries.items → new.fence ≡ old.fence
+    → new.suppliers ≡ old.suppliers → new.is_refused ≡ (old.is_refused || (e.writer == f.writer)) → Adds f (Entry e) old new
+adds_refusal f e old new admitted entries fence suppliers refused =
+    let kept = entry_refused (list_in f old) e admitted in
+    let one : (e.writer == f.writer) ≡ has_writer f.writer (refused_in (list_in f old) (Entry e ∷ [])) =
+    or_false (e.writer == f.writer) ∙ ap (has_writer f.writer) (sym kept.1) in record {
+      entries = entries ∙ sym (append-nil old.entries.items) ∙ ap (λ (es : List LogEntry). old.entries.items ++ es) (sym kept.0);
+      fence = fence ∙ same_pool_of_entry e old.fence;
+      suppliers = same_list f old new suppliers;
+      refused = refused ∙ ap (λ (b : Bool). old.is_refused || b) one;
+    }
+
+-- A fence adds its number, if it is the first one.
+pub adds_fence : (f : Following) (agreed : ℕ) (old new : LineValues) → new.entries.items ≡ old.entries.items → new.fence ≡ pool_after old.fence (Fence agreed ∷ []) → new.suppliers ≡ old.suppliers
+    → new.is_refused ≡ old.is_refused → Adds f (Fence agreed) old new
+adds_fence f agreed old new entries fence suppliers refused = record {
+  entries = entries ∙ sym (append-nil old.entries.items);
+  fence = fence;
+  suppliers = same_list f old new suppliers;
+  refused = refused ∙ or_false old.is_refused;
+}
+
+-- A supplier list takes the place of the one before.
+pub adds_list : (f : Following) (list : List ℕ) (old new : LineValues) → new.entries.items ≡ old.entries.items → new.fence ≡ old.fence → new.suppliers ≡ Some list → new.is_refused ≡ old.is_refused
+    → Adds f (Suppliers list) old new
+adds_list f list old new entries fence suppliers refused = record {
+  entries = entries ∙ sym (append-nil old.entries.items);
+  fence = fence ∙ same_pool_of_list list old.fence;
+  suppliers = ap (λ (o : Option (List ℕ)). unwrap_or o f.suppliers) suppliers;
+  refused = refused ∙ or_false old.is_refused;
+}
+
+-- Another value adds nothing.
+pub adds_nothing : (f : Following) (line : LineValues) → Adds f Other line line
+adds_nothing f line = record {
   entries = sym (append-nil line.entries.items);
-  fence = same_pool line.fence;
+  fence = same_pool_of_other line.fence;
+  suppliers = refl;
+  refused = or_false line.is_refused;
 }
 
 ascends_then : (before : ℕ) (cs : List Change) (c : Change) → Ascends before cs → last_revision before cs < revision_of c → Ascends before (cs ++ c ∷ [])
@@ -53,28 +112,61 @@ last_then before [] c = refl
 last_then before (d ∷ cs) c = last_then (revision_of d) cs c
 
 -- The first changes, with their values.
-pub record Reads (before : ℕ) (changes : List Change) (line : LineValues) (revision : ℕ) : Type 0 where
-  pub has : HasLine changes line
-  pub ascends : Ascends before changes
-  pub last : revision ≡ last_revision before changes
+pub record Reads (f : Following) (changes : List Change) (line : LineValues) (revision : ℕ) : Type 0 where
+  pub has : HasLine f changes line
+  pub ascends : Ascends f.revision changes
+  pub last : revision ≡ last_revision f.revision changes
 
 -- One more change.
-pub one_more : (before : ℕ) (xs : List Change) (i : ℕ) (put : KeyValue) (old new : LineValues) (r : ℕ)
-    → i < length xs → Put put ≡ get_or xs i (Put put) → Reads before (take i xs) old r → AddsValue put old new → r < put.stored.revision
-    → Reads before (take (i + 1) xs) new put.stored.revision
-one_more before xs i put old new r below is read adds low =
+pub one_more : (f : Following) (xs : List Change) (i : ℕ) (put : KeyValue) (old new : LineValues) (r : ℕ)
+    → i < length xs → Put put ≡ get_or xs i (Put put) → Reads f (take i xs) old r → AddsValue f put old new → r < put.stored.revision
+    → Reads f (take (i + 1) xs) new put.stored.revision
+one_more f xs i put old new r below is read adds low =
     let c = Put put in
     let v = adds.value in
     let vs = read.has.values in
+    let list = f.suppliers in
     let more : take (i + 1) xs ≡ take i xs ++ c ∷ [] = take_more xs i c below ∙ ap (λ (y : Change). take i xs ++ y ∷ []) (sym is) in
-    let low_last : last_revision before (take i xs) < revision_of c = subst (λ (q : ℕ). q < revision_of c) read.last low in
-    subst (λ (ys : List Change). Reads before ys new put.stored.revision) (sym more) (record {
+    let low_last : last_revision f.revision (take i xs) < revision_of c = subst (λ (q : ℕ). q < revision_of c) read.last low in
+    subst (λ (ys : List Change). Reads f ys new put.stored.revision) (sym more) (record {
       has = record {
         values = vs ++ v ∷ [];
         given = values_then (take i xs) vs c v read.has.given adds.given;
-        entries = adds.entries ∙ ap (λ (es : List LogEntry). es ++ entries_in (v ∷ [])) read.has.entries ∙ sym (entries_of_both vs (v ∷ []));
-        fence = adds.fence ∙ ap (λ (n : Option ℕ). pool_after n (v ∷ [])) read.has.fence ∙ sym (fence_of_both vs (v ∷ []));
+        entries = adds.added.entries
+            ∙ ap (λ (es : List LogEntry). es ++ entries_in (list_in f old) (v ∷ [])) read.has.entries
+            ∙ ap (λ (l : List ℕ). entries_in list vs ++ entries_in l (v ∷ [])) read.has.suppliers
+            ∙ sym (entries_of_both list vs (v ∷ []));
+        fence = adds.added.fence ∙ ap (λ (n : Option ℕ). pool_after n (v ∷ [])) read.has.fence ∙ sym (fence_of_both vs (v ∷ []));
+        suppliers = adds.added.suppliers ∙ ap (λ (l : List ℕ). list_after l (v ∷ [])) read.has.suppliers ∙ sym (list_of_both list vs (v ∷ []));
+        refused = adds.added.refused
+            ∙ ap (λ (b : Bool). b || has_writer f.writer (refused_in (list_in f old) (v ∷ []))) read.has.refused
+            ∙ ap (λ (l : List ℕ). has_writer f.writer (refused_in list vs) || has_writer f.writer (refused_in l (v ∷ []))) read.has.suppliers
+            ∙ sym (has_writer_of_both f.writer list vs (v ∷ []));
       };
-      ascends = ascends_then before (take i xs) c read.ascends low_last;
-      last = sym (last_then before (take i xs) c);
+      ascends = ascends_then f.revision (take i xs) c read.ascends low_last;
+      last = sym (last_then f.revision (take i xs) c);
     })
+
+-- ---- a line that was read
+
+-- The pool's settings that are known with a line.
+pub known_pool : (f : Following) (changes : List Change) (line : LineValues) (has : HasLine f changes line) (known : Option ℕ) → known ≡ option_or f.pool line.fence → known ≡ pool_after f.pool has.values
+known_pool f changes line has known is = is ∙ ap (λ (n : Option ℕ). option_or f.pool n) has.fence ∙ same_or f.pool has.values
+  where
+    same_or : (pool : Option ℕ) (values : List LogValue) → option_or pool (first_fence values) ≡ pool_after pool values
+    same_or None values = refl
+    same_or (Some n) values = refl
+
+-- No entry of the own process is refused.
+pub admitted_line : (f : Following) (changes : List Change) (line : LineValues) (has : HasLine f changes line) → line.is_refused ≡ false → HasRefusal f has.values → ⊥
+admitted_line f changes line has is = no_refusal f has.values (sym has.refused ∙ is)
+
+-- An entry of the own process is refused.
+pub refused_line : (f : Following) (changes : List Change) (line : LineValues) (known : Option ℕ) → HasLine f changes line → line.is_refused ≡ true → known ≡ option_or f.pool line.fence
+    → ((pool : ℕ) → known ≡ Some pool → pool ≡ f.settings) → Refuses f changes
+refused_line f changes line known has is told agrees = record {
+  values = has.values;
+  given = has.given;
+  refusal = refusal_of f has.values (sym has.refused ∙ is);
+  agrees = λ pool e. agrees pool (known_pool f changes line has known told ∙ e);
+}

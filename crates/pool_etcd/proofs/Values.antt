@@ -4,31 +4,39 @@ use Rattle.std.specs.Prelude.{flat_map}
 use Rattle.pool_etcd.specs.declared.following.Following.{Following}
 use Rattle.pool_etcd.specs.declared.log_value.LogEntry.{LogEntry}
 use Rattle.pool_etcd.specs.declared.log_value.LogValue.{LogValue}
-use Rattle.pool_etcd.specs.declared.log_value.LogValue.TheVariants.{Entry, Fence, Other}
+use Rattle.pool_etcd.specs.declared.log_value.LogValue.TheVariants.{Entry, Fence, Suppliers, Other}
 use Rattle.pool_etcd.specs.declared.watch_line.Change.{Change}
 use Rattle.pool_etcd.specs.declared.watch_line.Change.TheVariants.{Put, Deleted}
 use Rattle.pool_etcd.specs.Following.{Agrees, FirstFenceDecides, KnownSettingsDecide, HasValue, HasValues, ReceivesLines, pool_after}
-use Rattle.pool_etcd.specs.Value.{OneValue}
-use Rattle.pool_etcd.specs.Writer.{IsEntryBy, writer_of}
+use Rattle.pool_etcd.specs.Value.{IsEntryAt, OneValue}
+use Rattle.pool_etcd.specs.Writer.{writer_of}
 use Rattle.pool_etcd.proofs.FirstLines.{fence_is_no_entry, one_entry, one_fence}
 use Rattle.pool_etcd.proofs.Followings.{fence_of_both}
 
-one_entry_by : (key value : List ℕ) (e f : LogEntry) → IsEntryBy key value e.writer e.bytes → IsEntryBy key value f.writer f.bytes → e ≡ f
-one_entry_by key value e f a b =
-    let same = one_entry value a.0 b.0 e.bytes f.bytes a.1 b.1 in
-    let writer : e.writer ≡ f.writer = a.2 ∙ ap (λ (n : ℕ). writer_of key n) same.0 ∙ sym b.2 in
+one_entry_at : (key value : List ℕ) (e f : LogEntry) → IsEntryAt key value e → IsEntryAt key value f → e ≡ f
+one_entry_at key value e f a b =
+    let same = one_entry value a.1.0 b.1.0 e.bytes f.bytes a.1.1 b.1.1 in
+    let writer : e.writer ≡ f.writer = a.1.2 ∙ ap (λ (n : ℕ). writer_of key n) same.0 ∙ sym b.1.2 in
+    let keys : e.key ≡ f.key = a.0 ∙ sym b.0 in
     let bytes : e.bytes ≡ f.bytes = same.1 in
-    ap (λ (w : ℕ). record e { writer = w }) writer ∙ ap (λ (b : List ℕ). record f { bytes = b }) bytes
+    ap (λ (w : ℕ). record e { writer = w }) writer ∙ ap (λ (k : List ℕ). record e { writer = f.writer; key = k }) keys ∙ ap (λ (b : List ℕ). record f { bytes = b }) bytes
 
 pub one_value : OneValue
-one_value key value (Entry e) (Entry f) a b = ap (λ (x : LogEntry). Entry x) (one_entry_by key value e f a b)
-one_value key value (Entry e) (Fence n) a b = absurd (fence_is_no_entry value n b a.0 e.bytes a.1)
-one_value key value (Entry e) Other a b = absurd (b.0 a.0 e.bytes a.1)
-one_value key value (Fence m) (Entry f) a b = absurd (fence_is_no_entry value m a b.0 f.bytes b.1)
-one_value key value (Fence m) (Fence n) a b = ap (λ (x : ℕ). Fence x) (one_fence value m n a b)
-one_value key value (Fence m) Other a b = absurd (b.1 m a)
-one_value key value Other (Entry f) a b = absurd (a.0 b.0 f.bytes b.1)
-one_value key value Other (Fence n) a b = absurd (a.1 n b)
+one_value key value (Entry e) (Entry f) a b = ap (λ (x : LogEntry). Entry x) (one_entry_at key value e f a.1 b.1)
+one_value key value (Entry e) (Fence n) a b = absurd (fence_is_no_entry value n b.1 a.1.1.0 e.bytes a.1.1.1)
+one_value key value (Entry e) (Suppliers l) a b = absurd (a.0 b.0)
+one_value key value (Entry e) Other a b = absurd (b.1 a.1.1.0 e.bytes a.1.1.1)
+one_value key value (Fence m) (Entry f) a b = absurd (fence_is_no_entry value m a.1 b.1.1.0 f.bytes b.1.1.1)
+one_value key value (Fence m) (Fence n) a b = ap (λ (x : ℕ). Fence x) (one_fence value m n a.1 b.1)
+one_value key value (Fence m) (Suppliers l) a b = absurd (a.0 b.0)
+one_value key value (Fence m) Other a b = absurd (b.2 m a.1)
+one_value key value (Suppliers l) (Entry f) a b = absurd (b.0 a.0)
+one_value key value (Suppliers l) (Fence n) a b = absurd (b.0 a.0)
+one_value key value (Suppliers l) (Suppliers m) a b = ap (λ (x : List ℕ). Suppliers x) (a.1 ∙ sym b.1)
+one_value key value (Suppliers l) Other a b = absurd (b.0 a.0)
+one_value key value Other (Entry f) a b = absurd (a.1 b.1.1.0 f.bytes b.1.1.1)
+one_value key value Other (Fence n) a b = absurd (a.2 n b.1)
+one_value key value Other (Suppliers l) a b = absurd (a.0 b.0)
 one_value key value Other Other a b = refl
 
 value_unique : (c : Change) (v w : LogValue) → HasValue c v → HasValue c w → v ≡ w

@@ -1,13 +1,15 @@
 -- The values that a watch gave.
-use Rattle.std.specs.Prelude.{◌≡◌, ◌≢◌, ℕ, ◌+◌, ◌<◌, List, [], ◌∷◌, ◌++◌, length, flat_map, Option, Some, None}
+use Rattle.std.specs.Prelude.{◌≡◌, ◌≢◌, ℕ, ◌+◌, ◌<◌, ◌==◌, List, [], ◌∷◌, ◌++◌, length, flat_map, Contains, Bool, ◌||◌, Option, Some, None, unwrap_or}
+use Rattle.std.specs.List.{list_any}
 use Rattle.pool_etcd.specs.declared.following.Following.{Following}
 use Rattle.pool_etcd.specs.declared.following.LineValues.{LineValues}
 use Rattle.pool_etcd.specs.declared.log_value.LogEntry.{LogEntry}
 use Rattle.pool_etcd.specs.declared.log_value.LogValue.{LogValue}
-use Rattle.pool_etcd.specs.declared.log_value.LogValue.TheVariants.{Entry, Fence, Other}
+use Rattle.pool_etcd.specs.declared.log_value.LogValue.TheVariants.{Entry, Fence, Suppliers, Other}
 use Rattle.pool_etcd.specs.declared.watch_line.Change.{Change}
 use Rattle.pool_etcd.specs.declared.watch_line.Change.TheVariants.{Put, Deleted}
 use Rattle.pool_etcd.specs.declared.response.KeyValue.{KeyValue}
+use Rattle.pool_etcd.specs.Admitted.{entries_in, list_after, refused_in}
 use Rattle.pool_etcd.specs.Value.{IsValue}
 
 abbrev pub revision_of : Change → ℕ
@@ -25,18 +27,12 @@ HasValues [] values = values ≡ []
 HasValues (c ∷ changes) [] = ⊥
 HasValues (c ∷ changes) (v ∷ values) = HasValue c v × HasValues changes values
 
--- The entries among the values.
-abbrev pub entries_in : List LogValue → List LogEntry
-entries_in [] = []
-entries_in (Entry e ∷ values) = e ∷ entries_in values
-entries_in (Fence agreed ∷ values) = entries_in values
-entries_in (Other ∷ values) = entries_in values
-
 -- The number in the first fence among the values, if there is one.
 abbrev pub first_fence : List LogValue → Option ℕ
 first_fence [] = None
 first_fence (Entry e ∷ values) = first_fence values
 first_fence (Fence agreed ∷ values) = Some agreed
+first_fence (Suppliers list ∷ values) = first_fence values
 first_fence (Other ∷ values) = first_fence values
 
 -- The number of the pool's settings after more values: the one that was known before, or the one
@@ -45,19 +41,39 @@ abbrev pub pool_after : Option ℕ → List LogValue → Option ℕ
 pool_after None values = first_fence values
 pool_after (Some pool) values = Some pool
 
+-- The supplier list behind the values of a line: the last one that it has, or else the one before.
+abbrev pub list_in : Following → LineValues → List ℕ
+list_in f line = unwrap_or line.suppliers f.suppliers
+
+-- True if an entry of this writer is among the entries.
+abbrev pub has_writer : ℕ → List LogEntry → Bool
+has_writer writer entries = list_any (λ e. e.writer == writer) entries
+
+-- Holds if the value was added to a line: as an admitted entry, as a refused entry of the own
+-- process, as the first fence, or as a supplier list.
+pub record Adds (f : Following) (value : LogValue) (old new : LineValues) : Type 0 where
+  pub entries : new.entries.items
+      ≡ old.entries.items ++ entries_in (list_in f old) (value ∷ [])
+  pub fence : new.fence ≡ pool_after old.fence (value ∷ [])
+  pub suppliers : list_in f new ≡ list_after (list_in f old) (value ∷ [])
+  pub refused : new.is_refused
+      ≡ (old.is_refused || has_writer f.writer (refused_in (list_in f old) (value ∷ [])))
+
 -- Holds if what the value is was added to a line.
-pub record AddsValue (put : KeyValue) (old new : LineValues) : Type 0 where
+pub record AddsValue (f : Following) (put : KeyValue) (old new : LineValues) : Type 0 where
   pub value : LogValue
   pub given : IsValue put.key put.stored.value value
-  pub entries : new.entries.items ≡ old.entries.items ++ entries_in (value ∷ [])
-  pub fence : new.fence ≡ pool_after old.fence (value ∷ [])
+  pub added : Adds f value old new
 
--- Holds if the line has the entries in the changes, and the number in their first fence.
-pub record HasLine (changes : List Change) (line : LineValues) : Type 0 where
+-- Holds if the line has the admitted entries in the changes, the number in their first fence, and
+-- the last supplier list among them, and tells whether an entry of the own process is refused.
+pub record HasLine (f : Following) (changes : List Change) (line : LineValues) : Type 0 where
   pub values : List LogValue
   pub given : HasValues changes values
-  pub entries : line.entries.items ≡ entries_in values
+  pub entries : line.entries.items ≡ entries_in f.suppliers values
   pub fence : line.fence ≡ first_fence values
+  pub suppliers : list_in f line ≡ list_after f.suppliers values
+  pub refused : line.is_refused ≡ has_writer f.writer (refused_in f.suppliers values)
 
 -- The revision of the last change, or the one before if there is none.
 abbrev pub last_revision : ℕ → List Change → ℕ
@@ -77,16 +93,25 @@ Agrees f = (pool : ℕ) → f.pool ≡ Some pool → pool ≡ f.settings
 abbrev pub IsOther : Following → Type 0
 IsOther f = (pool : ℕ) × (f.pool ≡ Some pool) × (pool ≢ f.settings)
 
--- Holds if the values in the changes were received: the entries among them were added and counted,
--- and the first fence told the pool's settings, which are the own ones.
+-- Holds if an entry of the own process among the values is not admitted.
+abbrev pub HasRefusal : Following → List LogValue → Type 0
+HasRefusal f values = (e : LogEntry) × Contains (refused_in f.suppliers values) e
+    × (e.writer ≡ f.writer)
+
+-- Holds if the values in the changes were received: the admitted entries among them were added and
+-- counted, and the first fence told the pool's settings, which are the own ones. Each entry of the
+-- own process is admitted.
 pub record ReceivesValues (old new : Following) (changes : List Change) : Type 0 where
   pub values : List LogValue
   pub given : HasValues changes values
-  pub added : new.entries.items ≡ old.entries.items ++ entries_in values
-  pub counted : new.count ≡ old.count + length (entries_in values)
+  pub added : new.entries.items ≡ old.entries.items ++ entries_in old.suppliers values
+  pub counted : new.count ≡ old.count + length (entries_in old.suppliers values)
   pub pool : new.pool ≡ pool_after old.pool values
   pub agrees : Agrees new
   pub settings : new.settings ≡ old.settings
+  pub suppliers : new.suppliers ≡ list_after old.suppliers values
+  pub writer : new.writer ≡ old.writer
+  pub admitted : HasRefusal old values → ⊥
 
 -- Holds if the settings of the pool, which the changes tell if they were not known before, are
 -- other ones.
@@ -97,10 +122,20 @@ pub record Differs (old : Following) (changes : List Change) : Type 0 where
   pub told : pool_after old.pool values ≡ Some pool
   pub other : pool ≢ old.settings
 
+-- Holds if an entry of the own process in the changes is not admitted, and the settings of the
+-- pool, as far as they are known with the changes, are the own ones.
+pub record Refuses (old : Following) (changes : List Change) : Type 0 where
+  pub values : List LogValue
+  pub given : HasValues changes values
+  pub refusal : HasRefusal old values
+  pub agrees : (pool : ℕ) → pool_after old.pool values ≡ Some pool → pool ≡ old.settings
+
 -- Holds if nothing was received. Entries may have been taken.
 pub record TakesEntries (old new : Following) : Type 0 where
   pub pool : new.pool ≡ old.pool
   pub settings : new.settings ≡ old.settings
+  pub suppliers : new.suppliers ≡ old.suppliers
+  pub writer : new.writer ≡ old.writer
 
 -- Holds if nothing was received.
 pub record IsSame (old new : Following) : Type 0 where
@@ -109,6 +144,8 @@ pub record IsSame (old new : Following) : Type 0 where
   pub revision : new.revision ≡ old.revision
   pub pool : new.pool ≡ old.pool
   pub settings : new.settings ≡ old.settings
+  pub suppliers : new.suppliers ≡ old.suppliers
+  pub writer : new.writer ≡ old.writer
 
 -- Holds if an instance received these lines. Between them it may have taken entries.
 abbrev pub ReceivesLines : Following → List (List Change) → Following → Type 0

@@ -1,3 +1,4 @@
+pub mod Admitted
 pub mod Following
 pub mod Given
 pub mod Lines
@@ -11,6 +12,7 @@ pub mod Questions
 pub mod Request
 pub mod Response
 pub mod Settings
+pub mod Suppliers
 pub mod Value
 pub mod WatchLine
 pub mod Writer

@@ -4,7 +4,7 @@ use Rattle.std.specs.Fmt.{decimal}
 use Rattle.serde_json.specs.Data.{Data, boolean, string, array, object, no_items, item, Members, no_members, member}
 use Rattle.base64.specs.Engines.{standard}
 use Rattle.base64.specs.GeneralPurpose.{encode_of}
-use Rattle.pool_etcd.specs.Names.{prefix, prefix_end}
+use Rattle.pool_etcd.specs.Names.{list_key, prefix, prefix_end}
 
 -- Bytes, in base64.
 abbrev pub bytes_data : List ℕ → Data
@@ -44,6 +44,12 @@ abbrev pub own_data : List ℕ → Data
 own_data key =
     object (member (codes "key") (bytes_data key)
     (member (codes "keys_only") (boolean true) no_members))
+
+-- The supplier list, as it was at a revision.
+abbrev pub list_data : ℕ → Data
+list_data revision =
+    object (member (codes "key") (bytes_data list_key)
+    (member (codes "revision") (number_data revision) no_members))
 
 -- The key of the log that was changed last. The reading is linearizable.
 abbrev pub end_data : Data

@@ -1,12 +1,15 @@
 -- What responses of etcd say.
-use Rattle.std.specs.Prelude.{ℕ, List, Bool, true, false, codes, Option, Some, None, option_map, option_and_then}
+use Rattle.std.specs.Prelude.{ℕ, List, [], ◌==◌, Bool, true, false, codes, Option, Some, None, option_map, option_and_then, if◌then◌else◌}
+use Rattle.std.specs.Str.{bytes_eq}
 use Rattle.serde_json.specs.Data.{Data, Items, no_items, item}
-use Rattle.serde_json.specs.Find.{get, as_str}
+use Rattle.serde_json.specs.Find.{get, as_number, as_str, as_u64}
 use Rattle.pool_etcd.specs.declared.response.KeyValue.{KeyValue}
 use Rattle.pool_etcd.specs.declared.response.StoredValue.{StoredValue}
 use Rattle.pool_etcd.specs.declared.response.PutOutcome.{PutOutcome}
 use Rattle.pool_etcd.specs.declared.response.PutOutcome.TheVariants.{Stored, Refused}
-use Rattle.pool_etcd.specs.Member.{◌>>=◌, bytes_at, flag_at, items_at, required_number}
+use Rattle.pool_etcd.specs.declared.response.RevisionFault.{RevisionFault}
+use Rattle.pool_etcd.specs.declared.response.RevisionFault.TheVariants.{Compacted, Future}
+use Rattle.pool_etcd.specs.Member.{◌>>=◌, bytes_at, flag_at, items_at, read_or, required_number}
 
 -- The revision of the whole store, which each response has.
 abbrev pub store_revision : Data → Option ℕ
@@ -52,6 +55,40 @@ unfoldable pub range_value : Data → Option (Option StoredValue)
 range_value d = do
   keys ← items_at (codes "kvs") d
   first_or None (λ key. option_map Some (stored_value key)) keys
+
+-- The bytes of the first key's value. They are empty if no key is there.
+unfoldable pub range_bytes : Data → Option (List ℕ)
+range_bytes d = do
+  store ← store_revision d
+  keys ← items_at (codes "kvs") d
+  first_or [] (bytes_at (codes "value")) keys
+
+-- The number of an error, which is a JSON number.
+abbrev pub error_code : Data → Option ℕ
+error_code d = do
+  code ← get (codes "code") d
+  number ← as_number code
+  as_u64 number
+
+-- The text of an error. An absent one is empty.
+abbrev pub error_text : Data → Option (List ℕ)
+error_text d = read_or [] as_str (get (codes "message") d)
+
+-- The text of the error that a revision was not reached yet.
+abbrev pub future_text : List ℕ
+future_text = codes "etcdserver: mvcc: required revision is a future revision"
+
+-- Error 11 tells that etcd has no values of a revision: it was not reached yet, or else removed.
+abbrev pub revision_fault_by : ℕ → List ℕ → Option RevisionFault
+revision_fault_by code text =
+    if code == 11 then Some (if bytes_eq text future_text then Future else Compacted) else None
+
+-- Why etcd has no values of a revision.
+unfoldable pub revision_fault : Data → Option RevisionFault
+revision_fault d = do
+  code ← error_code d
+  text ← error_text d
+  revision_fault_by code text
 
 -- The value that stood in the way of a put.
 unfoldable pub refusal : Data → Option PutOutcome

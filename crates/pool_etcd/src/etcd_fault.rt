@@ -89,6 +89,8 @@ pub enum Loss {
     Shortened,
     /// The pool has other settings: the known ones, or those in the first fence.
     Settings,
+    /// The supplier list does not admit an entry of this process.
+    Suppliers,
 }
 
 impl Loss {
@@ -100,6 +102,7 @@ impl Loss {
             Loss::Deleted => "deleted",
             Loss::Shortened => "shortened",
             Loss::Settings => "settings",
+            Loss::Suppliers => "suppliers",
         }
     }
 }

@@ -8,6 +8,7 @@ use crate::own_entries::{NotTaken, OwnEntries, OwnState};
 use crate::payload::Payload;
 use crate::questions::Questions;
 use crate::request_lane::RequestLane;
+use crate::response::RevisionFault;
 use crate::settings::{EtcdSettings, User};
 use crate::watch_lane::WatchLane;
 use crate::writer::writer_of;
@@ -39,6 +40,8 @@ pub(crate) struct LogState {
     pub(crate) own: OwnEntries,
     pub(crate) following: Following,
     pub(crate) questions: Questions,
+    // True once the supplier list at the start is known.
+    pub(crate) has_list: bool,
     pub(crate) loss: Option<Loss>,
     // A revision that the watch has not reached, and since when it is known.
     pub(crate) ahead: Option<(u64, Duration)>,
@@ -46,12 +49,36 @@ pub(crate) struct LogState {
     pub(crate) checked: Duration,
     // True once the watch has given the own fence, and so all entries before it.
     pub(crate) is_read: bool,
+    // How many of these entries were not taken yet.
+    pub(crate) earlier: usize,
 }
 
 impl LogState {
     /// Returns true if a token is needed before any other request.
     pub(crate) fn needs_token(&self) -> bool {
         self.user.is_some() && self.token.is_none()
+    }
+
+    /// Returns true if the watch may begin: it needs a token as the requests do, and the supplier
+    /// list at the start of the log.
+    pub(crate) fn may_watch(&self) -> bool {
+        self.has_list && !self.needs_token()
+    }
+
+    /// Takes the supplier list at the start of the log.
+    pub(crate) fn learn_list(&mut self, list: Payload) {
+        self.following.suppliers = list;
+        self.has_list = true;
+    }
+
+    /// Takes why etcd does not have the supplier list at the start of the log.
+    pub(crate) fn learn_revision_fault(&mut self, fault: RevisionFault) {
+        self.loss = Some(match fault {
+            RevisionFault::Compacted => {
+                Loss::Compacted(self.following.revision.saturating_add(1))
+            }
+            RevisionFault::Future => Loss::Shortened,
+        });
     }
 
     /// Returns true if the log is not lost, and the pool has the settings of this instance.
@@ -69,7 +96,10 @@ impl LogState {
     fn note_fence(&mut self) {
         match self.own.state {
             OwnState::Idle(revision) | OwnState::Sending(revision) => {
-                self.is_read = self.is_read || self.following.revision >= revision;
+                if !self.is_read && self.following.revision >= revision {
+                    self.is_read = true;
+                    self.earlier = self.following.entries.len();
+                }
             }
             OwnState::Unknown | OwnState::Fencing(_) | OwnState::Lost => {}
         }
@@ -125,21 +155,22 @@ impl EtcdLog {
             endpoints.push(Endpoint::new(alloc, *address)?)?;
         }
         let key = key_of(alloc, settings.name.as_str())?;
-        let fence = fence_value(alloc, settings.number, settings.agreed)?;
+        let run = settings.number;
+        let number = writer_of(alloc, key.as_bytes(), run)?;
+        let fence = fence_value(alloc, run, settings.agreed)?;
         let following = Following::new(
             alloc,
             settings.revision,
             settings.count,
             settings.agreed,
             settings.pool,
+            number,
         );
         let loss = if following.is_other() {
             Some(Loss::Settings)
         } else {
             None
         };
-        let run = settings.number;
-        let number = writer_of(alloc, key.as_bytes(), run)?;
         let state = LogState {
             alloc,
             endpoints,
@@ -149,10 +180,12 @@ impl EtcdLog {
             own: OwnEntries::new(fence, Payload::from_vec(Vec::new(alloc))),
             following,
             questions: Questions::new(),
+            has_list: settings.revision == 0,
             loss,
             ahead: None,
             checked: Duration::ZERO,
             is_read: false,
+            earlier: 0,
         };
         Ok(EtcdLog {
             run,

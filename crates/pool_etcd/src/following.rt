@@ -1,9 +1,11 @@
 //! The entries that a watch gave, until the instance takes them.
-ghost use Rattle.std.specs.Prelude.{◌≡◌, ◌↔◌, ◌++◌, [], OnOk, OnErr, IfOk, IsErrOf, IsTrue, option_to_list};
-ghost use Rattle.pool_etcd.specs.Following.{AddsValue, Ascends, Differs, HasLine, IsOther, IsSame, ReceivesValues, TakesEntries, last_revision};
+ghost use Rattle.std.specs.Prelude.{◌≡◌, ◌↔◌, ◌++◌, [], OnOk, OnErr, IfErr, IfOk, IsErrOf, IsTrue, option_to_list, unwrap_or};
+ghost use Rattle.pool_etcd.specs.Following.{Adds, AddsValue, Ascends, Differs, HasLine, IsOther, IsSame, ReceivesValues, Refuses, TakesEntries, last_revision, list_in};
 
 use crate::log_value::{LogEntry, LogValue, read_value};
+use crate::payload::Payload;
 use crate::response::KeyValue;
+use crate::suppliers::is_admitted;
 use crate::watch_line::Change;
 use std::alloc::Global;
 use std::collections::VecDeque;
@@ -19,9 +21,12 @@ pub enum FollowFault {
     Deleted,
     /// The pool has other settings.
     Settings,
+    /// An entry of the own process is not admitted.
+    Suppliers,
 }
 
-/// The entries that a watch gave, how far it has come, and the settings of the pool.
+/// The entries that a watch gave, how far it has come, the settings of the pool, and the supplier
+/// list.
 #[derive(Drop)]
 pub struct Following {
     /// The revision of the last change.
@@ -35,80 +40,53 @@ pub struct Following {
     /// The number of the pool's settings, if it is known: the one that was known at the start, or
     /// else the one in the first fence.
     pub pool: Option<u64>,
+    /// The supplier list after the last change.
+    pub suppliers: Payload,
+    /// The number of the own process as a writer.
+    pub writer: u64,
 }
 
-/// What a line has: its entries, and the number in its first fence.
+/// What a line has.
 #[derive(Drop)]
 pub struct LineValues {
+    /// The admitted entries.
     pub entries: VecDeque<LogEntry>,
+    /// The number in the first fence.
     pub fence: Option<u64>,
+    /// The last supplier list.
+    pub suppliers: Option<Payload>,
+    /// True if an entry of the own process is not admitted.
+    pub is_refused: bool,
 }
 
-// Adds what the value of a key is, if it is an entry, or the first fence of the line.
-fn push_value(alloc: Global, line: &mut LineValues, put: &KeyValue) -> Result<(), FollowFault>
-    ensures value { OnOk result (AddsValue put.now line.old line.new) }
-    ensures fault { IsErrOf result FollowFault.Settings → ⊥ }
+// Puts another supplier list in the place of one, if there is another.
+fn replace_list(list: &mut Payload, next: Option<Payload>)
+    ensures { list.new ≡ unwrap_or next list.old }
 {
-    match read_value(alloc, put.key.bytes(), put.stored.value.bytes()) {
-        Ok(LogValue::Entry(entry)) => match line.entries.push_back(entry) {
-            Ok(()) => Ok(()),
-            Err(_) => Err(FollowFault::Memory),
-        },
-        Ok(LogValue::Fence(agreed)) => {
-            line.fence = line.fence.or(Some(agreed));
-            Ok(())
-        }
-        Ok(LogValue::Other) => Ok(()),
-        Err(_) => Err(FollowFault::Memory),
+    if let Some(next) = next {
+        *list = next;
     }
-}
-
-// Reads the values of changes, each of which was made after the one before.
-fn line_values(
-    alloc: Global,
-    before: u64,
-    changes: &[Change],
-) -> Result<(LineValues, u64), FollowFault>
-    ensures values { IfOk result (λ line. HasLine changes.now line.0) }
-    ensures after { OnOk result (Ascends before changes.now) }
-    ensures revision { IfOk result (λ line. line.1 ≡ last_revision before changes.now) }
-    ensures fault { IsErrOf result FollowFault.Settings → ⊥ }
-{
-    let mut line = LineValues {
-        entries: VecDeque::new(alloc),
-        fence: None,
-    };
-    let mut revision = before;
-    for change in changes {
-        match change {
-            Change::Put(put) => {
-                if put.stored.revision <= revision {
-                    return Err(FollowFault::OutOfOrder);
-                }
-                push_value(alloc, &mut line, put)?;
-                revision = put.stored.revision;
-            }
-            Change::Deleted(_) => return Err(FollowFault::Deleted),
-        }
-    }
-    Ok((line, revision))
 }
 
 impl Following {
     /// Creates the state of an instance with these settings that knows the log up to a revision,
-    /// how many entries it has up to there, and maybe the settings of the pool.
+    /// how many entries it has up to there, and maybe the settings of the pool. The supplier list
+    /// is empty. The number is that of the own process as a writer.
     pub fn new(
         alloc: Global,
         revision: u64,
         count: u64,
         settings: u64,
         pool: Option<u64>,
+        writer: u64,
     ) -> Following
         ensures revision { result.revision ≡ revision }
         ensures count { result.count ≡ count }
         ensures entries { result.entries.items ≡ [] }
         ensures settings { result.settings ≡ settings }
         ensures pool { result.pool ≡ pool }
+        ensures suppliers { result.suppliers ≡ [] }
+        ensures writer { result.writer ≡ writer }
     {
         Following {
             revision,
@@ -116,6 +94,8 @@ impl Following {
             entries: VecDeque::new(alloc),
             settings,
             pool,
+            suppliers: Payload::from_vec(Vec::new(alloc)),
+            writer,
         }
     }
 
@@ -129,24 +109,124 @@ impl Following {
         }
     }
 
+    // Returns the supplier list behind the values of a line.
+    fn list_in<'a>(&'a self, line: &'a LineValues) -> &'a [u8]
+        ensures { result.now ≡ list_in self.now line.now }
+    {
+        match &line.suppliers {
+            Some(list) => list.bytes(),
+            None => self.suppliers.bytes(),
+        }
+    }
+
+    // Adds an entry if it is admitted. Otherwise it matters only if it is of the own process.
+    fn add_entry(
+        &self,
+        alloc: Global,
+        line: &mut LineValues,
+        entry: LogEntry,
+    ) -> Result<(), FollowFault>
+        ensures added { OnOk result (Adds self.now (LogValue.Entry entry) line.old line.new) }
+        ensures fault { IfErr result (λ fault. fault ≡ FollowFault.Memory) }
+    {
+        match is_admitted(alloc, self.list_in(line), &entry) {
+            Ok(true) => match line.entries.push_back(entry) {
+                Ok(()) => Ok(()),
+                Err(_) => Err(FollowFault::Memory),
+            },
+            Ok(false) => {
+                line.is_refused = line.is_refused || entry.writer == self.writer;
+                Ok(())
+            }
+            Err(_) => Err(FollowFault::Memory),
+        }
+    }
+
+    // Adds what the value of a key is.
+    fn add_value(
+        &self,
+        alloc: Global,
+        line: &mut LineValues,
+        put: &KeyValue,
+    ) -> Result<(), FollowFault>
+        ensures added { OnOk result (AddsValue self.now put.now line.old line.new) }
+        ensures fault { IfErr result (λ fault. fault ≡ FollowFault.Memory) }
+    {
+        match read_value(alloc, put.key.bytes(), put.stored.value.bytes()) {
+            Ok(LogValue::Entry(entry)) => self.add_entry(alloc, line, entry),
+            Ok(LogValue::Fence(agreed)) => {
+                line.fence = line.fence.or(Some(agreed));
+                Ok(())
+            }
+            Ok(LogValue::Suppliers(list)) => {
+                line.suppliers = Some(list);
+                Ok(())
+            }
+            Ok(LogValue::Other) => Ok(()),
+            Err(_) => Err(FollowFault::Memory),
+        }
+    }
+
+    // Reads the values of changes, each of which was made after the one before.
+    fn line_values(
+        &self,
+        alloc: Global,
+        changes: &[Change],
+    ) -> Result<(LineValues, u64), FollowFault>
+        ensures values { IfOk result (λ line. HasLine self.now changes.now line.0) }
+        ensures after { OnOk result (Ascends self.now.revision changes.now) }
+        ensures revision { IfOk result
+            (λ line. line.1 ≡ last_revision self.now.revision changes.now) }
+        ensures settings { IsErrOf result FollowFault.Settings → ⊥ }
+        ensures suppliers { IsErrOf result FollowFault.Suppliers → ⊥ }
+    {
+        let mut line = LineValues {
+            entries: VecDeque::new(alloc),
+            fence: None,
+            suppliers: None,
+            is_refused: false,
+        };
+        let mut revision = self.revision;
+        for change in changes {
+            match change {
+                Change::Put(put) => {
+                    if put.stored.revision <= revision {
+                        return Err(FollowFault::OutOfOrder);
+                    }
+                    self.add_value(alloc, &mut line, put)?;
+                    revision = put.stored.revision;
+                }
+                Change::Deleted(_) => return Err(FollowFault::Deleted),
+            }
+        }
+        Ok((line, revision))
+    }
+
     /// Takes the changes of a line: all of them, or none. They must be puts, each of which was made
     /// after all changes before. If the settings of the pool are not known, the first fence tells
-    /// them. They must be the own ones. Later fences, and values that are neither entry nor fence,
-    /// are passed over.
+    /// them. They must be the own ones.
+    ///
+    /// Each entry is checked by the supplier list at its place. Entries that it does not admit,
+    /// later fences, and values that are none of these are passed over. Returns `Suppliers` if an
+    /// entry of the own process is not admitted, and the settings do not differ.
     pub fn receive(&mut self, alloc: Global, changes: &[Change]) -> Result<(), FollowFault>
         ensures values { OnOk result (ReceivesValues self.old self.new changes.now) }
         ensures differs { IsErrOf result FollowFault.Settings → Differs self.old changes.now }
+        ensures refuses { IsErrOf result FollowFault.Suppliers → Refuses self.old changes.now }
         ensures after { OnOk result (Ascends self.old.revision changes.now) }
         ensures revision { OnOk result
             (self.new.revision ≡ last_revision self.old.revision changes.now) }
         ensures err { OnErr result (IsSame self.old self.new) }
     {
-        let (mut line, revision) = line_values(alloc, self.revision, changes)?;
+        let (mut line, revision) = self.line_values(alloc, changes)?;
         let pool = self.pool.or(line.fence);
         if let Some(pool) = pool
             && pool != self.settings
         {
             return Err(FollowFault::Settings);
+        }
+        if line.is_refused {
+            return Err(FollowFault::Suppliers);
         }
         let Some(count) = self.count.checked_add(line.entries.len() as u64) else {
             return Err(FollowFault::Memory);
@@ -157,6 +237,7 @@ impl Following {
         self.count = count;
         self.revision = revision;
         self.pool = pool;
+        replace_list(&mut self.suppliers, line.suppliers.take());
         Ok(())
     }
 

@@ -1,7 +1,10 @@
 //! Laws of the log over etcd. Each is the contract of a function that does nothing.
+ghost use Rattle.pool_etcd.specs.Admitted.{AdmittedCallsAreAssigned, WithoutListAllAreAdmitted};
 ghost use Rattle.pool_etcd.specs.Following.{FirstFenceDecides, KnownSettingsDecide};
 ghost use Rattle.pool_etcd.specs.OneKey.{EachValueOnce};
 ghost use Rattle.pool_etcd.specs.Value.{OneValue};
+
+use pool_entry::laws::callers_are_suppliers;
 
 /// States that the entries of a process are the values that it has taken, in order, each once, or
 /// all but the last one.
@@ -14,8 +17,8 @@ pub fn each_value_once()
     ensures { EachValueOnce }
 {}
 
-/// States that the value of a key is an entry, a fence or neither, in one way. So its bytes alone
-/// decide, with its key, what every instance reads.
+/// States that the value of a key is the supplier list, an entry, a fence or none of these, in one
+/// way. So its bytes alone decide, with its key, what every instance reads.
 pub fn one_value()
     ensures { OneValue }
 {}
@@ -32,4 +35,20 @@ pub fn first_fence_decides()
 /// States that an instance that knows other settings of the pool at the start receives no line.
 pub fn known_settings_decide()
     ensures { KnownSettingsDecide }
+{}
+
+/// States that each call that an admitted entry makes has a caller whose USS the supplier list at
+/// the entry's place assigns to the organization of the entry's key.
+///
+/// So an organization makes no call of a USS for which it may not act, whatever its instances put.
+/// It is assumed that an instance can put values only under its own key.
+pub fn admitted_calls_are_assigned()
+    ensures { AdmittedCallsAreAssigned }
+{
+    callers_are_suppliers();
+}
+
+/// States that every entry is admitted if no supplier list was put.
+pub fn without_list_all_are_admitted()
+    ensures { WithoutListAllAreAdmitted }
 {}

@@ -26,6 +26,7 @@ mod request_lane;
 mod response;
 mod response_fault;
 pub mod settings;
+mod suppliers;
 mod times;
 mod watch_lane;
 mod watch_line;

@@ -1,6 +1,8 @@
 //! The log, as an instance uses it.
 use crate::etcd_log::{EtcdLog, MAX_BATCH};
 use crate::log_value::entry_value;
+use crate::names::organization_of;
+use crate::suppliers::admits;
 use pool_core::log::{Entry, Log, LogEnd, LogFault, OfferFault};
 
 impl Log for EtcdLog {
@@ -13,6 +15,27 @@ impl Log for EtcdLog {
 
     fn number(&self) -> u64 {
         self.number
+    }
+
+    // Instances of one organization, which may run on one machine, count as having one clock.
+    fn next_has_other_clock(&self) -> bool {
+        if !self.state.is_read || self.state.earlier > 0 {
+            return false;
+        }
+        match self.state.following.entries.front() {
+            Some(entry) => organization_of(entry.key.bytes())
+                != organization_of(self.state.key.as_bytes()),
+            None => false,
+        }
+    }
+
+    fn is_read(&self) -> bool {
+        self.state.is_read
+    }
+
+    fn admits(&self, uss: &str) -> bool {
+        let list = self.state.following.suppliers.bytes();
+        admits(list, self.state.key.as_bytes(), uss)
     }
 
     fn offer(&mut self, bytes: &[u8]) -> Result<(), OfferFault> {
@@ -33,10 +56,13 @@ impl Log for EtcdLog {
             return Err(LogFault::Lost);
         }
         match self.state.following.next() {
-            Some(entry) => Ok(Some(Entry {
-                writer: entry.writer,
-                bytes: entry.bytes.into_vec(),
-            })),
+            Some(entry) => {
+                self.state.earlier = self.state.earlier.saturating_sub(1);
+                Ok(Some(Entry {
+                    writer: entry.writer,
+                    bytes: entry.bytes.into_vec(),
+                }))
+            }
             None => Ok(None),
         }
     }

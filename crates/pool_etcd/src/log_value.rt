@@ -3,10 +3,10 @@ ghost use Rattle.std.specs.Prelude.{◌≡◌, ◌+◌, ◌<◌, length, take, d
 ghost use Rattle.pool_etcd.specs.Lines.{Lacks, SplitsAt};
 ghost use Rattle.pool_etcd.specs.LogValue.{IsFence, IsNoEntry, IsNoFence, entry_value, fence_value};
 ghost use Rattle.pool_etcd.specs.Number.{number_of};
-ghost use Rattle.pool_etcd.specs.Value.{IsValue};
-ghost use Rattle.pool_etcd.specs.Writer.{IsEntryBy};
+ghost use Rattle.pool_etcd.specs.Value.{IsEntryAt, IsValue};
 
 use crate::lines::{LINE_FEED, line_end};
+use crate::names::list_key;
 use crate::number::number_of;
 use crate::payload::Payload;
 use crate::response_fault::ResponseFault;
@@ -18,10 +18,11 @@ use std::str;
 // The byte between the numbers of a fence.
 const SPACE: u8 = 32;
 
-/// An entry: the number of its writer, and its bytes.
+/// An entry: the number of its writer, the key under which it was put, and its bytes.
 #[derive(Drop)]
 pub struct LogEntry {
     pub writer: u64,
+    pub key: Payload,
     pub bytes: Payload,
 }
 
@@ -32,7 +33,9 @@ pub enum LogValue {
     Entry(LogEntry),
     /// A fence of an instance whose settings have this number.
     Fence(u64),
-    /// Neither of them. Every instance passes over it.
+    /// The supplier list.
+    Suppliers(Payload),
+    /// None of them. Every instance passes over it.
     Other,
 }
 
@@ -77,7 +80,7 @@ fn number_in_bytes(alloc: Global, bytes: &[u8]) -> Result<Option<u64>, AllocErro
 fn read_entry(alloc: Global, key: &[u8], value: &[u8]) -> Result<Option<LogEntry>, AllocError>
     ensures { IfOk result (λ entry. MatchOption entry
         (IsNoEntry value.now)
-        (λ e. IsEntryBy key.now value.now e.writer e.bytes)) }
+        (λ e. IsEntryAt key.now value.now e)) }
 {
     let Some(end) = line_end(value) else {
         return Ok(None);
@@ -87,8 +90,10 @@ fn read_entry(alloc: Global, key: &[u8], value: &[u8]) -> Result<Option<LogEntry
     };
     let writer = writer_of(alloc, key, number)?;
     let bytes = Vec::from_slice(alloc, &value[end + 1..])?;
+    let own = Vec::from_slice(alloc, key)?;
     Ok(Some(LogEntry {
         writer,
+        key: Payload::from_vec(own),
         bytes: Payload::from_vec(bytes),
     }))
 }
@@ -118,12 +123,16 @@ fn read_fence(alloc: Global, value: &[u8]) -> Result<Option<u64>, AllocError>
     number_in_bytes(alloc, &value[space + 1..])
 }
 
-/// Returns what the value of a key is: an entry, a fence, or neither.
+/// Returns what the value of a key is: the supplier list, an entry, a fence, or none of them.
 ///
 /// Returns `AllocError` if memory runs out.
 pub fn read_value(alloc: Global, key: &[u8], value: &[u8]) -> Result<LogValue, AllocError>
     ensures { IfOk result (λ found. IsValue key.now value.now found) }
 {
+    if key == list_key().as_bytes() {
+        let list = Vec::from_slice(alloc, value)?;
+        return Ok(LogValue::Suppliers(Payload::from_vec(list)));
+    }
     if let Some(entry) = read_entry(alloc, key, value)? {
         return Ok(LogValue::Entry(entry));
     }

@@ -4,9 +4,9 @@ ghost use Rattle.std.specs.String.{string_bytes};
 ghost use Rattle.serde_json.specs.Data.{array, item, member, no_items, no_members, object};
 ghost use Rattle.serde_json.specs.View.{view};
 ghost use Rattle.serde_json.specs.Written.{compact_text};
-ghost use Rattle.pool_etcd.specs.Request.{bytes_data, compact_data, create_members, end_data, is_at, own_data, put_data, token_data, watch_data};
+ghost use Rattle.pool_etcd.specs.Request.{bytes_data, compact_data, create_members, end_data, is_at, list_data, own_data, put_data, token_data, watch_data};
 
-use crate::names::{prefix, prefix_end};
+use crate::names::{list_key, prefix, prefix_end};
 use base64::engine::general_purpose::STANDARD;
 use serde_json::{Value, json};
 use std::alloc::{AllocError, Global};
@@ -111,6 +111,23 @@ pub fn own_body(alloc: Global, key: &str) -> Result<String, AllocError>
     ensures { IfOk result (λ body. string_bytes body ≡ compact_text (own_data key.now)) }
 {
     own_value(alloc, key)?.to_string(alloc)
+}
+
+fn list_value(alloc: Global, revision: u64) -> Result<Value, AllocError>
+    ensures { IfOk result (λ v. view v ≡ list_data revision) }
+{
+    let key = STANDARD.encode(alloc, list_key().as_bytes())?;
+    let revision = format!(in alloc; "{revision}")?;
+    json!(in alloc; {"key": key.as_str(), "revision": revision.as_str()})
+}
+
+/// Returns the body of a request for the supplier list, as it was at a revision.
+///
+/// Returns `AllocError` if memory runs out.
+pub fn list_body(alloc: Global, revision: u64) -> Result<String, AllocError>
+    ensures { IfOk result (λ body. string_bytes body ≡ compact_text (list_data revision)) }
+{
+    list_value(alloc, revision)?.to_string(alloc)
 }
 
 fn end_value(alloc: Global) -> Result<Value, AllocError>

@@ -5,8 +5,11 @@ use crate::etcd_log::LogState;
 use crate::exchange::{Request, Step};
 use crate::lane::Lane;
 use crate::own_entries::OwnState;
-use crate::request::{PUT_PATH, RANGE_PATH, TOKEN_PATH, end_body, own_body, put_body, token_body};
-use crate::response::{read_put, read_range, read_token};
+use crate::request::{
+    PUT_PATH, RANGE_PATH, TOKEN_PATH, end_body, list_body, own_body, put_body, token_body,
+};
+use crate::response::{read_put, read_range, read_revision_fault, read_token, read_value};
+use crate::response_fault::ResponseFault;
 use crate::times::later;
 use mio::{Registry, Token};
 use std::alloc::AllocError;
@@ -29,6 +32,7 @@ const MAX_STEPS: usize = 1_000;
 #[derive(Clone, Copy, Debug, PartialEq, Eq)]
 enum Kind {
     Token,
+    Suppliers,
     Revision,
     End,
     Put,
@@ -67,6 +71,9 @@ impl RequestLane {
     fn due(&self, state: &LogState, now: Duration) -> Option<Kind> {
         if state.needs_token() {
             return Some(Kind::Token);
+        }
+        if !state.has_list {
+            return Some(Kind::Suppliers);
         }
         let silent = now.saturating_sub(state.checked) >= Duration::from_millis(PROBE_AFTER);
         let end = state.questions.is_due() || silent;
@@ -188,11 +195,11 @@ impl RequestLane {
                 let Some((kind, _)) = pending else {
                     return Err(EtcdFault::Http);
                 };
-                if self.status != 200 {
-                    state.check_token(self.status);
-                    return Err(EtcdFault::Status(self.status));
+                if self.status == 200 {
+                    learn(kind, state, connection.body(), self.reached, now)?;
+                } else {
+                    learn_refusal(kind, state, connection.body(), self.status)?;
                 }
-                learn(kind, state, connection.body(), self.reached, now)?;
                 self.pending = None;
                 self.lane.succeed();
             }
@@ -241,6 +248,7 @@ impl RequestLane {
 fn path_of(kind: Kind) -> &'static str {
     match kind {
         Kind::Token => TOKEN_PATH,
+        Kind::Suppliers => RANGE_PATH,
         Kind::Revision => RANGE_PATH,
         Kind::End => RANGE_PATH,
         Kind::Put => PUT_PATH,
@@ -255,6 +263,7 @@ fn body_of(kind: Kind, state: &LogState) -> Result<String, AllocError> {
             Some(user) => token_body(state.alloc, user.name.as_str(), user.password.as_str()),
             None => token_body(state.alloc, "", ""),
         },
+        Kind::Suppliers => list_body(state.alloc, state.following.revision),
         Kind::Revision => own_body(state.alloc, key),
         Kind::End => end_body(state.alloc),
         Kind::Put => match state.own.due() {
@@ -274,6 +283,7 @@ fn learn(
 ) -> Result<(), EtcdFault> {
     match kind {
         Kind::Token => state.token = Some(read_token(state.alloc, body)?),
+        Kind::Suppliers => state.learn_list(read_value(state.alloc, body)?),
         Kind::Revision => {
             let revision = read_range(state.alloc, body)?;
             state.own.learn_revision(revision);
@@ -288,6 +298,28 @@ fn learn(
         }
     }
     Ok(())
+}
+
+// Takes what a response with another status than 200 says: that etcd has no supplier list of the
+// revision at the start, or else nothing.
+fn learn_refusal(
+    kind: Kind,
+    state: &mut LogState,
+    body: &[u8],
+    status: u16,
+) -> Result<(), EtcdFault> {
+    if kind == Kind::Suppliers && status == 400 {
+        match read_revision_fault(state.alloc, body) {
+            Ok(fault) => {
+                state.learn_revision_fault(fault);
+                return Ok(());
+            }
+            Err(ResponseFault::Memory) => return Err(EtcdFault::Memory),
+            Err(_) => {}
+        }
+    }
+    state.check_token(status);
+    Err(EtcdFault::Status(status))
 }
 
 // Takes the revision of the end of the log. The log has lost changes if that is before a change

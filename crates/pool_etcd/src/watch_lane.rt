@@ -70,7 +70,7 @@ impl WatchLane {
             return Ok(());
         }
         self.check_limits(state, now)?;
-        if self.lane.connection.is_none() && now >= self.lane.resume && !state.needs_token() {
+        if self.lane.connection.is_none() && now >= self.lane.resume && state.may_watch() {
             self.begin(net, registry, state, now)?;
         }
         Ok(())
@@ -224,6 +224,10 @@ impl WatchLane {
                         state.loss = Some(Loss::Settings);
                         Ok(())
                     }
+                    Err(FollowFault::Suppliers) => {
+                        state.loss = Some(Loss::Suppliers);
+                        Ok(())
+                    }
                 }
             }
         }
@@ -260,7 +264,7 @@ impl WatchLane {
             Some(limit) => limit,
             None => Duration::MAX,
         };
-        if self.lane.connection.is_none() && !state.needs_token() {
+        if self.lane.connection.is_none() && state.may_watch() {
             next = self.lane.resume;
         }
         if let Some((_, since)) = state.ahead {

@@ -10,6 +10,8 @@ pub(crate) enum Command<'a> {
     Offer(&'a str),
     /// Offers a batch of so many bytes.
     Long(usize),
+    /// Asks whether the instance may act for a USS.
+    Admits(&'a str),
     /// Asks for the end of the log.
     End,
     /// Goes on for so many milliseconds.
@@ -25,6 +27,7 @@ pub(crate) fn command_of(line: &str) -> Option<Command<'_>> {
     match line.split_once(' ') {
         Some(("offer", text)) => Some(Command::Offer(text)),
         Some(("long", count)) => Some(Command::Long(count.parse::<usize>().ok()?)),
+        Some(("admits", uss)) => Some(Command::Admits(uss)),
         Some(("wait", time)) => Some(Command::Wait(time.parse::<u64>().ok()?)),
         Some(("settle", time)) => Some(Command::Settle(time.parse::<u64>().ok()?)),
         Some(_) => None,
@@ -105,7 +108,7 @@ pub(crate) fn settings_of(
         number,
         revision,
         count,
-        agreed: settings_number(alloc, policy, salt)?,
+        agreed: settings_number(alloc, policy, 0, salt)?,
         pool,
     }))
 }

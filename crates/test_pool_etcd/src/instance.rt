@@ -61,6 +61,10 @@ impl<'a> Instance<'a> {
                 let bytes = vec![in self.rt.alloc(); b'x'; count]?;
                 self.offer(bytes.as_slice())
             }
+            Command::Admits(uss) => {
+                println!(self.rt; "admits {uss} {}", self.log.admits(uss))?;
+                Ok(Outcome::GoesOn)
+            }
             Command::End => {
                 if let Ok(question) = self.log.ask_end() {
                     println!(self.rt; "asked {question}")?;

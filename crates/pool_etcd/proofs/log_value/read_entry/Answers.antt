@@ -14,8 +14,14 @@ returns-in_default-2 c =
 
 pub returns : goal.returns
 returns c =
-    let rest : c.from_vec.result ≡ drop (c.in-Some.end + 1) c.args.value.now =
-    c.from_vec.ensures ∙ c.in_ok-bytes.ensures.items
+    let rest : c.from_vec-2.result ≡ drop (c.in-Some.end + 1) c.args.value.now =
+    c.from_vec-2.ensures ∙ c.in_ok-bytes.ensures.items
     ∙ take_all _ (drop (c.in-Some.end + 1) c.args.value.now) (omega (arith, length-drop (c.in-Some.end + 1) c.args.value.now)) in
-    let here = entry_here c.args.value.now _ _ c.in-Some-2.number c.in-Some.ensures.some (sym c.in_ok-number.ensures ∙ c.in-Some-2.is) in
-    (c.in-Some-2.number, subst (λ (bytes : List ℕ). IsEntry c.args.value.now c.in-Some-2.number bytes) (sym rest) here, c.in_ok-writer.ensures)
+    let here = entry_here c.args.value.now _ _ c.in-Some-2.number c.in-Some.ensures.some (sym c.in_ok-number.ensures ∙ c.in-Some-2.is) in (
+      c.from_vec.ensures ∙ c.in_ok-own.ensures.items,
+      (
+        c.in-Some-2.number,
+        subst (λ (bytes : List ℕ). IsEntry c.args.value.now c.in-Some-2.number bytes) (sym rest) here,
+        c.in_ok-writer.ensures,
+      ),
+    )
