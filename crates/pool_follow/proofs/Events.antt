@@ -8,15 +8,15 @@ use Rattle.space_core.specs.declared.group_commit.GroupCommit as settles
 use Rattle.space_core.specs.declared.space.Space as spaces
 use Rattle.service_calls.specs.Batches.{IsCommitted}
 use Rattle.service_calls.specs.Held.{is_shut, salt_of, space_of}
-use Rattle.service_calls.specs.Held as services
-use Rattle.service_calls.specs.Run.{airspace_after}
 use Rattle.service_calls.specs.declared.service.Service.{Service}
+use Rattle.pool_core.specs.Acts.{airspace_by}
 use Rattle.pool_core.specs.Log.{AsksEnd, Continues, GivesEntry, LogEntry, LogEvent, TellsEnd, end_events}
-use Rattle.pool_core.specs.Serves.{calls_in}
+use Rattle.pool_core.specs.Purging.{Keeps}
+use Rattle.pool_core.specs.Serves.{acts_in}
 use Rattle.pool_core.specs.declared.log.Log as logs
-use Rattle.pool_entry.specs.Calls.{calls_of}
-use Rattle.pool_instance.proofs.After.{continues_same, continues_then}
-use Rattle.pool_follow.specs.Calls.{MakesCalls}
+use Rattle.pool_core.proofs.Histories.{continues_same, continues_then}
+use Rattle.pool_entry.specs.Acts.{acts_of}
+use Rattle.pool_follow.specs.Acts.{DoesActs}
 use Rattle.pool_follow.specs.Follower.{AsksForEnd, Commits, Did, DidSome, Follows, HasFollowed, KnowsEnd, Learns, RunsOnce, Stays, Takes, airspace_of, entries_in}
 use Rattle.pool_follow.specs.Parts.{count_taken, end_of, is_at_end, log_of, salt_in, space_in, state_after}
 use Rattle.pool_follow.specs.declared.end_state.EndState.TheVariants.{Asked}
@@ -92,7 +92,7 @@ module _ {L S : Type 0} (gl : logs.Ghosts L) (gs : spaces.Ghosts S) where
     sound = λ h. subst (λ (v : Service S). gs.is_sound (space_of v)) same h;
     goes = λ h. ap (λ (v : Service S). is_shut v) same ∙ h;
     made = λ goes sound a content.
-        subst (λ (b : Airspace). IsContent gs.holds (space_in new) b) (sym (ap (λ (v : List LogEntry). airspace_after (salt_in old) a (calls_in calls_of v)) none))
+        subst (λ (b : Airspace). IsContent gs.holds (space_in new) b) (sym (ap (λ (v : List LogEntry). airspace_by (salt_in old) a (acts_in acts_of v)) none))
         (subst (λ (v : Service S). IsContent gs.holds (space_of v) a) (sym same) content);
   }
 
@@ -125,18 +125,18 @@ module _ {L S : Type 0} (gl : logs.Ghosts L) (gs : spaces.Ghosts S) where
 
   -- Takes an entry.
   pub did_take : (old new : Follower L S) (entry : LogEntry) → count_taken new ≡ count_taken old + 1
-      → Continues (gl.history (log_of old)) (gl.history (log_of new)) (GivesEntry entry ∷ []) → end_of new ≡ end_of old → services.Stays gs old.service new.service
-      → (is_shut old.service ≡ false → MakesCalls gs (calls_of entry.bytes) old.service new.service) → Did gl gs old (GivesEntry entry ∷ []) new
-  did_take old new entry taken history end stays made =
+      → Continues (gl.history (log_of old)) (gl.history (log_of new)) (GivesEntry entry ∷ []) → end_of new ≡ end_of old → Keeps gs old.service new.service
+      → (is_shut old.service ≡ false → DoesActs gs (acts_of entry.bytes) old.service new.service) → Did gl gs old (GivesEntry entry ∷ []) new
+  did_take old new entry taken history end keeps done =
       did_moved old (GivesEntry entry ∷ []) new
       (record {
         history = history;
         taken = taken;
-        salt = stays.salt;
-        sound = stays.sound;
-        goes = λ goes. (made goes).goes;
+        salt = keeps.salt;
+        sound = keeps.sound;
+        goes = λ goes. (done goes).goes;
         made = λ goes sound a content.
-            subst (λ (b : Airspace). IsContent gs.holds (space_in new) b) (sym (air_entry (salt_in old) a entry)) ((made goes).made sound a content);
+            subst (λ (b : Airspace). IsContent gs.holds (space_in new) b) (sym (air_entry (salt_in old) a entry)) ((done goes).done sound a content);
       })
       (λ events is. subst (λ v. KnowsEnd (events ++ GivesEntry entry ∷ []) v) (sym end) (knows_more events (GivesEntry entry ∷ []) (end_of old) is))
 

@@ -1,4 +1,4 @@
 pub mod Airspaces
 pub mod Ends
 pub mod Events
-pub mod Made
+pub mod Done

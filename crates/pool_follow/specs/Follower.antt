@@ -7,12 +7,12 @@ use Rattle.space_core.specs.Space.{IsContent}
 use Rattle.space_core.specs.declared.group_commit.GroupCommit as settles
 use Rattle.space_core.specs.declared.space.Space as spaces
 use Rattle.service_calls.specs.Held.{is_shut}
-use Rattle.service_calls.specs.Run.{airspace_after}
+use Rattle.pool_core.specs.Acts.{airspace_by}
 use Rattle.pool_core.specs.Log.{AsksEnd, Continues, GivesEntry, LogEntry, LogEvent, TellsEnd, end_events}
-use Rattle.pool_core.specs.Serves.{calls_in}
+use Rattle.pool_core.specs.Serves.{acts_in}
 use Rattle.pool_core.specs.declared.log.Log as logs
 use Rattle.pool_core.specs.declared.log.LogEnd.{LogEnd}
-use Rattle.pool_entry.specs.Calls.{calls_of}
+use Rattle.pool_entry.specs.Acts.{acts_of}
 use Rattle.pool_follow.specs.Parts.{count_taken, end_of, failed_with, is_at_end, log_of, salt_in, space_in}
 use Rattle.pool_follow.specs.declared.end_state.EndState.{EndState}
 use Rattle.pool_follow.specs.declared.end_state.EndState.TheVariants.{Asked, Known, Unasked}
@@ -29,9 +29,9 @@ entry_in event = []
 abbrev pub entries_in : List LogEvent → List LogEntry
 entries_in events = flat_map entry_in events
 
--- The airspace after the calls of the entries that a log gave.
+-- The airspace after the acts of the entries that a log gave.
 abbrev pub airspace_of : (salt : List ℕ) (start : Airspace) → List LogEvent → Airspace
-airspace_of salt start events = airspace_after salt start (calls_in calls_of (entries_in events))
+airspace_of salt start events = airspace_by salt start (acts_in acts_of (entries_in events))
 
 -- Holds if the log was asked this question for its end.
 pub record WasAsked (events : List LogEvent) (question : ℕ) : Type 0 where
@@ -71,7 +71,7 @@ module _ {L S : Type 0} (gl : logs.Ghosts L) (gs : spaces.Ghosts S) where
   -- ---- the state of a follower
 
   -- Holds if a follower has done this at its log and can go on. It started with the airspace
-  -- `start`, and its log had the history `past` then. It made the calls of the entries that the log
+  -- `start`, and its log had the history `past` then. It did the acts of the entries that the log
   -- gave: its space holds the airspace after them, and no other.
   pub record HasFollowed (past : Option (List LogEvent)) (start : Airspace)
       (events : List LogEvent) (x : Follower L S) : Type 0 where
@@ -92,7 +92,7 @@ module _ {L S : Type 0} (gl : logs.Ghosts L) (gs : spaces.Ghosts S) where
     pub whole : gs.is_sound (space_in new) → gs.is_whole (space_in old)
         → gs.is_whole (space_in new)
 
-  -- Holds if exactly these events happened at the log, and the calls of their entries were made,
+  -- Holds if exactly these events happened at the log, and the acts of their entries were done,
   -- whatever happened before.
   pub record Did (old : Follower L S) (more : List LogEvent) (new : Follower L S) : Type 0 where
     pub after : (past : Option (List LogEvent)) (start : Airspace) (events : List LogEvent)
@@ -106,7 +106,7 @@ module _ {L S : Type 0} (gl : logs.Ghosts L) (gs : spaces.Ghosts S) where
     pub did : Did old (AsksEnd question ∷ []) new
     pub asked : end_of new ≡ Asked question
 
-  -- Holds if some events happened at the log, and the calls of their entries were made.
+  -- Holds if some events happened at the log, and the acts of their entries were done.
   pub record DidSome (old new : Follower L S) : Type 0 where
     pub events : List LogEvent
     pub did : Did old events new
@@ -115,7 +115,7 @@ module _ {L S : Type 0} (gl : logs.Ghosts L) (gs : spaces.Ghosts S) where
   abbrev pub Learns : Follower L S → Follower L S → Type 0
   Learns old new = (answer : Option LogEnd) × Did old (end_events answer) new
 
-  -- Holds if the follower took the next entry and made its calls, if the log gave one.
+  -- Holds if the follower took the next entry and did its acts, if the log gave one.
   abbrev pub Takes : Follower L S → Follower L S → Bool → Type 0
   Takes old new true = (entry : LogEntry) × Did old (GivesEntry entry ∷ []) new
   Takes old new false = Did old [] new
@@ -135,7 +135,7 @@ module _ {L S : Type 0} (gl : logs.Ghosts L) (gs : spaces.Ghosts S) where
       pub reached : rest ≡ None → is_at_end new ≡ true
 
     -- Holds if the follower followed its log in these events. In them it asked for the end, and it
-    -- has made the calls of all entries up to the end that the log told. Nothing is pending.
+    -- has done the acts of all entries up to the end that the log told. Nothing is pending.
     pub record Follows (old new : Follower L S) : Type 0 where
       pub events : List LogEvent
       pub did : Did old events new

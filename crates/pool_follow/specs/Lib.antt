@@ -1,3 +1,3 @@
 pub mod Parts
-pub mod Calls
+pub mod Acts
 pub mod Follower

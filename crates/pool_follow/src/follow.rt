@@ -5,9 +5,8 @@ ghost use Rattle.pool_follow.specs.Follower.{DidSome, Follows, RunsOnce, Stays};
 use crate::follow_fault::FollowFault;
 use crate::follower::Follower;
 use pool_core::log::Log;
-use pool_instance::log_io::LogIo;
-use space_core::group_commit::GroupCommit;
-use space_core::space::Space;
+use pool_core::log_io::LogIo;
+use space_core::purge_ended::PurgeEnded;
 use std::alloc::Global;
 use std::io;
 use std::time::Duration;
@@ -29,7 +28,7 @@ pub trait Waiting {
 }
 
 // Takes entries until the log gives none, but at most `ENTRIES`. Returns true if it gave none.
-fn take_some<L: Log + Drop, S: Space + Drop>(
+fn take_some<L: Log + Drop, S: PurgeEnded + Drop>(
     alloc: Global,
     routes: &Routes,
     follower: &mut Follower<L, S>,
@@ -47,7 +46,7 @@ fn take_some<L: Log + Drop, S: Space + Drop>(
 
 // Moves the bytes of the log, takes the entries that it gives, and commits. Returns the time until
 // the next iteration. Returns `None` at the end, if the log gave all that it received.
-fn run_once<L: Log + Drop, S: GroupCommit + Drop, I: LogIo<L>>(
+fn run_once<L: Log + Drop, S: PurgeEnded + Drop, I: LogIo<L>>(
     alloc: Global,
     routes: &Routes,
     follower: &mut Follower<L, S>,
@@ -78,11 +77,11 @@ fn run_once<L: Log + Drop, S: GroupCommit + Drop, I: LogIo<L>>(
 /// Follows the log up to an end that it asks for, and commits the changes of the space. Commits at
 /// least once in 64 entries.
 ///
-/// After `Ok` the calls are made of all entries that the log had when it was asked for its end.
+/// After `Ok` the acts are done of all entries that the log had when it was asked for its end.
 /// The last call of the log returned no entry, so that no received entry waits in it.
 ///
 /// Returns `Silent` if the log has not answered for 30 seconds.
-pub fn follow<L: Log + Drop, S: GroupCommit + Drop, I: LogIo<L>, W: Waiting>(
+pub fn follow<L: Log + Drop, S: PurgeEnded + Drop, I: LogIo<L>, W: Waiting>(
     alloc: Global,
     routes: &Routes,
     follower: &mut Follower<L, S>,

@@ -2,13 +2,14 @@
 ghost use Rattle.std.specs.Prelude.{◌≡◌};
 ghost use Rattle.pool_follow.specs.Parts.{fault_of};
 
-use crate::calls::make_calls;
+use crate::acts::do_acts;
 use crate::end_state::EndState;
 use crate::follow_fault::FollowFault;
 use pool_core::log::{Log, LogFault};
-use pool_instance::log_io::LogIo;
+use pool_core::log_io::LogIo;
 use service_calls::service::Service;
 use space_core::group_commit::GroupCommit;
+use space_core::purge_ended::PurgeEnded;
 use space_core::space::Space;
 use std::alloc::Global;
 use std::time::Duration;
@@ -24,11 +25,11 @@ fn log_fault(fault: LogFault) -> FollowFault
     }
 }
 
-/// Makes the calls of the entries of a log, in order, over the space of a service. It has no
-/// requests of its own.
+/// Does the acts of the entries of a log, in order, over the space of a service. It has no requests
+/// of its own.
 ///
 /// After `take` or `commit` returned a fault, both always return this fault. The space may then
-/// have a part of the calls of an entry.
+/// have a part of the acts of an entry.
 #[derive(Drop)]
 pub struct Follower<L: Log, S: Space> {
     log: L,
@@ -40,12 +41,11 @@ pub struct Follower<L: Log, S: Space> {
 }
 
 impl<L: Log + Drop, S: Space + Drop> Follower<L, S> {
-    ghost use Rattle.std.specs.Prelude.{◌≡◌, [], false, IfOk, OnOk, Some};
+    ghost use Rattle.std.specs.Prelude.{◌≡◌, [], false, OnOk, Some};
     ghost use Rattle.entity_core.specs.Airspace.{Airspace};
     ghost use Rattle.space_core.specs.Space.{IsContent};
     ghost use Rattle.service_calls.specs.Held.{is_shut, salt_of, space_of};
-    ghost use Rattle.pool_follow.specs.Follower.{AsksForEnd, Did, FailsForGood, HasFollowed};
-    ghost use Rattle.pool_follow.specs.Follower.{Learns, Stays, Takes};
+    ghost use Rattle.pool_follow.specs.Follower.{AsksForEnd, Did, HasFollowed, Learns, Stays};
     ghost use Rattle.pool_follow.specs.Parts.{is_at_end, log_of, salt_in, space_in, with_fault};
 
     /// Creates a follower that has taken no entry, over a service whose space holds the airspace
@@ -139,8 +139,13 @@ impl<L: Log + Drop, S: Space + Drop> Follower<L, S> {
         self.failed = Some(fault);
         fault
     }
+}
 
-    // Takes the next entry, if the log gives one, and makes its calls. Returns true if it did.
+impl<L: Log + Drop, S: PurgeEnded + Drop> Follower<L, S> {
+    ghost use Rattle.std.specs.Prelude.{◌≡◌, IfOk};
+    ghost use Rattle.pool_follow.specs.Follower.{FailsForGood, Stays, Takes};
+
+    // Takes the next entry, if the log gives one, and does its acts. Returns true if it did.
     fn take_next(&mut self, alloc: Global, routes: &Routes) -> Result<bool, FollowFault>
         ensures stays { Stays L.Log S.Space self.old self.new }
         ensures takes { IfOk result (Takes L.Log S.Space self.old self.new) }
@@ -151,7 +156,7 @@ impl<L: Log + Drop, S: Space + Drop> Follower<L, S> {
         match self.log.next() {
             Ok(None) => Ok(false),
             Ok(Some(entry)) => {
-                make_calls(&mut self.service, alloc, routes, entry.bytes.as_slice())?;
+                do_acts(&mut self.service, alloc, routes, entry.bytes.as_slice())?;
                 self.taken = taken;
                 Ok(true)
             }
@@ -159,7 +164,7 @@ impl<L: Log + Drop, S: Space + Drop> Follower<L, S> {
         }
     }
 
-    /// Takes the next entry, if the log gives one, and makes its calls. Returns true if it did.
+    /// Takes the next entry, if the log gives one, and does its acts. Returns true if it did.
     pub fn take(&mut self, alloc: Global, routes: &Routes) -> Result<bool, FollowFault>
         ensures stays { Stays L.Log S.Space self.old self.new }
         ensures fails { FailsForGood self.old self.new result }

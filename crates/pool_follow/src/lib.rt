@@ -1,7 +1,7 @@
-//! A follower of the log of a pool: it makes the calls of the entries over a space.
+//! A follower of the log of a pool: it does the acts of the entries over a space.
 #![tactic(auto)]
 
-mod calls;
+mod acts;
 mod end_state;
 pub mod follow;
 pub mod follow_fault;

@@ -1,6 +1,6 @@
 -- Lemmas: the state of an instance after more events.
-use Rattle.std.proofs.Common.{◌≡◌, ◌==◌, ℕ, Bool, true, false, List, [], ◌∷◌, ◌++◌, length, Option, Some, None, refl, sym, ap, subst, ◌∙◌, append_assoc}
-use Rattle.std.specs.Prelude.{count_by, option_map}
+use Rattle.std.proofs.Common.{◌≡◌, ◌==◌, ℕ, Bool, true, false, List, [], ◌∷◌, ◌++◌, length, Option, Some, None, refl, sym, ap, subst, ◌∙◌}
+use Rattle.std.specs.Prelude.{count_by}
 use Rattle.std.specs.declared.vec.Vec.{Vec}
 use Rattle.std.proofs.lemmas.List.{append-nil}
 use Rattle.std.proofs.lemmas.List.Concat.{flat_map-append}
@@ -8,38 +8,27 @@ use Rattle.entity_core.specs.Airspace.{Airspace}
 use Rattle.space_core.specs.Space.{IsContent}
 use Rattle.space_core.specs.declared.space.Space as spaces
 use Rattle.service_calls.specs.Held.{is_shut, salt_of, space_of}
-use Rattle.service_calls.specs.Run.{airspace_after}
+use Rattle.pool_core.specs.Acts.{airspace_by}
 use Rattle.service_calls.specs.declared.service.Service.{Service}
 use Rattle.pool_core.specs.Events.{Batch, InstanceEvent, batches_offered, entries_given, log_events, log_events_in}
 use Rattle.pool_core.specs.Log.{Continues, LogEntry, LogEvent}
-use Rattle.pool_core.specs.Serves.{AllMayFollow, ServesPool, calls_in}
+use Rattle.pool_core.specs.Serves.{AllMayFollow, ServesPool, acts_in}
 use Rattle.pool_core.specs.declared.log.Log as logs
+use Rattle.pool_core.proofs.Histories.{continues_same, continues_then}
 use Rattle.pool_core.proofs.Projections.{given_append, offered_append}
 use Rattle.pool_core.proofs.Served.{serves_then}
-use Rattle.pool_entry.specs.Calls.{calls_of}
+use Rattle.pool_entry.specs.Acts.{acts_of}
 use Rattle.pool_instance.specs.Does.{Did, DidNothing}
-use Rattle.pool_instance.specs.Parts.{count_taken, ids_in, ids_of, is_ended, log_of, readings_in, salt_in, sent_by, sent_in, space_in, unsent_in}
+use Rattle.pool_instance.specs.Parts.{count_taken, heard_in, ids_in, ids_of, is_ended, log_of, readings_in, retention_in, salt_in, sent_by, sent_in, space_in, unsent_in}
+use Rattle.pool_instance.specs.Purging.{AreAgreed, IsHeard}
 use Rattle.pool_instance.specs.State.{AreOfBatch, AreRequests, IsAfter, IsInFlight, IsUpToDate, airspace_of, count_own}
 use Rattle.pool_instance.specs.declared.instance.Instance.{Instance}
 use Rattle.pool_instance.specs.declared.waiting.Held.{Held}
 use Rattle.pool_instance.specs.declared.waiting.Reading.{Reading}
+use Rattle.pool_instance.proofs.Agreed.{AreAgreedThen, agreed_append, none_agreed, still_heard}
 use Rattle.pool_instance.proofs.Times.{both}
 
 -- ---- histories
-
-continued : (p : Option (List LogEvent)) (xs ys : List LogEvent) → option_map (λ all. all ++ ys) (option_map (λ all. all ++ xs) p) ≡ option_map (λ all. all ++ (xs ++ ys)) p
-continued None xs ys = refl
-continued (Some p) xs ys = ap (λ v. Some v) (append_assoc p xs ys)
-
-pub continues_then : (past old new : Option (List LogEvent)) (xs ys : List LogEvent) → Continues past old xs → Continues old new ys → Continues past new (xs ++ ys)
-continues_then past old new xs ys h k = k ∙ ap (λ v. option_map (λ all. all ++ ys) v) h ∙ continued past xs ys
-
-continued_same : (p : Option (List LogEvent)) → option_map (λ all. all ++ []) p ≡ p
-continued_same None = refl
-continued_same (Some p) = ap (λ v. Some v) (append-nil p)
-
-pub continues_same : (old new : Option (List LogEvent)) → new ≡ old → Continues old new []
-continues_same old new h = h ∙ sym (continued_same old)
 
 pub logged_append : (xs ys : List InstanceEvent) → log_events (xs ++ ys) ≡ log_events xs ++ log_events ys
 logged_append xs ys = flat_map-append log_events_in xs ys
@@ -96,29 +85,37 @@ module _ {L S : Type 0} (gl : logs.Ghosts L) (gs : spaces.Ghosts S) where
     pub history : Continues (gl.history (log_of old)) (gl.history (log_of new)) logged
     pub writer : gl.writer (log_of new) ≡ gl.writer (log_of old)
     pub salt : salt_in new ≡ salt_in old
+    pub retention : retention_in new ≡ retention_in old
     pub sound : gs.is_sound (space_in new) → gs.is_sound (space_in old)
 
   -- An instance that did more.
   pub goes_on : (past : Option (List LogEvent)) (start : Airspace) (events more : List InstanceEvent) (old new : Instance L S) → IsAfter gl gs past start events old → Stayed old new (log_events more)
-      → (gs.is_sound (space_in new) → AllMayFollow calls_of (salt_in old) start (gl.writer (log_of old)) events more)
+      → (gs.is_sound (space_in new) → AllMayFollow acts_of (salt_in old) start (gl.writer (log_of old)) events more)
       → (is_ended new ≡ false → IsUpToDate gl gs start (events ++ more) new)
       → AreRequests (events ++ more) (readings_in new) (unsent_in new) (sent_in new) new.received
+      → IsHeard (gl.writer (log_of old)) (events ++ more) (heard_in new)
+      → AreAgreedThen (retention_in old) (gl.writer (log_of old)) events more
       → IsAfter gl gs past start (events ++ more) new
-  goes_on past start events more old new is stayed follows up requests = record {
+  goes_on past start events more old new is stayed follows up requests heard agreed = record {
     logged =
         subst (λ v. Continues past (gl.history (log_of new)) v) (sym (logged_append events more))
         (continues_then past (gl.history (log_of old)) (gl.history (log_of new)) (log_events events) (log_events more) is.logged stayed.history);
     serves = λ sound.
-        subst (λ (v : ℕ). ServesPool calls_of (salt_in new) start v (events ++ more)) (sym stayed.writer)
-        (subst (λ (v : List ℕ). ServesPool calls_of v start (gl.writer (log_of old)) (events ++ more)) (sym stayed.salt)
-        (serves_then calls_of (salt_in old) start (gl.writer (log_of old)) events more (is.serves (stayed.sound sound)) (follows sound)));
+        subst (λ (v : ℕ). ServesPool acts_of (salt_in new) start v (events ++ more)) (sym stayed.writer)
+        (subst (λ (v : List ℕ). ServesPool acts_of v start (gl.writer (log_of old)) (events ++ more)) (sym stayed.salt)
+        (serves_then acts_of (salt_in old) start (gl.writer (log_of old)) events more (is.serves (stayed.sound sound)) (follows sound)));
     up_to_date = up;
     requests = requests;
+    heard = subst (λ (v : ℕ). IsHeard v (events ++ more) (heard_in new)) (sym stayed.writer) heard;
+    agreed =
+        subst (λ (v : ℕ). AreAgreed (retention_in new) v (events ++ more)) (sym stayed.writer)
+        (subst (λ (v : Option ℕ). AreAgreed v (gl.writer (log_of old)) (events ++ more)) (sym stayed.retention)
+        (agreed_append (retention_in old) (gl.writer (log_of old)) events more is.agreed agreed));
   }
 
   -- The airspace after quiet events.
   pub airspace_quiet : (salt : List ℕ) (start : Airspace) (me : ℕ) (events more : List InstanceEvent) → AreQuiet me more → airspace_of salt start (events ++ more) ≡ airspace_of salt start events
-  airspace_quiet salt start me events more q = ap (λ (v : List LogEntry). airspace_after salt start (calls_in calls_of v)) (given_quiet me events more q)
+  airspace_quiet salt start me events more q = ap (λ (v : List LogEntry). airspace_by salt start (acts_in acts_of v)) (given_quiet me events more q)
 
   -- An instance that did not take an entry, nor offer a batch.
   pub up_quiet : (start : Airspace) (events more : List InstanceEvent) (old new : Instance L S) (logged : List LogEvent) → Stayed old new logged → AreQuiet (gl.writer (log_of old)) more
@@ -149,12 +146,15 @@ module _ {L S : Type 0} (gl : logs.Ghosts L) (gs : spaces.Ghosts S) where
     pub taken : count_taken new ≡ count_taken old
     pub received : new.received ≡ old.received
     pub ended : is_ended old ≡ true → is_ended new ≡ true
+    pub retention : retention_in new ≡ retention_in old
+    pub heard : heard_in new ≡ heard_in old
 
   pub alike_stayed : (old new : Instance L S) → Alike old new → Stayed old new []
   alike_stayed old new a = record {
     history = continues_same (gl.history (log_of old)) (gl.history (log_of new)) a.history;
     writer = a.writer;
     salt = ap (λ (v : Service S). salt_of v) a.service;
+    retention = a.retention;
     sound = λ s. subst (λ (v : Service S). gs.is_sound (space_of v)) a.service s;
   }
 
@@ -171,9 +171,12 @@ module _ {L S : Type 0} (gl : logs.Ghosts L) (gs : spaces.Ghosts S) where
         goes_on past start events [] old new is (alike_stayed old new a) (λ s. tt)
         (λ goes. alike_up start events old new a (is.up_to_date (still_goes (is_ended old) (is_ended new) a.ended goes)))
         (requests_same events (events ++ []) (readings_in old) (readings_in new) (unsent_in old) (unsent_in new) (sent_in old) (sent_in new) old.received new.received
-        (append-nil events) a.readings a.unsent (ap (λ v. sent_by v) a.in_flight) a.received is.requests);
+        (append-nil events) a.readings a.unsent (ap (λ v. sent_by v) a.in_flight) a.received is.requests)
+        (still_heard (gl.writer (log_of old)) events [] (heard_in old) (heard_in new) a.heard is.heard)
+        (none_agreed (retention_in old) (gl.writer (log_of old)) events [] refl);
     salt = ap (λ (v : Service S). salt_of v) a.service;
     writer = a.writer;
+    retention = a.retention;
     sound = λ s. subst (λ (v : Service S). gs.is_sound (space_of v)) a.service s;
     stays_ended = a.ended;
   }

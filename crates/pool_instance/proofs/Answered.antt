@@ -14,13 +14,14 @@ use Rattle.pool_core.specs.declared.log.Log as logs
 use Rattle.pool_core.proofs.Lists.{contains_at, contains_same}
 use Rattle.pool_instance.specs.Does.{AnsweredSo, FailedSo}
 use Rattle.pool_instance.specs.Effects.{with_end}
-use Rattle.pool_instance.specs.Parts.{count_taken, is_due, is_ended, log_of, readings_in, sent_in, unsent_in}
+use Rattle.pool_instance.specs.Parts.{count_taken, heard_in, is_due, is_ended, log_of, readings_in, retention_in, sent_in, unsent_in}
 use Rattle.pool_instance.specs.Request.{call_of}
 use Rattle.pool_instance.specs.declared.fault.InstanceFault.TheVariants.{Ended}
 use Rattle.pool_instance.specs.declared.instance.Instance.{Instance}
 use Rattle.pool_instance.specs.declared.outcome.Outcome.TheVariants.{Failed, Replied}
 use Rattle.pool_instance.specs.declared.waiting.Reading.{Reading}
-use Rattle.pool_instance.proofs.After.{Stayed, continues_same, requests_same}
+use Rattle.pool_core.proofs.Histories.{continues_same}
+use Rattle.pool_instance.proofs.After.{Stayed, requests_same}
 use Rattle.pool_instance.proofs.Did.{did_end}
 use Rattle.pool_instance.proofs.Entries.{did_answer, did_fail}
 use Rattle.pool_instance.proofs.Places.{Found}
@@ -41,23 +42,24 @@ module _ {L S : Type 0} (gl : logs.Ghosts L) (gs : spaces.Ghosts S) where
   pub answer_end : (old : Instance L S) (s : Service S) → Stays gs old.service s → FailedSo gl gs old (with_end (record old { service = s })) Ended
   answer_end old s stays =
       let new : Instance L S = with_end (record old { service = s }) in
-      let stayed : Stayed gl gs old new [] = record { history = continues_same (gl.history (log_of old)) (gl.history (log_of old)) refl; writer = refl; salt = stays.salt; sound = stays.sound } in (
+      let stayed : Stayed gl gs old new [] = record { history = continues_same (gl.history (log_of old)) (gl.history (log_of old)) refl; writer = refl; salt = stays.salt; retention = refl; sound = stays.sound } in (
         refl,
         refl,
-        inl (did_end gl gs old new [] stayed refl refl refl refl refl (λ start events. tt)
+        inl (did_end gl gs old new [] stayed refl refl refl refl refl refl refl (λ start events. tt)
             (λ events all.
             requests_same events (events ++ []) (readings_in old) (readings_in old) (unsent_in old) (unsent_in old) (sent_in old) (sent_in old) old.received old.received (append-nil events) refl refl refl refl all)),
       )
 
   module _ (old new : Instance L S) (now : ℕ) (i : ℕ) (reply : Reply) (f : Found (is_due (count_taken old)) (readings_in old) i) (going : is_ended old ≡ false)
       (asked : IsReplyTo gs old.service new.service now (call_of f.one.held.request) reply) (log : log_of new ≡ log_of old) (less : readings_in new ≡ remove (readings_in old) i) (same_hs : unsent_in new ≡ unsent_in old)
-      (same : new.in_flight ≡ old.in_flight) (taken : count_taken new ≡ count_taken old) (n : new.received ≡ old.received) (ended : is_ended new ≡ is_ended old) (goes : is_stopped reply ≡ false) where
+      (same : new.in_flight ≡ old.in_flight) (taken : count_taken new ≡ count_taken old) (n : new.received ≡ old.received) (ended : is_ended new ≡ is_ended old) (goes : is_stopped reply ≡ false)
+      (retained : retention_in new ≡ retention_in old) (heard : heard_in new ≡ heard_in old) where
     removed : readings_in new ≡ f.split.front ++ f.split.back
     removed = less ∙ ap (λ (v : List Reading). remove v i) f.split.split ∙ remove_split f.split.front f.one f.split.back i f.split.at
 
     pub answered_fault : reply ≡ Fault → AnsweredSo gl gs now old new (Ok (Some (Failed f.one.held.id)))
     answered_fault is = (
-      did_fail gl gs old new now f.split.front f.one f.split.back reply going f.split.split asked log removed same_hs same taken n ended goes,
+      did_fail gl gs old new now f.split.front f.one f.split.back reply going f.split.split asked log removed same_hs same taken n ended goes retained heard,
       (
         f.one,
         contains_same (readings_in old) (f.split.front ++ f.one ∷ f.split.back) f.one f.split.split (contains_at f.split.front f.one f.split.back),
@@ -69,5 +71,5 @@ module _ {L S : Type 0} (gl : logs.Ghosts L) (gs : spaces.Ghosts S) where
     pub answered_reply : IsDoneOrDenied reply → AnsweredSo gl gs now old new (Ok (Some (Replied f.one.held.id reply)))
     answered_reply final = (
       call_of f.one.held.request,
-      did_answer gl gs old new now f.split.front f.one f.split.back reply going f.split.split asked log removed same_hs same taken n ended goes f.passes final,
+      did_answer gl gs old new now f.split.front f.one f.split.back reply going f.split.split asked log removed same_hs same taken n ended goes retained heard f.passes final,
     )

@@ -16,25 +16,28 @@ use Rattle.service_step.specs.declared.reply.Reply.{Reply}
 use Rattle.service_step.specs.declared.reply.Reply.TheVariants.{Denied}
 use Rattle.service_calls.specs.Held.{is_shut, salt_of, space_of}
 use Rattle.service_calls.specs.declared.service.Service.{Service}
-use Rattle.pool_core.specs.Events.{Answers, AsksForEnd, AtOnce, Fails, InstanceEvent, LearnsEnd, Receives, log_events}
+use Rattle.pool_core.specs.Events.{Answers, AsksForEnd, AtOnce, Fails, InstanceEvent, LearnsEnd, Receives, batches_offered, log_events}
 use Rattle.pool_core.specs.Log.{AsksEnd, Continues, LogEvent, TellsEnd}
 use Rattle.pool_core.specs.Serves.{AllMayFollow, IsOpen, times}
 use Rattle.pool_core.specs.Unlogged.{reads}
 use Rattle.pool_core.specs.declared.log.Log as logs
 use Rattle.pool_core.proofs.Lists.{contains_at, contains_same}
 use Rattle.pool_core.proofs.Unlogged.{early_anywhere}
-use Rattle.pool_entry.specs.Calls.{calls_of}
+use Rattle.pool_entry.specs.Acts.{acts_of}
 use Rattle.pool_instance.specs.Does.{Did, DidNothing}
 use Rattle.pool_instance.specs.Effects.{Forgets, ForgetsIn}
 use Rattle.pool_instance.specs.Lists.{asked, told}
-use Rattle.pool_instance.specs.Parts.{count_taken, ids_of, ids_sent, is_ended, log_of, number_of, readings_in, salt_in, sent_by, sent_in, space_in, unsent_in}
+use Rattle.pool_instance.specs.Parts.{count_taken, heard_in, ids_of, ids_sent, is_ended, log_of, number_of, readings_in, retention_in, salt_in, sent_by, sent_in, space_in, unsent_in}
+use Rattle.pool_instance.specs.Purging.{IsHeard}
 use Rattle.pool_instance.specs.Request.{call_of}
 use Rattle.pool_instance.specs.State.{AreOfBatch, AreRequests, IsAfter, IsInFlight, IsUpToDate}
 use Rattle.pool_instance.specs.declared.instance.Instance.{Instance}
 use Rattle.pool_instance.specs.declared.waiting.Held.{Held}
 use Rattle.pool_instance.specs.declared.waiting.Reading.{Reading}
 use Rattle.pool_instance.specs.declared.waiting.Stage.TheVariants.{Fresh}
-use Rattle.pool_instance.proofs.After.{AreQuiet, Stayed, continues_same, did_nothing, goes_on, of_batch_less, requests_same, up_quiet}
+use Rattle.pool_core.proofs.Histories.{continues_same}
+use Rattle.pool_instance.proofs.Agreed.{AreAgreedThen, none_agreed, still_heard}
+use Rattle.pool_instance.proofs.After.{AreQuiet, Stayed, did_nothing, goes_on, of_batch_less, requests_same, up_quiet}
 use Rattle.pool_instance.proofs.Ends.{asks_then, change_ends, learns_then, reading_ends, slot_ends}
 use Rattle.pool_instance.proofs.Pending.{IsNext, held_at, id_of_held, id_of_reading, ids_times, none_ended, none_offered, none_received, requests_next, slot_number, waiting_at}
 use Rattle.pool_instance.proofs.Steps.{IsNoReceipt, ended_more, offered_more}
@@ -45,18 +48,21 @@ module _ {L S : Type 0} (gl : logs.Ghosts L) (gs : spaces.Ghosts S) where
 
   -- What is to show of more events, for an instance that was after some.
   pub record Next (start : Airspace) (events more : List InstanceEvent) (old new : Instance L S) : Type 0 where
-    pub follows : gs.is_sound (space_in new) → AllMayFollow calls_of (salt_in old) start (gl.writer (log_of old)) events more
+    pub follows : gs.is_sound (space_in new) → AllMayFollow acts_of (salt_in old) start (gl.writer (log_of old)) events more
     pub up : is_ended new ≡ false → IsUpToDate gl gs start (events ++ more) new
     pub requests : AreRequests (events ++ more) (readings_in new) (unsent_in new) (sent_in new) new.received
+    pub heard : IsHeard (gl.writer (log_of old)) (events ++ more) (heard_in new)
+    pub agreed : AreAgreedThen (retention_in old) (gl.writer (log_of old)) events more
 
   pub did_by : (old new : Instance L S) (more : List InstanceEvent) → Stayed gl gs old new (log_events more) → (is_ended old ≡ true → is_ended new ≡ true)
       → ((past : Option (List LogEvent)) (start : Airspace) (events : List InstanceEvent) → IsAfter gl gs past start events old → Next start events more old new) → Did gl gs old more new
   did_by old new more stayed ends next = record {
     after = λ past start events is.
         let n = next past start events is in
-        goes_on gl gs past start events more old new is stayed n.follows n.up n.requests;
+        goes_on gl gs past start events more old new is stayed n.follows n.up n.requests n.heard n.agreed;
     salt = stayed.salt;
     writer = stayed.writer;
+    retention = stayed.retention;
     sound = stayed.sound;
     stays_ended = ends;
   }
@@ -68,12 +74,15 @@ module _ {L S : Type 0} (gl : logs.Ghosts L) (gs : spaces.Ghosts S) where
     pub writer : gl.writer (log_of new) ≡ gl.writer (log_of old)
     pub taken : count_taken new ≡ count_taken old
     pub ended : is_ended new ≡ is_ended old
+    pub retention : retention_in new ≡ retention_in old
+    pub heard : heard_in new ≡ heard_in old
 
   pub kept_stayed : (old new : Instance L S) (logged : List LogEvent) → Kept old new logged → Stayed gl gs old new logged
   kept_stayed old new logged k = record {
     history = k.history;
     writer = k.writer;
     salt = ap (λ (v : Service S). salt_of v) k.service;
+    retention = k.retention;
     sound = λ s. subst (λ (v : Service S). gs.is_sound (space_of v)) k.service s;
   }
 
@@ -86,7 +95,7 @@ module _ {L S : Type 0} (gl : logs.Ghosts L) (gs : spaces.Ghosts S) where
 
   pub did_kept : (old new : Instance L S) (more : List InstanceEvent) → Kept old new (log_events more) → AreQuiet (gl.writer (log_of old)) more
       → ((events : List InstanceEvent) → IsInFlight (gl.writer (log_of old)) events old.in_flight → IsInFlight (gl.writer (log_of old)) events new.in_flight)
-      → ((start : Airspace) (events : List InstanceEvent) → AreRequests events (readings_in old) (unsent_in old) (sent_in old) old.received → AllMayFollow calls_of (salt_in old) start (gl.writer (log_of old)) events more)
+      → ((start : Airspace) (events : List InstanceEvent) → AreRequests events (readings_in old) (unsent_in old) (sent_in old) old.received → AllMayFollow acts_of (salt_in old) start (gl.writer (log_of old)) events more)
       → ((events : List InstanceEvent) → AreRequests events (readings_in old) (unsent_in old) (sent_in old) old.received → AreRequests (events ++ more) (readings_in new) (unsent_in new) (sent_in new) new.received)
       → Did gl gs old more new
   did_kept old new more k q flight follows requests =
@@ -97,6 +106,8 @@ module _ {L S : Type 0} (gl : logs.Ghosts L) (gs : spaces.Ghosts S) where
             let before : is_ended old ≡ false = sym k.ended ∙ goes in
             kept_up start events more old new k q (flight events (is.up_to_date before).flight) (is.up_to_date before);
         requests = requests events is.requests;
+        heard = still_heard (gl.writer (log_of old)) events more (heard_in old) (heard_in new) k.heard is.heard;
+        agreed = none_agreed (retention_in old) (gl.writer (log_of old)) events more q.offered;
       })
 
   -- ---- a request is received
@@ -136,7 +147,7 @@ module _ {L S : Type 0} (gl : logs.Ghosts L) (gs : spaces.Ghosts S) where
       (λ k. added_held rs hs slots x k ∙ ap (λ v. times k (ids_of rs hs slots) + times k (v ∷ [])) id)
 
   receipt_follows : (start : Airspace) (me : ℕ) (salt : List ℕ) (events : List InstanceEvent) (rs : List Reading) (hs : List Held) (slots : List (Option ℕ)) (n : ℕ) (call : Call) → AreRequests events rs hs slots n
-      → AllMayFollow calls_of salt start me events (Receives n call ∷ [])
+      → AllMayFollow acts_of salt start me events (Receives n call ∷ [])
   receipt_follows start me salt events rs hs slots n call all = (λ other h. none_received events rs hs slots n all other h, tt)
 
   receipt_quiet : (me n : ℕ) (call : Call) → AreQuiet me (Receives n call ∷ [])
@@ -195,7 +206,7 @@ module _ {L S : Type 0} (gl : logs.Ghosts L) (gs : spaces.Ghosts S) where
 
   denied_follows : (start : Airspace) (me : ℕ) (salt : List ℕ) (events : List InstanceEvent) (rs : List Reading) (hs : List Held) (slots : List (Option ℕ)) (n now : ℕ) (call : Call) (rule : Rule)
       → ((a : Airspace) → find (breaks a now call) early_rules ≡ Some rule) → AreRequests events rs hs slots n
-      → AllMayFollow calls_of salt start me events (Receives n call ∷ Answers n (AtOnce (now, call)) (Denied rule nothing_missing) ∷ [])
+      → AllMayFollow acts_of salt start me events (Receives n call ∷ Answers n (AtOnce (now, call)) (Denied rule nothing_missing) ∷ [])
   denied_follows start me salt events rs hs slots n now call rule broken all = (
     λ other h. none_received events rs hs slots n all other h,
     (
@@ -221,7 +232,7 @@ module _ {L S : Type 0} (gl : logs.Ghosts L) (gs : spaces.Ghosts S) where
       did_kept old new more k (record { given = refl; offered = refl })
       (λ events h. subst (λ v. IsInFlight (gl.writer (log_of old)) events v) (sym flight) h)
       (λ start events all.
-      subst (λ (v : Reply). AllMayFollow calls_of (salt_in old) start (gl.writer (log_of old)) events (Receives old.received call ∷ Answers old.received (AtOnce (now, call)) v ∷ [])) (sym is)
+      subst (λ (v : Reply). AllMayFollow acts_of (salt_in old) start (gl.writer (log_of old)) events (Receives old.received call ∷ Answers old.received (AtOnce (now, call)) v ∷ [])) (sym is)
       (denied_follows start (gl.writer (log_of old)) (salt_in old) events (readings_in old) (unsent_in old) (sent_in old) old.received now call rule broken all))
       (λ events all.
       requests_same (events ++ more) (events ++ more) (readings_in old) (readings_in new) (unsent_in old) (unsent_in new) (sent_in old) (sent_in new) (suc old.received) new.received
@@ -324,17 +335,19 @@ module _ {L S : Type 0} (gl : logs.Ghosts L) (gs : spaces.Ghosts S) where
 
   -- The instance has ended, and did nothing else with its requests.
   pub did_end : (old new : Instance L S) (more : List InstanceEvent) → Stayed gl gs old new (log_events more) → is_ended new ≡ true
-      → readings_in new ≡ readings_in old → unsent_in new ≡ unsent_in old → sent_in new ≡ sent_in old → new.received ≡ old.received
-      → ((start : Airspace) (events : List InstanceEvent) → AllMayFollow calls_of (salt_in old) start (gl.writer (log_of old)) events more)
+      → readings_in new ≡ readings_in old → unsent_in new ≡ unsent_in old → sent_in new ≡ sent_in old → new.received ≡ old.received → heard_in new ≡ heard_in old → batches_offered (gl.writer (log_of old)) more ≡ []
+      → ((start : Airspace) (events : List InstanceEvent) → AllMayFollow acts_of (salt_in old) start (gl.writer (log_of old)) events more)
       → ((events : List InstanceEvent) → AreRequests events (readings_in old) (unsent_in old) (sent_in old) old.received → AreRequests (events ++ more) (readings_in old) (unsent_in old) (sent_in old) old.received)
       → Did gl gs old more new
-  did_end old new more stayed ended rs hs slots n follows requests =
+  did_end old new more stayed ended rs hs slots n same none follows requests =
       did_by old new more stayed (λ h. ended)
       (λ past start events is. record {
         follows = λ s. follows start events;
         up = λ goes. absurd (both (is_ended new) ended goes);
         requests =
             requests_same (events ++ more) (events ++ more) (readings_in old) (readings_in new) (unsent_in old) (unsent_in new) (sent_in old) (sent_in new) old.received new.received refl rs hs slots n (requests events is.requests);
+        heard = still_heard (gl.writer (log_of old)) events more (heard_in old) (heard_in new) same is.heard;
+        agreed = none_agreed (retention_in old) (gl.writer (log_of old)) events more none;
       })
 
   -- ---- a request of the batch in flight that is forgotten
@@ -354,6 +367,8 @@ module _ {L S : Type 0} (gl : logs.Ghosts L) (gs : spaces.Ghosts S) where
         writer = ap (λ (v : Instance L S). gl.writer (log_of v)) e;
         taken = ap (λ (v : Instance L S). count_taken v) e;
         ended = ap (λ (v : Instance L S). is_ended v) e;
+        retention = ap (λ (v : Instance L S). retention_in v) e;
+        heard = ap (λ (v : Instance L S). heard_in v) e;
       } in (
         did_fail_sent old new id k (ap (λ (v : Instance L S). v.received) e) p.0 p.1.0 (record { was = p.1.1; is = p.1.2; flight = forgets_flight (gl.writer (log_of old)) id old.in_flight new.in_flight f.0 })
             (ap (λ (v : Instance L S). readings_in v) e) (ap (λ (v : Instance L S). unsent_in v) e),
@@ -363,4 +378,4 @@ module _ {L S : Type 0} (gl : logs.Ghosts L) (gs : spaces.Ghosts S) where
   pub did_same : (old new : Instance L S) → new ≡ old → DidNothing gl gs old new
   did_same old new e =
       subst (λ (v : Instance L S). DidNothing gl gs old v) (sym e)
-      (did_nothing gl gs old old (record { service = refl; history = refl; writer = refl; readings = refl; unsent = refl; in_flight = refl; taken = refl; received = refl; ended = λ h. h }))
+      (did_nothing gl gs old old (record { service = refl; history = refl; writer = refl; readings = refl; unsent = refl; in_flight = refl; taken = refl; received = refl; ended = λ h. h; retention = refl; heard = refl }))

@@ -6,6 +6,7 @@ use Rattle.std.proofs.lemmas.List.{map-append}
 use Rattle.std.proofs.lemmas.List.Concat.{flat_map-append}
 use Rattle.std.proofs.lemmas.List.Elements.{All-contains, Contains-append_cases, Contains-append_left, Contains-append_right}
 use Rattle.policy_core.specs.declared.call.Call.{Call}
+use Rattle.pool_core.specs.Acts.{Makes}
 use Rattle.pool_core.specs.Events.{AsksForEnd, InstanceEvent, LearnsEnd, Offers}
 use Rattle.pool_core.specs.Serves.{AreOpen, IsOpen, ended_in, ids_offered, offered_in, times}
 use Rattle.pool_core.proofs.Lists.{contains_at, contains_head, contains_same}
@@ -186,7 +187,7 @@ module _ (events : List InstanceEvent) (rs : List Reading) (front back : List He
       (λ k some. omega (arith, some, ids_split k))
 
 -- The calls of a batch are those of open requests.
-pub calls_open : (events : List InstanceEvent) (hs : List Held) (now : ℕ) → All (IsHeld events) hs → AreOpen events (map id_of_held hs) (map (λ (h : Held). (now, call_of h.request)) hs)
+pub calls_open : (events : List InstanceEvent) (hs : List Held) (now : ℕ) → All (IsHeld events) hs → AreOpen events (map id_of_held hs) (map (λ (h : Held). Makes (now, call_of h.request)) hs)
 calls_open events [] now all = tt
 calls_open events (h ∷ hs) now all = (
   (All-contains (IsHeld events) (h ∷ hs) h all (contains_head h hs)).opens,

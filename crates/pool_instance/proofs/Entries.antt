@@ -1,4 +1,4 @@
--- Lemmas: a batch that is offered, an entry that is taken, and a reading that is answered.
+-- Lemmas: a batch or a purge that is offered, an entry that is taken, and a reading that is answered.
 use Rattle.std.proofs.Common.{◌≡◌, ◌==◌, ℕ, ◌+◌, Bool, true, false, List, [], ◌∷◌, ◌++◌, length, map, Option, Some, None, refl, sym, ap, subst, ◌∙◌, arith, append_assoc, length-append}
 use Rattle.std.specs.Prelude.{All, count_by}
 use Rattle.std.specs.declared.vec.Vec.{Vec}
@@ -14,21 +14,23 @@ use Rattle.service_step.specs.declared.reply.Reply.TheVariants.{Done, Denied, Fa
 use Rattle.service_step.specs.Reply.{is_stopped}
 use Rattle.service_step.specs.Step.{IsDoneOrDenied, step}
 use Rattle.service_calls.specs.Held.{is_shut, salt_of, space_of}
-use Rattle.service_calls.specs.Run.{IsReplyTo, airspace_after, replies_of}
+use Rattle.service_calls.specs.Run.{IsReplyTo}
+use Rattle.pool_core.specs.Acts.{airspace_by, replies_by}
 use Rattle.service_calls.specs.Service.{Leaves}
 use Rattle.pool_core.specs.Events.{AfterFirst, Answers, Fails, Gets, InstanceEvent, Offers, batches_offered, entries_given}
 use Rattle.pool_core.specs.Log.{Continues, GivesEntry, LogEntry, TakesBatch}
-use Rattle.pool_core.specs.Serves.{AllMayFollow, AreOpen, ReachesEnd, airspace_at, calls_in, ended_in, ids_offered, offered_in}
+use Rattle.pool_core.specs.Serves.{AllMayFollow, AreOpen, ReachesEnd, airspace_at, acts_in, ended_in, ids_offered, offered_in}
 use Rattle.pool_core.specs.Unlogged.{reads}
 use Rattle.pool_core.specs.declared.log.Log as logs
 use Rattle.pool_core.proofs.Lists.{contains_at, contains_same}
 use Rattle.pool_core.proofs.Projections.{given_append, offered_append, same_number}
 use Rattle.pool_core.proofs.Unlogged.{reading_unchanged}
-use Rattle.pool_entry.specs.Calls.{calls_of}
+use Rattle.pool_entry.specs.Acts.{acts_of}
 use Rattle.pool_instance.specs.Does.{Did, in_place}
 use Rattle.pool_instance.specs.Effects.{MadeEntry, TellsOwn}
-use Rattle.pool_instance.specs.Lists.{told_of}
-use Rattle.pool_instance.specs.Parts.{count_taken, is_due, is_due_by, is_ended, log_of, readings_in, salt_in, sent_by, sent_in, space_in, unsent_in}
+use Rattle.pool_instance.specs.Lists.{AreReplies, told_of}
+use Rattle.pool_instance.specs.Parts.{count_taken, heard_in, is_due, is_due_by, is_ended, log_of, readings_in, retention_in, salt_in, sent_by, sent_in, space_in, unsent_in}
+use Rattle.pool_instance.specs.Purging.{IsHeard}
 use Rattle.pool_instance.specs.Request.{call_of}
 use Rattle.pool_instance.specs.State.{AreOfBatch, AreRequests, IsAtStage, IsHeld, IsInFlight, IsUpToDate, IsWaiting, airspace_of, count_own}
 use Rattle.pool_instance.specs.declared.instance.Instance.{Instance}
@@ -36,9 +38,11 @@ use Rattle.pool_instance.specs.declared.waiting.Held.{Held}
 use Rattle.pool_instance.specs.declared.waiting.Reading.{Reading}
 use Rattle.pool_instance.specs.declared.waiting.Stage.{Stage}
 use Rattle.pool_instance.specs.declared.waiting.Stage.TheVariants.{Asked, Fresh, Until}
-use Rattle.pool_instance.proofs.After.{AreQuiet, Stayed, continues_same, flight_quiet, given_quiet, requests_same, up_quiet}
+use Rattle.pool_core.proofs.Histories.{continues_same}
+use Rattle.pool_instance.proofs.After.{AreQuiet, Stayed, flight_quiet, given_quiet, requests_same, up_quiet}
+use Rattle.pool_instance.proofs.Agreed.{AreAgreedThen, hears_then, none_agreed, still_heard}
 use Rattle.pool_instance.proofs.Did.{Kept, did_by, did_end, kept_stayed}
-use Rattle.pool_instance.proofs.Ends.{calls_open, none_ends, offered_once, offers_then, reading_ends, slots_of}
+use Rattle.pool_instance.proofs.Ends.{none_ends, offered_once, offers_then, reading_ends, slots_of}
 use Rattle.pool_instance.proofs.Pending.{id_of_held, waiting_at}
 use Rattle.pool_instance.proofs.Steps.{IsNoReceipt, reaches_later}
 use Rattle.pool_instance.proofs.Take.{airspace_is, answered_all, answers_follow, answers_quiet, answers_unlogged, flight_other, flight_taken, given_is, told_in_place}
@@ -62,9 +66,9 @@ offer_flight {A} me events ids bytes old new sent none some of h =
     (batches_offered me events, (record { writer = me; ids = ids; bytes = bytes }, offered_append me events (Offers ids bytes ∷ []), before ∙ sym own, of))
 
 module _ {L S : Type 0} (gl : logs.Ghosts L) (gs : spaces.Ghosts S) where
-  module _ (old new : Instance L S) (now : ℕ) (front back : List Held) (bytes : List ℕ) (k : Kept gl gs old new (TakesBatch bytes ∷ []))
+  module _ (old new : Instance L S) (front back : List Held) (bytes : List ℕ) (k : Kept gl gs old new (TakesBatch bytes ∷ []))
       (was : unsent_in old ≡ front ++ back) (rest : unsent_in new ≡ back) (same : readings_in new ≡ readings_in old) (n : new.received ≡ old.received) (none : old.in_flight ≡ None)
-      (spells : calls_of bytes ≡ map (λ (h : Held). (now, call_of h.request)) front) where
+      (opens : (events : List InstanceEvent) → All (IsHeld events) front → AreOpen events (map id_of_held front) (acts_of bytes)) where
     abbrev offer : InstanceEvent
     offer = Offers (map id_of_held front) bytes
 
@@ -72,10 +76,10 @@ module _ {L S : Type 0} (gl : logs.Ghosts L) (gs : spaces.Ghosts S) where
     requests_were events all =
         requests_same events events (readings_in old) (readings_in old) (unsent_in old) (front ++ back) (sent_in old) [] old.received old.received refl refl (sym was) (sym (ap (λ v. sent_by v) none)) refl all
 
-    offer_follows : (start : Airspace) (events : List InstanceEvent) → AreRequests events (readings_in old) (front ++ back) [] old.received → AllMayFollow calls_of (salt_in old) start (gl.writer (log_of old)) events (offer ∷ [])
+    offer_follows : (start : Airspace) (events : List InstanceEvent) → AreRequests events (readings_in old) (front ++ back) [] old.received → AllMayFollow acts_of (salt_in old) start (gl.writer (log_of old)) events (offer ∷ [])
     offer_follows start events all = (
       record {
-        calls = subst (λ v. AreOpen events (map id_of_held front) v) (sym spells) (calls_open events front now (front_all (IsHeld events) front back all.unsent));
+        calls = opens events (front_all (IsHeld events) front back all.unsent);
         once = λ id. omega (arith, times_append id (ids_offered events) (map id_of_held front), offered_once events (readings_in old) front back old.received all id);
       },
       tt,
@@ -90,13 +94,14 @@ module _ {L S : Type 0} (gl : logs.Ghosts L) (gs : spaces.Ghosts S) where
           held = λ sound.
               let before = up.held (subst (λ v. gs.is_sound (space_of v)) k.service sound) in
               let air : airspace_of (salt_in new) start (events ++ offer ∷ []) ≡ airspace_of (salt_in old) start events =
-              ap (λ (v : List ℕ). airspace_of v start (events ++ offer ∷ [])) (ap (λ v. salt_of v) k.service) ∙ ap (λ (v : List LogEntry). airspace_after (salt_in old) start (calls_in calls_of v)) given in
+              ap (λ (v : List ℕ). airspace_of v start (events ++ offer ∷ [])) (ap (λ v. salt_of v) k.service) ∙ ap (λ (v : List LogEntry). airspace_by (salt_in old) start (acts_in acts_of v)) given in
               subst (λ (a : Airspace). IsContent gs.holds (space_in new) a) (sym air) (subst (λ v. IsContent gs.holds (space_of v) (airspace_of (salt_in old) start events)) (sym k.service) before);
           flight = subst (λ (v : ℕ). IsInFlight v (events ++ offer ∷ []) new.in_flight) (sym k.writer) flight;
         }
 
     module _ (sent : sent_in new ≡ slots_of front)
-        (flight : (events : List InstanceEvent) → IsInFlight (gl.writer (log_of old)) events old.in_flight → IsInFlight (gl.writer (log_of old)) (events ++ offer ∷ []) new.in_flight) where
+        (flight : (events : List InstanceEvent) → IsInFlight (gl.writer (log_of old)) events old.in_flight → IsInFlight (gl.writer (log_of old)) (events ++ offer ∷ []) new.in_flight)
+        (agreed : (events : List InstanceEvent) → IsHeard (gl.writer (log_of old)) events (heard_in old) → AreAgreedThen (retention_in old) (gl.writer (log_of old)) events (offer ∷ [])) where
       pub did_offer : Did gl gs old (offer ∷ []) new
       did_offer =
           did_by gl gs old new (offer ∷ []) (kept_stayed gl gs old new (TakesBatch bytes ∷ []) k) (λ h. k.ended ∙ h)
@@ -110,6 +115,8 @@ module _ {L S : Type 0} (gl : logs.Ghosts L) (gs : spaces.Ghosts S) where
             requests =
                 requests_same (events ++ offer ∷ []) (events ++ offer ∷ []) (readings_in old) (readings_in new) back (unsent_in new) (slots_of front) (sent_in new) old.received new.received refl same rest sent n
                 (offers_then events (readings_in old) front back old.received all bytes);
+            heard = still_heard (gl.writer (log_of old)) events (offer ∷ []) (heard_in old) (heard_in new) k.heard is.heard;
+            agreed = agreed events is.heard;
           })
 
 -- ---- an entry
@@ -127,13 +134,13 @@ test_turns n m false h = test_other n m h (m == n) refl
 
 module _ {A : Type 0} (rs : List Reading) (hs : List Held) (n : ℕ) (salt : List ℕ) (start : Airspace) (me : ℕ) (events : List InstanceEvent) (entry : LogEntry) (replies : List Reply) where
   take_follows : (b : Bool) (f f' : Option (Vec (Option ℕ) A)) (told : List (ℕ × Reply)) → (entry.writer == me) ≡ b → IsInFlight me events f → TellsOwn b f f' replies told → AreRequests (events ++ Gets entry ∷ []) rs hs (sent_by f) n
-      → replies ≡ replies_of salt (airspace_after salt start (calls_in calls_of (entries_given events))) (calls_of entry.bytes)
-      → AllMayFollow calls_of salt start me (events ++ Gets entry ∷ []) (map in_place told)
-  take_follows false f f' told is flight own all policy = subst (λ (v : List (ℕ × Reply)). AllMayFollow calls_of salt start me (events ++ Gets entry ∷ []) (map in_place v)) (sym own.0) tt
+      → AreReplies replies (replies_by salt (airspace_by salt start (acts_in acts_of (entries_given events))) (acts_of entry.bytes))
+      → AllMayFollow acts_of salt start me (events ++ Gets entry ∷ []) (map in_place told)
+  take_follows false f f' told is flight own all policy = subst (λ (v : List (ℕ × Reply)). AllMayFollow acts_of salt start me (events ++ Gets entry ∷ []) (map in_place v)) (sym own.0) tt
   take_follows true None f' told is flight own all policy = absurd own
   take_follows true (Some sent) f' told is flight own all policy =
       let writer : entry.writer ≡ me = grind (arith, is) in
-      subst (λ (v : List (ℕ × Reply)). AllMayFollow calls_of salt start me (events ++ Gets entry ∷ []) (map in_place v)) (sym own.1)
+      subst (λ (v : List (ℕ × Reply)). AllMayFollow acts_of salt start me (events ++ Gets entry ∷ []) (map in_place v)) (sym own.1)
       (answers_follow rs hs n salt start me (events ++ Gets entry ∷ []) sent.items replies all
       (told_in_place salt start me events entry writer flight.0 flight.1.0 flight.1.1 flight.1.2 sent.items flight.1.3 replies policy))
 
@@ -182,8 +189,8 @@ module _ {L S : Type 0} (gl : logs.Ghosts L) (gs : spaces.Ghosts S) where
           taken = omega (arith, made.taken, up.taken, more);
           held = λ sound.
               let content = (calls.made sound (airspace_of (salt_in old) start events) (up.held (stayed.sound sound))).1 in
-              let air : airspace_of (salt_in new) start (events ++ takes) ≡ airspace_after (salt_in old) (airspace_of (salt_in old) start events) (calls_of entry.bytes) =
-              ap (λ (v : List ℕ). airspace_of v start (events ++ takes)) stayed.salt ∙ ap (λ (v : List LogEntry). airspace_after (salt_in old) start (calls_in calls_of v)) given
+              let air : airspace_of (salt_in new) start (events ++ takes) ≡ airspace_by (salt_in old) (airspace_of (salt_in old) start events) (acts_of entry.bytes) =
+              ap (λ (v : List ℕ). airspace_of v start (events ++ takes)) stayed.salt ∙ ap (λ (v : List LogEntry). airspace_by (salt_in old) start (acts_in acts_of v)) given
               ∙ airspace_is (salt_in old) start me events entry in
               subst (λ (a : Airspace). IsContent gs.holds (space_in new) a) (sym air) content;
           flight =
@@ -194,7 +201,7 @@ module _ {L S : Type 0} (gl : logs.Ghosts L) (gs : spaces.Ghosts S) where
 
     pub did_take : Did gl gs old takes new
     did_take =
-        did_by gl gs old new takes (record { history = subst (λ v. Continues (gl.history (log_of old)) (gl.history (log_of new)) (GivesEntry entry ∷ v)) (sym (answers_unlogged told)) stayed.history; writer = stayed.writer; salt = stayed.salt; sound = stayed.sound })
+        did_by gl gs old new takes (record { history = subst (λ v. Continues (gl.history (log_of old)) (gl.history (log_of new)) (GivesEntry entry ∷ v)) (sym (answers_unlogged told)) stayed.history; writer = stayed.writer; salt = stayed.salt; retention = stayed.retention; sound = stayed.sound })
         (λ h. ended ∙ h)
         (λ past start events is.
         let up = is.up_to_date going in
@@ -209,13 +216,15 @@ module _ {L S : Type 0} (gl : logs.Ghosts L) (gs : spaces.Ghosts S) where
           requests =
               requests_same ((events ++ Gets entry ∷ []) ++ map in_place told) (events ++ takes) (readings_in old) (readings_in new) (unsent_in old) (unsent_in new) (sent_in new) (sent_in new) old.received new.received (sym (more_is events)) same_rs same_hs refl n
               (take_requests (readings_in old) (unsent_in old) old.received (salt_in old) start me events entry made.replies (entry.writer == me) old.in_flight new.in_flight told made.own all);
+          heard = hears_then (entry.writer == me) me events (map in_place told) entry (heard_in old) (heard_in new) refl made.hears is.heard;
+          agreed = none_agreed (retention_in old) me events takes (answers_quiet me told).offered;
         })
 
   -- An entry that was given as the instance ended.
   pub did_end_given : (old new : Instance L S) (entry : LogEntry) → Stayed gl gs old new (GivesEntry entry ∷ []) → is_ended new ≡ true
-      → readings_in new ≡ readings_in old → unsent_in new ≡ unsent_in old → sent_in new ≡ sent_in old → new.received ≡ old.received → Did gl gs old (Gets entry ∷ []) new
-  did_end_given old new entry stayed ended rs hs slots n =
-      did_end gl gs old new (Gets entry ∷ []) stayed ended rs hs slots n (λ start events. (tt, tt))
+      → readings_in new ≡ readings_in old → unsent_in new ≡ unsent_in old → sent_in new ≡ sent_in old → new.received ≡ old.received → heard_in new ≡ heard_in old → Did gl gs old (Gets entry ∷ []) new
+  did_end_given old new entry stayed ended rs hs slots n same =
+      did_end gl gs old new (Gets entry ∷ []) stayed ended rs hs slots n same refl (λ start events. (tt, tt))
       (λ events all. none_ends events (Gets entry) (gets_no_receipt entry) refl (readings_in old) (unsent_in old) (sent_in old) old.received all refl)
 
   -- ---- a reading
@@ -246,7 +255,8 @@ module _ {L S : Type 0} (gl : logs.Ghosts L) (gs : spaces.Ghosts S) where
 
   module _ (old new : Instance L S) (now : ℕ) (front : List Reading) (r : Reading) (back : List Reading) (reply : Reply) (going : is_ended old ≡ false) (was : readings_in old ≡ front ++ r ∷ back)
       (asked : IsReplyTo gs old.service new.service now (call_of r.held.request) reply) (log : log_of new ≡ log_of old) (less : readings_in new ≡ front ++ back) (same_hs : unsent_in new ≡ unsent_in old) (same : new.in_flight ≡ old.in_flight)
-      (taken : count_taken new ≡ count_taken old) (n : new.received ≡ old.received) (ended : is_ended new ≡ is_ended old) (goes : is_stopped reply ≡ false) where
+      (taken : count_taken new ≡ count_taken old) (n : new.received ≡ old.received) (ended : is_ended new ≡ is_ended old) (goes : is_stopped reply ≡ false)
+      (retained : retention_in new ≡ retention_in old) (heard : heard_in new ≡ heard_in old) where
     abbrev call : Call
     call = call_of r.held.request
 
@@ -255,6 +265,7 @@ module _ {L S : Type 0} (gl : logs.Ghosts L) (gs : spaces.Ghosts S) where
       history = continues_same (gl.history (log_of old)) (gl.history (log_of new)) (ap (λ v. gl.history v) log);
       writer = ap (λ v. gl.writer v) log;
       salt = asked.stays.salt;
+      retention = retained;
       sound = asked.stays.sound;
     }
 
@@ -286,6 +297,8 @@ module _ {L S : Type 0} (gl : logs.Ghosts L) (gs : spaces.Ghosts S) where
           follows = λ sound. ((call, w.held.opens), tt);
           up = λ goes. reply_up start events (Fails r.held.id ∷ []) (record { given = refl; offered = refl }) (is.up_to_date going) w;
           requests = reply_requests events (Fails r.held.id) (fail_no_receipt r.held.id) refl refl is.requests;
+          heard = still_heard (gl.writer (log_of old)) events (Fails r.held.id ∷ []) (heard_in old) (heard_in new) heard is.heard;
+          agreed = none_agreed (retention_in old) (gl.writer (log_of old)) events (Fails r.held.id ∷ []) refl;
         })
 
     -- The request got its reply.
@@ -298,8 +311,8 @@ module _ {L S : Type 0} (gl : logs.Ghosts L) (gs : spaces.Ghosts S) where
         let up = is.up_to_date going in
         record {
           follows = λ sound.
-              let here : airspace_at calls_of (salt_in old) start (entries_given events) (count_taken old) ≡ airspace_of (salt_in old) start events =
-              ap (λ (v : List LogEntry). airspace_after (salt_in old) start (calls_in calls_of v)) (take_all (count_taken old) (entries_given events) (omega (arith, up.taken))) in
+              let here : airspace_at acts_of (salt_in old) start (entries_given events) (count_taken old) ≡ airspace_of (salt_in old) start events =
+              ap (λ (v : List LogEntry). airspace_by (salt_in old) start (acts_in acts_of v)) (take_all (count_taken old) (entries_given events) (omega (arith, up.taken))) in
               let a = airspace_of (salt_in old) start events in
               let policy = reading_policy (salt_in old) a now call reply (space_in new) w.reading ((asked.answers up.goes).step sound a (up.held (reply_stayed.sound sound))) final in (
                 (
@@ -315,4 +328,6 @@ module _ {L S : Type 0} (gl : logs.Ghosts L) (gs : spaces.Ghosts S) where
               );
           up = λ goes. reply_up start events (e ∷ []) (record { given = refl; offered = refl }) up w;
           requests = reply_requests events e (reply_no_receipt r.held.id (count_taken old) now call reply) refl refl is.requests;
+          heard = still_heard (gl.writer (log_of old)) events (e ∷ []) (heard_in old) (heard_in new) heard is.heard;
+          agreed = none_agreed (retention_in old) (gl.writer (log_of old)) events (e ∷ []) refl;
         })

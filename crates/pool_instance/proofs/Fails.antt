@@ -33,7 +33,7 @@ none_fresh q rs = All-map (λ r. is_fresh r ≡ false) (asked q) rs (λ k d lt. 
 
 module _ {L S : Type 0} (gl : logs.Ghosts L) (gs : spaces.Ghosts S) where
   pub alike_self : (x : Instance L S) → Alike gl gs x x
-  alike_self x = record { service = refl; history = refl; writer = refl; readings = refl; unsent = refl; in_flight = refl; taken = refl; received = refl; ended = λ h. h }
+  alike_self x = record { service = refl; history = refl; writer = refl; readings = refl; unsent = refl; in_flight = refl; taken = refl; received = refl; ended = λ h. h; retention = refl; heard = refl }
 
   alike_end : (old mid : Instance L S) → Alike gl gs old mid → Alike gl gs old (with_end mid)
   alike_end old mid a = record {
@@ -46,6 +46,8 @@ module _ {L S : Type 0} (gl : logs.Ghosts L) (gs : spaces.Ghosts S) where
     taken = a.taken;
     received = a.received;
     ended = λ h. refl;
+    retention = a.retention;
+    heard = a.heard;
   }
 
   -- The instance had ended before.

@@ -2,6 +2,7 @@ pub mod Times
 pub mod Batch
 pub mod Steps
 pub mod Pending
+pub mod Agreed
 pub mod After
 pub mod Take
 pub mod Ends

@@ -15,7 +15,7 @@ use Rattle.pool_instance.specs.Parts.{log_of}
 use Rattle.pool_instance.specs.Request.{call_of}
 use Rattle.pool_instance.specs.declared.instance.Instance.{Instance}
 use Rattle.pool_instance.specs.declared.request.Request.{Request}
-use Rattle.pool_instance.proofs.After.{continues_same}
+use Rattle.pool_core.proofs.Histories.{continues_same}
 use Rattle.pool_instance.proofs.Did.{Kept, did_receive_change, did_receive_reading}
 
 module _ {L S : Type 0} (gl : logs.Ghosts L) (gs : spaces.Ghosts S) where
@@ -28,6 +28,8 @@ module _ {L S : Type 0} (gl : logs.Ghosts L) (gs : spaces.Ghosts S) where
         writer = ap (λ (v : L). gl.writer v) r.log;
         taken = r.taken;
         ended = r.ended;
+        retention = r.retention;
+        heard = r.heard;
       } in
       elim h.waits [
         | inl a ↦ did_receive_reading gl gs old (record mid { received = n }) (call_of request) a.one k r.in_flight a.readings a.unsent next a.number (ap (λ (v : Request). call_of v) a.asks) a.stage a.reading

@@ -8,17 +8,16 @@ use Rattle.std.proofs.lemmas.List.Concat.{flat_map-append}
 use Rattle.std.proofs.lemmas.List.Elements.{Contains-append_cases, Contains-append_right}
 use Rattle.entity_core.specs.Airspace.{Airspace}
 use Rattle.service_step.specs.declared.reply.Reply.{Reply}
-use Rattle.service_step.specs.Step.{step}
-use Rattle.service_calls.specs.Run.{TimedCall, airspace_after, replies_of}
+use Rattle.pool_core.specs.Acts.{Act, act_step, airspace_by, replies_by}
 use Rattle.pool_core.specs.Events.{Answers, Batch, Gets, InPlace, InstanceEvent, batches_offered, entries_given, log_events}
 use Rattle.pool_core.specs.Log.{LogEntry}
-use Rattle.pool_core.specs.Serves.{AllMayFollow, IsReplyInPlace, calls_in}
-use Rattle.pool_core.proofs.Lists.{contains_head, contains_none, contains_one, count_append, count_no, count_yes, get_at}
+use Rattle.pool_core.specs.Serves.{AllMayFollow, IsReplyInPlace, acts_in}
+use Rattle.pool_core.proofs.Acts.{after_append, replies_append}
+use Rattle.pool_core.proofs.Lists.{contains_head, contains_none, contains_one, count_append, count_no, count_yes, get_at, some_same}
 use Rattle.pool_core.proofs.Projections.{given_append, offered_append}
-use Rattle.pool_core.proofs.States.{after_append}
-use Rattle.pool_entry.specs.Calls.{calls_of}
+use Rattle.pool_entry.specs.Acts.{acts_of}
 use Rattle.pool_instance.specs.Does.{in_place}
-use Rattle.pool_instance.specs.Lists.{told_of}
+use Rattle.pool_instance.specs.Lists.{AreReplies, told_of}
 use Rattle.pool_instance.specs.Parts.{number_of}
 use Rattle.pool_instance.specs.State.{AreOfBatch, AreRequests, IsInFlight, count_own}
 use Rattle.pool_instance.specs.Request.{call_of}
@@ -29,16 +28,21 @@ use Rattle.pool_instance.proofs.Pending.{ids_times, requests_then}
 use Rattle.pool_instance.proofs.Steps.{IsNoReceipt, stage_more}
 use Rattle.pool_instance.proofs.Times.{times_cons}
 
--- ---- the policy over two lists of calls
+-- ---- the policy over acts
 
 module _ (salt : List ℕ) where
-  pub replies_append : (a : Airspace) (xs ys : List TimedCall) → replies_of salt a (xs ++ ys) ≡ replies_of salt a xs ++ replies_of salt (airspace_after salt a xs) ys
-  replies_append a [] ys = refl
-  replies_append a (x ∷ xs) ys = ap (λ v. (step salt a x.0 x.1).1 ∷ v) (replies_append (step salt a x.0 x.1).0 xs ys)
-
-  pub replies_long : (a : Airspace) (xs : List TimedCall) → length (replies_of salt a xs) ≡ length xs
+  pub replies_long : (a : Airspace) (xs : List Act) → length (replies_by salt a xs) ≡ length xs
   replies_long a [] = refl
-  replies_long a (x ∷ xs) = ap (λ v. suc v) (replies_long (step salt a x.0 x.1).0 xs)
+  replies_long a (x ∷ xs) = ap (λ v. suc v) (replies_long (act_step salt a x).0 xs)
+
+get_some : {X : Type 0} (xs : List X) (ys : List (Option X)) (n : ℕ) (x : X) → slice_get xs n ≡ Some x → slice_get (map (λ v. Some v) xs ++ ys) n ≡ Some (Some x)
+get_some [] ys n x h = absurd cc
+get_some (y ∷ xs) ys zero x h = ap (λ v. Some (Some v)) (some_same y x h)
+get_some (y ∷ xs) ys (suc n) x h = get_some xs ys n x h
+
+-- A reply is at the position of its act.
+reply_there : (replies : List Reply) (all : List (Option Reply)) (n : ℕ) (reply : Reply) → AreReplies replies all → slice_get replies n ≡ Some reply → slice_get all n ≡ Some (Some reply)
+reply_there replies all n reply are h = ap (λ v. slice_get v n) are.are ∙ get_some replies are.others n reply h
 
 pub get_behind : {X : Type 0} (xs ys : List X) (n m : ℕ) → length xs ≡ n → slice_get (xs ++ ys) (n + m) ≡ slice_get ys m
 get_behind [] ys n m h = let e : n + m ≡ m = omega (arith, h) in ap (λ v. slice_get ys v) e
@@ -131,7 +135,7 @@ module _ (rs : List Reading) (hs : List Held) (n : ℕ) where
       (answered_all (events ++ Answers id InPlace reply ∷ []) slots replies (omega (arith, h)) (answered_next events id slots reply all))
 
   module _ (salt : List ℕ) (start : Airspace) (me : ℕ) where
-    in_place_later : (events more : List InstanceEvent) (id : ℕ) (reply : Reply) → AreQuiet me more → IsReplyInPlace calls_of salt start me events id reply → IsReplyInPlace calls_of salt start me (events ++ more) id reply
+    in_place_later : (events more : List InstanceEvent) (id : ℕ) (reply : Reply) → AreQuiet me more → IsReplyInPlace acts_of salt start me events id reply → IsReplyInPlace acts_of salt start me (events ++ more) id reply
     in_place_later events more id reply q h =
         let g = given_quiet me events more q in
         let o = offered_quiet me events more q in
@@ -147,13 +151,13 @@ module _ (rs : List Reading) (hs : List Held) (n : ℕ) where
           position = h.position;
           asked = h.asked;
           is_policy =
-              ap (λ (v : List LogEntry). slice_get (replies_of salt start (calls_in calls_of v)) (length (calls_in calls_of (take h.index v)) + h.position)) g ∙ h.is_policy;
+              ap (λ (v : List LogEntry). slice_get (replies_by salt start (acts_in acts_of v)) (length (acts_in acts_of (take h.index v)) + h.position)) g ∙ h.is_policy;
         }
 
     -- The replies follow, each for a request that is open.
     pub answers_follow : (events : List InstanceEvent) (slots : List (Option ℕ)) (replies : List Reply) → AreRequests events rs hs slots n
-        → ((t : ℕ × Reply) → Contains (told_of slots replies) t → IsReplyInPlace calls_of salt start me events t.0 t.1)
-        → AllMayFollow calls_of salt start me events (map in_place (told_of slots replies))
+        → ((t : ℕ × Reply) → Contains (told_of slots replies) t → IsReplyInPlace acts_of salt start me events t.0 t.1)
+        → AllMayFollow acts_of salt start me events (map in_place (told_of slots replies))
     answers_follow events [] replies all h = tt
     answers_follow events (slot ∷ slots) [] all h = tt
     answers_follow events (None ∷ slots) (reply ∷ replies) all h = answers_follow events slots replies (slot_free events slots all) h
@@ -176,32 +180,32 @@ module _ (salt : List ℕ) (start : Airspace) (me : ℕ) (events : List Instance
   pub offered_is : batches_offered me later ≡ batches_offered me events
   offered_is = offered_append me events (Gets entry ∷ []) ∙ append-nil (batches_offered me events)
 
-  pub calls_are : calls_in calls_of (entries_given later) ≡ calls_in calls_of (entries_given events) ++ calls_of entry.bytes
+  pub calls_are : acts_in acts_of (entries_given later) ≡ acts_in acts_of (entries_given events) ++ acts_of entry.bytes
   calls_are =
-      ap (λ (v : List LogEntry). calls_in calls_of v) given_is ∙ flat_map-append (λ (e : LogEntry). calls_of e.bytes) (entries_given events) (entry ∷ [])
-      ∙ ap (λ v. calls_in calls_of (entries_given events) ++ v) (append-nil (calls_of entry.bytes))
+      ap (λ (v : List LogEntry). acts_in acts_of v) given_is ∙ flat_map-append (λ (e : LogEntry). acts_of e.bytes) (entries_given events) (entry ∷ [])
+      ∙ ap (λ v. acts_in acts_of (entries_given events) ++ v) (append-nil (acts_of entry.bytes))
 
   take_before : take (length (entries_given events)) (entries_given later) ≡ entries_given events
   take_before = ap (λ (v : List LogEntry). take (length (entries_given events)) v) given_is ∙ take_at (entries_given events) (entry ∷ []) (length (entries_given events)) refl
 
   -- The airspace after the entry.
-  pub airspace_is : airspace_after salt start (calls_in calls_of (entries_given later)) ≡ airspace_after salt (airspace_after salt start (calls_in calls_of (entries_given events))) (calls_of entry.bytes)
-  airspace_is = ap (λ (v : List TimedCall). airspace_after salt start v) calls_are ∙ after_append salt start (calls_in calls_of (entries_given events)) (calls_of entry.bytes)
+  pub airspace_is : airspace_by salt start (acts_in acts_of (entries_given later)) ≡ airspace_by salt (airspace_by salt start (acts_in acts_of (entries_given events))) (acts_of entry.bytes)
+  airspace_is = ap (λ (v : List Act). airspace_by salt start v) calls_are ∙ after_append salt start (acts_in acts_of (entries_given events)) (acts_of entry.bytes)
 
   -- The replies of the policy to the calls of the entry stand behind the others.
-  pub reply_behind : (position : ℕ) → slice_get (replies_of salt start (calls_in calls_of (entries_given later))) (length (calls_in calls_of (entries_given events)) + position)
-      ≡ slice_get (replies_of salt (airspace_after salt start (calls_in calls_of (entries_given events))) (calls_of entry.bytes)) position
+  pub reply_behind : (position : ℕ) → slice_get (replies_by salt start (acts_in acts_of (entries_given later))) (length (acts_in acts_of (entries_given events)) + position)
+      ≡ slice_get (replies_by salt (airspace_by salt start (acts_in acts_of (entries_given events))) (acts_of entry.bytes)) position
   reply_behind position =
-      let before = calls_in calls_of (entries_given events) in
-      ap (λ (v : List TimedCall). slice_get (replies_of salt start v) (length before + position)) calls_are
-      ∙ ap (λ (v : List Reply). slice_get v (length before + position)) (replies_append salt start before (calls_of entry.bytes))
-      ∙ get_behind (replies_of salt start before) (replies_of salt (airspace_after salt start before) (calls_of entry.bytes)) (length before) position (replies_long salt start before)
+      let before = acts_in acts_of (entries_given events) in
+      ap (λ (v : List Act). slice_get (replies_by salt start v) (length before + position)) calls_are
+      ∙ ap (λ (v : List (Option Reply)). slice_get v (length before + position)) (replies_append salt start before (acts_of entry.bytes))
+      ∙ get_behind (replies_by salt start before) (replies_by salt (airspace_by salt start before) (acts_of entry.bytes)) (length before) position (replies_long salt start before)
 
   module _ (own : entry.writer ≡ me) (earlier : List Batch) (batch : Batch) (offers : batches_offered me events ≡ earlier ++ batch ∷ []) (count : length earlier ≡ count_own me events)
       (slots : List (Option ℕ)) (of : AreOfBatch slots batch.ids) (replies : List Reply)
-      (policy : replies ≡ replies_of salt (airspace_after salt start (calls_in calls_of (entries_given events))) (calls_of entry.bytes)) where
+      (policy : AreReplies replies (replies_by salt (airspace_by salt start (acts_in acts_of (entries_given events))) (acts_of entry.bytes))) where
     -- Each reply to a request of the batch is in its place.
-    pub told_in_place : (t : ℕ × Reply) → Contains (told_of slots replies) t → IsReplyInPlace calls_of salt start me later t.0 t.1
+    pub told_in_place : (t : ℕ × Reply) → Contains (told_of slots replies) t → IsReplyInPlace acts_of salt start me later t.0 t.1
     told_in_place t h =
         let at = told_at slots batch.ids replies t of h in
         let before = entries_given events in
@@ -218,8 +222,9 @@ module _ (salt : List ℕ) (start : Airspace) (me : ℕ) (events : List Instance
           position = at.position;
           asked = at.asked;
           is_policy =
-              ap (λ (v : List LogEntry). slice_get (replies_of salt start (calls_in calls_of (entries_given later))) (length (calls_in calls_of v) + at.position)) take_before
-              ∙ reply_behind at.position ∙ ap (λ (v : List Reply). slice_get v at.position) (sym policy) ∙ at.reply;
+              ap (λ (v : List LogEntry). slice_get (replies_by salt start (acts_in acts_of (entries_given later))) (length (acts_in acts_of v) + at.position)) take_before
+              ∙ reply_behind at.position
+              ∙ reply_there replies (replies_by salt (airspace_by salt start (acts_in acts_of (entries_given events))) (acts_of entry.bytes)) at.position t.1 policy at.reply;
         }
 
 -- ---- the batch in flight

@@ -6,9 +6,10 @@ use Rattle.space_core.specs.declared.space.Space as spaces
 use Rattle.service_step.specs.declared.reply.Reply.{Reply}
 use Rattle.pool_core.specs.Log.{Continues, GivesEntry, LogEntry}
 use Rattle.pool_core.specs.declared.log.Log as logs
+use Rattle.pool_entry.specs.Acts.{acts_of}
 use Rattle.pool_instance.specs.Does.{AreTold, FailedSo, TookSo}
-use Rattle.pool_instance.specs.Effects.{MadeEntry, MakesEntry, TellsOwn, with_end}
-use Rattle.pool_instance.specs.Parts.{ids_of, is_ended, log_of, number_of, readings_in, sent_by, sent_in, unsent_in}
+use Rattle.pool_instance.specs.Effects.{HearsEntry, MadeEntry, MakesEntry, TellsOwn, with_end}
+use Rattle.pool_instance.specs.Parts.{heard_in, ids_of, is_ended, log_of, number_of, readings_in, sent_by, sent_in, unsent_in}
 use Rattle.pool_instance.specs.declared.fault.InstanceFault.TheVariants.{Ended}
 use Rattle.pool_instance.specs.declared.instance.Instance.{Instance}
 use Rattle.pool_instance.proofs.After.{Stayed}
@@ -31,6 +32,7 @@ module _ {L S : Type 0} (gl : logs.Ghosts L) (gs : spaces.Ghosts S) where
       history = subst (λ (v : L). Continues (gl.history (log_of old)) (gl.history v) (GivesEntry entry ∷ [])) (sym m.log) history;
       writer = ap (λ (v : L). gl.writer v) m.log ∙ writer;
       salt = m.stays.salt;
+      retention = m.retention;
       sound = m.stays.sound;
     }
 
@@ -39,7 +41,7 @@ module _ {L S : Type 0} (gl : logs.Ghosts L) (gs : spaces.Ghosts S) where
         let stayed = given_stayed result m in (
           refl,
           ap (λ v. ids_of v (unsent_in new) (sent_in new)) m.readings ∙ ap (λ v. ids_of (readings_in old) v (sent_in new)) m.unsent ∙ ap (λ v. ids_of (readings_in old) (unsent_in old) v) (m.fails none),
-          inr (entry, did_end_given gl gs old (with_end new) entry (record { history = stayed.history; writer = stayed.writer; salt = stayed.salt; sound = stayed.sound }) refl m.readings m.unsent (m.fails none) m.received),
+          inr (entry, did_end_given gl gs old (with_end new) entry (record { history = stayed.history; writer = stayed.writer; salt = stayed.salt; retention = stayed.retention; sound = stayed.sound }) refl m.readings m.unsent (m.fails none) m.received (m.deaf none)),
         )
 
     made_entry : {A : Type 0} (told : Vec (ℕ × Reply) A) → MakesEntry gl gs entry mid new (Some told) → MadeEntry gl gs entry old new told.items
@@ -48,6 +50,7 @@ module _ {L S : Type 0} (gl : logs.Ghosts L) (gs : spaces.Ghosts S) where
       replies = m.makes.replies;
       made = m.makes.made;
       own = subst (λ (n : ℕ). TellsOwn (entry.writer == n) old.in_flight new.in_flight m.makes.replies told.items) writer m.makes.own;
+      hears = subst (λ (n : ℕ). HearsEntry (entry.writer == n) (acts_of entry.bytes) (heard_in old) (heard_in new)) writer m.makes.hears;
     }
 
     pub did_took : {A : Type 0} (told : Vec (ℕ × Reply) A) → is_ended old ≡ false → MakesEntry gl gs entry mid new (Some told) → (b : Bool) → (entry.writer == gl.writer (log_of old)) ≡ b

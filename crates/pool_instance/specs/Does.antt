@@ -1,5 +1,5 @@
 -- What the operations of an instance do: the events that each adds, and what it must answer.
-use Rattle.std.specs.Prelude.{◌≡◌, ◌==◌, ◌<◌, ◌+◌, ◌⊎◌, ℕ, zero, suc, Bool, true, false, List, [], ◌∷◌, ◌++◌, All, Contains, IsSome, Option, Some, None, Result, Ok, Err, find, length, map, take}
+use Rattle.std.specs.Prelude.{◌≡◌, ◌==◌, ◌<◌, ◌≤◌, ◌+◌, ◌⊎◌, ℕ, zero, suc, Bool, true, false, List, [], ◌∷◌, ◌++◌, All, Contains, IsSome, Option, Some, None, Result, Ok, Err, find, length, map, min, take}
 use Rattle.std.specs.declared.vec.Vec.{Vec}
 use Rattle.entity_core.specs.Airspace.{Airspace}
 use Rattle.policy_core.specs.declared.call.Call.{Call}
@@ -8,14 +8,15 @@ use Rattle.space_core.specs.declared.space.Space as spaces
 use Rattle.service_calls.specs.Run.{IsReplyTo}
 use Rattle.service_step.specs.declared.reply.Reply.{Reply}
 use Rattle.service_step.specs.declared.reply.Reply.TheVariants as replies
+use Rattle.pool_core.specs.Acts.{Makes, Purges}
 use Rattle.pool_core.specs.Events.{AfterFirst, Answers, AsksForEnd, AtOnce, Fails, Gets, InPlace, InstanceEvent, LearnsEnd, Offers, Receives}
 use Rattle.pool_core.specs.Log.{LogEntry, LogEvent}
 use Rattle.pool_core.specs.declared.log.Log as logs
-use Rattle.pool_entry.specs.Calls.{calls_of}
+use Rattle.pool_entry.specs.Acts.{acts_of}
 use Rattle.pool_entry.specs.Spelling.{IsBatch}
 use Rattle.pool_entry.specs.declared.pool_call.PoolCall.{PoolCall}
 use Rattle.pool_instance.specs.Lists.{AreWritten}
-use Rattle.pool_instance.specs.Parts.{count_taken, ids_in, ids_sent, ids_unsent, is_due, is_ended, is_fresh, log_of, readings_in, salt_in, sent_in, space_in, unsent_in}
+use Rattle.pool_instance.specs.Parts.{count_taken, heard_in, ids_in, ids_sent, ids_unsent, is_due, is_ended, is_fresh, log_of, purges_in, readings_in, retention_in, salt_in, sent_in, space_in, unsent_in}
 use Rattle.pool_instance.specs.Request.{call_of}
 use Rattle.pool_instance.specs.State.{IsAfter}
 use Rattle.pool_instance.specs.declared.fault.InstanceFault.{InstanceFault}
@@ -30,6 +31,16 @@ use Rattle.pool_instance.specs.declared.outcome.Unanswered.TheVariants.{Unknown,
 use Rattle.pool_instance.specs.declared.waiting.Held.{Held}
 use Rattle.pool_instance.specs.declared.waiting.Reading.{Reading}
 
+-- Holds if an instance may offer a purge up to this time: it ends the retention before the earlier
+-- of its own time and the time that it heard last, and a minute or more after the last purge.
+pub record IsDuePurge {L S : Type 0} (now : ℕ) (x : Instance L S) (until : ℕ) : Type 0 where
+  pub seconds : ℕ
+  pub retained : retention_in x ≡ Some seconds
+  pub time : ℕ
+  pub heard : heard_in x ≡ Some time
+  pub end : until + seconds ≡ min now time
+  pub step : (purges_in x).until + 60 ≤ until
+
 -- The answer to a request in its place in the log.
 abbrev pub in_place : ℕ × Reply → InstanceEvent
 in_place told = Answers told.0 InPlace told.1
@@ -41,6 +52,7 @@ module _ {L S : Type 0} (gl : logs.Ghosts L) (gs : spaces.Ghosts S) where
         → IsAfter gl gs past start events old → IsAfter gl gs past start (events ++ more) new
     pub salt : salt_in new ≡ salt_in old
     pub writer : gl.writer (log_of new) ≡ gl.writer (log_of old)
+    pub retention : retention_in new ≡ retention_in old
     pub sound : gs.is_sound (space_in new) → gs.is_sound (space_in old)
     pub stays_ended : is_ended old ≡ true → is_ended new ≡ true
 
@@ -91,7 +103,8 @@ module _ {L S : Type 0} (gl : logs.Ghosts L) (gs : spaces.Ghosts S) where
   -- Holds if the first so many requests are offered in these bytes, at a time. They are as many as
   -- have room in an entry.
   pub record OffersFirst (now : ℕ) (hs : List Held) (count : ℕ) (bytes : List ℕ) : Type 0 where
-    pub calls : calls_of bytes ≡ map (λ (h : Held). (now, call_of h.request)) (take count hs)
+    pub calls : acts_of bytes
+        ≡ map (λ (h : Held). Makes (now, call_of h.request)) (take count hs)
     pub some : 0 < count
     pub most : (written : List PoolCall) → AreWritten now (take (count + 1) hs) written
         → IsBatch written → count ≡ length hs
@@ -105,6 +118,24 @@ module _ {L S : Type 0} (gl : logs.Ghosts L) (gs : spaces.Ghosts S) where
       × Did old (Offers (map (λ (h : Held). h.id) (take (suc n) (unsent_in old))) bytes ∷ []) new
       × OffersFirst now (unsent_in old) (suc n) bytes
   OfferedSo now old new (Err fault) = FailedSo old new fault
+
+  -- Holds if these are the bytes of a purge that keeps the retention by a clock.
+  pub record IsPurgeAt (now : ℕ) (retention : Option ℕ) (bytes : List ℕ) : Type 0 where
+    pub until : ℕ
+    pub acts : acts_of bytes ≡ Purges until ∷ []
+    pub seconds : ℕ
+    pub retained : retention ≡ Some seconds
+    pub past : until + seconds ≤ now
+
+  -- Holds if the instance offered a purge, or none. It offers none only if none is due or a batch is
+  -- in flight.
+  abbrev pub PurgeOfferedSo : (now : ℕ) → Instance L S → Instance L S → Result Bool InstanceFault
+      → Type 0
+  PurgeOfferedSo now old new (Ok false) = DidNothing old new
+      × (IsSome old.in_flight ⊎ ((until : ℕ) → IsDuePurge now old until → ⊥))
+  PurgeOfferedSo now old new (Ok true) = (bytes : List ℕ) × Did old (Offers [] bytes ∷ []) new
+      × IsPurgeAt now (retention_in old) bytes
+  PurgeOfferedSo now old new (Err fault) = FailedSo old new fault
 
   -- ---- take
 

@@ -2,15 +2,19 @@
 use Rattle.std.specs.Prelude.{◌≡◌, ◌==◌, ◌+◌, ◌⊎◌, ℕ, Bool, true, false, List, [], ◌∷◌, ◌++◌, Contains, IfSome, Option, Some, None, length}
 use Rattle.std.specs.declared.vec.Vec.{Vec}
 use Rattle.space_core.specs.declared.space.Space as spaces
-use Rattle.service_calls.specs.Held.{Stays, is_shut}
+use Rattle.service_calls.specs.Held.{is_shut}
 use Rattle.service_step.specs.declared.reply.Reply.{Reply}
+use Rattle.service_calls.specs.Run.{TimedCall}
+use Rattle.pool_core.specs.Acts.{Act, Makes}
 use Rattle.pool_core.specs.Log.{LogEntry}
+use Rattle.pool_core.specs.Purging.{Keeps}
 use Rattle.pool_core.specs.Unlogged.{reads}
 use Rattle.pool_core.specs.declared.log.Log as logs
 use Rattle.pool_core.specs.declared.log.LogFault.{LogFault}
 use Rattle.pool_core.specs.declared.log.LogFault.TheVariants as faults
-use Rattle.pool_instance.specs.Lists.{MadeCalls, told_of}
-use Rattle.pool_instance.specs.Parts.{count_taken, is_ended, log_of, readings_in, sent_in, unsent_in}
+use Rattle.pool_entry.specs.Acts.{acts_of}
+use Rattle.pool_instance.specs.Lists.{DidActs, told_of}
+use Rattle.pool_instance.specs.Parts.{count_taken, heard_in, is_ended, log_of, readings_in, retention_in, sent_in, unsent_in}
 use Rattle.pool_instance.specs.Request.{call_of}
 use Rattle.pool_instance.specs.declared.fault.InstanceFault.{InstanceFault}
 use Rattle.pool_instance.specs.declared.fault.InstanceFault.TheVariants.{Ended, NoMemory}
@@ -37,6 +41,8 @@ pub record KeepsRest {L S : Type 0} (old new : Instance L S) : Type 0 where
   pub taken : count_taken new ≡ count_taken old
   pub received : new.received ≡ old.received
   pub ended : is_ended new ≡ is_ended old
+  pub retention : retention_in new ≡ retention_in old
+  pub heard : heard_in new ≡ heard_in old
 
 -- Holds if one more reading waits.
 pub record HoldsReading {L S : Type 0} (id : ℕ) (request : Request) (old new : Instance L S)
@@ -81,17 +87,29 @@ TellsOwn true None new replies told = ⊥
 TellsOwn true (Some sent) new replies told = (length sent.items ≡ length replies)
     × (told ≡ told_of sent.items replies) × (new ≡ None)
 
--- Holds if the instance made the calls of an entry and took it, with these replies to its own
+-- Holds if the acts have a call with this time, if there is one.
+abbrev pub IsLastTime : List Act → Option ℕ → Type 0
+IsLastTime acts last =
+    IfSome last (λ time. (timed : TimedCall) × Contains acts (Makes timed) × (timed.0 ≡ time))
+
+-- Holds if the instance has heard what it had heard, or a call of an entry of another instance.
+abbrev pub HearsEntry : (is_own : Bool) → List Act → (old new : Option ℕ) → Type 0
+HearsEntry true acts old new = new ≡ old
+HearsEntry false acts old new = (new ≡ old) ⊎ IsLastTime acts new
+
+-- Holds if the instance did the acts of an entry and took it, with these replies to its own
 -- requests in it.
 pub record MadeEntry {L S : Type 0} (gl : logs.Ghosts L) (gs : spaces.Ghosts S) (entry : LogEntry)
     (old new : Instance L S) (told : List (ℕ × Reply)) : Type 0 where
   pub taken : count_taken new ≡ count_taken old + 1
   pub replies : List Reply
   pub made : is_shut old.service ≡ false
-      → MadeCalls gs entry.bytes old.service new.service replies
+      → DidActs gs (acts_of entry.bytes) old.service new.service replies
   pub own : TellsOwn (entry.writer == gl.writer (log_of old)) old.in_flight new.in_flight replies told
+  pub hears : HearsEntry (entry.writer == gl.writer (log_of old)) (acts_of entry.bytes)
+      (heard_in old) (heard_in new)
 
--- Holds if the instance made the calls of an entry, or failed.
+-- Holds if the instance did the acts of an entry, or failed.
 pub record MakesEntry {L S A : Type 0} (gl : logs.Ghosts L) (gs : spaces.Ghosts S)
     (entry : LogEntry) (old new : Instance L S) (result : Option (Vec (ℕ × Reply) A)) : Type 0 where
   pub log : log_of new ≡ log_of old
@@ -99,8 +117,10 @@ pub record MakesEntry {L S A : Type 0} (gl : logs.Ghosts L) (gs : spaces.Ghosts 
   pub unsent : unsent_in new ≡ unsent_in old
   pub received : new.received ≡ old.received
   pub ended : is_ended new ≡ is_ended old
-  pub stays : Stays gs old.service new.service
+  pub stays : Keeps gs old.service new.service
+  pub retention : retention_in new ≡ retention_in old
   pub fails : result ≡ None → sent_in new ≡ sent_in old
+  pub deaf : result ≡ None → heard_in new ≡ heard_in old
   pub makes : IfSome result (λ told. MadeEntry gl gs entry old new told.items)
 
 -- ---- requests of the batch in flight

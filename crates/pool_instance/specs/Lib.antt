@@ -1,6 +1,7 @@
 pub mod Request
 pub mod Parts
 pub mod Lists
+pub mod Purging
 pub mod State
 pub mod Effects
 pub mod Does

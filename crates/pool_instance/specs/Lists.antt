@@ -1,13 +1,12 @@
--- Lists of requests, and the calls of an entry.
-use Rattle.std.specs.Prelude.{◌≡◌, ◌<◌, ◌+◌, ℕ, false, List, [], ◌∷◌, Option, Some, None, length, map, take}
+-- Lists of requests, and the acts of an entry.
+use Rattle.std.specs.Prelude.{◌≡◌, ◌<◌, ◌+◌, ℕ, false, List, [], ◌∷◌, ◌++◌, All, Option, Some, None, length, map, take}
 use Rattle.entity_core.specs.Airspace.{Airspace}
 use Rattle.space_core.specs.Space.{IsContent}
 use Rattle.space_core.specs.declared.space.Space.{Ghosts}
 use Rattle.service_calls.specs.Held.{is_shut, salt_of, space_of}
-use Rattle.service_calls.specs.Run.{airspace_after, replies_of}
 use Rattle.service_calls.specs.declared.service.Service.{Service}
 use Rattle.service_step.specs.declared.reply.Reply.{Reply}
-use Rattle.pool_entry.specs.Calls.{calls_of}
+use Rattle.pool_core.specs.Acts.{Act, airspace_by, replies_by}
 use Rattle.pool_entry.specs.Spelling.{IsBatch}
 use Rattle.pool_entry.specs.declared.pool_call.PoolCall.{PoolCall}
 use Rattle.pool_instance.specs.Parts.{asked_stage, stage_after}
@@ -41,14 +40,19 @@ pub record IsFirstBatch (now : ℕ) (hs : List Held) (draft : Draft) : Type 0 wh
 
 -- ---- entries
 
--- Holds if the service made the calls of an entry, and these are the replies of the policy.
-pub record MadeCalls {S : Type 0} (g : Ghosts S) (bytes : List ℕ) (old new : Service S)
+-- Holds if these are all replies to acts. The calls come first. The purges after them have none.
+pub record AreReplies (replies : List Reply) (all : List (Option Reply)) : Type 0 where
+  pub others : List (Option Reply)
+  pub none : All (λ reply. reply ≡ None) others
+  pub are : all ≡ map (λ reply. Some reply) replies ++ others
+
+-- Holds if the service did acts, and these are the replies of the policy.
+pub record DidActs {S : Type 0} (g : Ghosts S) (acts : List Act) (old new : Service S)
     (replies : List Reply) : Type 0 where
   pub goes : is_shut new ≡ false
-  pub each : length replies ≡ length (calls_of bytes)
   pub made : g.is_sound (space_of new) → (a : Airspace) → IsContent g.holds (space_of old) a
-      → (replies ≡ replies_of (salt_of old) a (calls_of bytes))
-      × IsContent g.holds (space_of new) (airspace_after (salt_of old) a (calls_of bytes))
+      → AreReplies replies (replies_by (salt_of old) a acts)
+      × IsContent g.holds (space_of new) (airspace_by (salt_of old) a acts)
 
 -- The replies to the requests of a batch that have a number, each with it.
 abbrev pub told_of : List (Option ℕ) → List Reply → List (ℕ × Reply)

@@ -4,6 +4,7 @@ use Rattle.std.specs.List.{flat_map}
 use Rattle.std.specs.declared.vec.Vec.{Vec}
 use Rattle.service_calls.specs.Held.{salt_of, space_of}
 use Rattle.pool_instance.specs.declared.instance.Instance.{Instance}
+use Rattle.pool_instance.specs.declared.purge_totals.PurgeTotals.{PurgeTotals}
 use Rattle.pool_instance.specs.declared.waiting.Held.{Held}
 use Rattle.pool_instance.specs.declared.waiting.Reading.{Reading}
 use Rattle.pool_instance.specs.declared.waiting.Stage.{Stage}
@@ -21,6 +22,18 @@ space_in x = space_of x.service
 
 abbrev pub salt_in : {L S : Type 0} → Instance L S → List ℕ
 salt_in x = salt_of x.service
+
+-- After how many seconds the instance purges what has ended, if it does.
+abbrev pub retention_in : {L S : Type 0} → Instance L S → Option ℕ
+retention_in x = x.retention
+
+-- The time of the last call of another instance that the instance heard, if it heard one.
+abbrev pub heard_in : {L S : Type 0} → Instance L S → Option ℕ
+heard_in x = x.heard
+
+-- The purges that the instance took.
+abbrev pub purges_in : {L S : Type 0} → Instance L S → PurgeTotals
+purges_in x = x.purges
 
 -- How many entries the instance took.
 abbrev pub count_taken : {L S : Type 0} → Instance L S → ℕ

@@ -6,14 +6,15 @@ use Rattle.policy_core.specs.declared.call.Call.{Call}
 use Rattle.space_core.specs.Space.{IsContent}
 use Rattle.space_core.specs.declared.space.Space as spaces
 use Rattle.service_calls.specs.Held.{is_shut}
-use Rattle.service_calls.specs.Run.{airspace_after}
+use Rattle.pool_core.specs.Acts.{airspace_by}
 use Rattle.pool_core.specs.Events.{AsksForEnd, Batch, InstanceEvent, Receives, batches_offered, entries_given, log_events}
 use Rattle.pool_core.specs.Log.{Continues, LogEvent}
-use Rattle.pool_core.specs.Serves.{IsOpen, ReachesEnd, ServesPool, calls_in, ids_ended, ids_offered, times}
+use Rattle.pool_core.specs.Serves.{IsOpen, ReachesEnd, ServesPool, acts_in, ids_ended, ids_offered, times}
 use Rattle.pool_core.specs.Unlogged.{reads}
 use Rattle.pool_core.specs.declared.log.Log as logs
-use Rattle.pool_entry.specs.Calls.{calls_of}
-use Rattle.pool_instance.specs.Parts.{count_taken, ids_of, is_ended, log_of, readings_in, salt_in, sent_in, space_in, unsent_in}
+use Rattle.pool_entry.specs.Acts.{acts_of}
+use Rattle.pool_instance.specs.Parts.{count_taken, heard_in, ids_of, is_ended, log_of, readings_in, retention_in, salt_in, sent_in, space_in, unsent_in}
+use Rattle.pool_instance.specs.Purging.{AreAgreed, IsHeard}
 use Rattle.pool_instance.specs.Request.{call_of}
 use Rattle.pool_instance.specs.declared.instance.Instance.{Instance}
 use Rattle.pool_instance.specs.declared.waiting.Held.{Held}
@@ -90,7 +91,7 @@ pub record AreRequests (events : List InstanceEvent) (rs : List Reading) (hs : L
 -- The airspace after the entries that an instance was given.
 abbrev pub airspace_of : (salt : List ℕ) (start : Airspace) → List InstanceEvent → Airspace
 airspace_of salt start events =
-    airspace_after salt start (calls_in calls_of (entries_given events))
+    airspace_by salt start (acts_in acts_of (entries_given events))
 
 -- Holds if the instance can go on: it took the entries that it was given, its space holds the
 -- airspace after them, and its last batch is in flight or has come.
@@ -111,6 +112,9 @@ pub record IsAfter {L S : Type 0} (gl : logs.Ghosts L) (gs : spaces.Ghosts S)
   pub logged : Continues past (gl.history (log_of x)) (log_events events)
   -- It serves its clients as one of a pool.
   pub serves : gs.is_sound (space_in x)
-      → ServesPool calls_of (salt_in x) start (gl.writer (log_of x)) events
+      → ServesPool acts_of (salt_in x) start (gl.writer (log_of x)) events
   pub up_to_date : is_ended x ≡ false → IsUpToDate gl gs start events x
   pub requests : AreRequests events (readings_in x) (unsent_in x) (sent_in x) x.received
+  -- It purges only what has ended by the clock of another instance, too.
+  pub heard : IsHeard (gl.writer (log_of x)) events (heard_in x)
+  pub agreed : AreAgreed (retention_in x) (gl.writer (log_of x)) events

@@ -1,18 +1,21 @@
 //! One instance of a pool.
 use crate::fault::InstanceFault;
-use crate::log_io::LogIo;
 use crate::outcome::{Outcome, Received, Unanswered};
+use crate::purge_totals::PurgeTotals;
 use crate::request::Request;
 use crate::requests::{
-    Draft, first_batch, first_due, has_fresh, make_calls, note_end, note_question, pair,
+    Draft, do_acts, first_batch, first_due, has_fresh, note_end, note_question, pair,
     place_of_change, place_of_reading, place_of_sent, reads,
 };
 use crate::waiting::{Held, Reading, Stage};
 use policy_core::early::early;
 use policy_core::reference::Missing;
 use pool_core::log::{Entry, Log, LogFault, OfferFault};
+use pool_core::log_io::LogIo;
+use pool_entry::purge::purge_bytes;
 use service_calls::service::Service;
 use service_step::reply::Reply;
+use space_core::purge_ended::PurgeEnded;
 use space_core::space::Space;
 use std::alloc::{AllocError, Global};
 use std::time::Duration;
@@ -20,7 +23,7 @@ use wire_route::routes::Routes;
 
 /// An instance of a pool: its log, its service, and the requests that have no reply yet.
 ///
-/// It gives each request a number. It has at most one batch in flight.
+/// It gives each request a number. It has at most one batch or purge in flight.
 #[derive(Drop)]
 pub struct Instance<L: Log, S: Space> {
     log: L,
@@ -34,33 +37,43 @@ pub struct Instance<L: Log, S: Space> {
     taken: u64,
     received: u64,
     ended: bool,
+    // After how many seconds ended flights are purged, if at all, the time of the last call of
+    // another instance, and the purges that were taken.
+    retention: Option<u64>,
+    heard: Option<u64>,
+    purges: PurgeTotals,
 }
 
-impl<L: Log + Drop, S: Space + Drop> Instance<L, S> {
-    ghost use Rattle.std.specs.Prelude.{◌≡◌, ◌↔◌, ℕ, [], false, Contains, IsTrue, MatchResult, None, OnErr, find};
+// The least number of seconds between the ends of two purges.
+const PURGE_STEP: u64 = 60;
+
+impl<L: Log + Drop, S: PurgeEnded + Drop> Instance<L, S> {
+    ghost use Rattle.std.specs.Prelude.{◌≡◌, ◌≤◌, ◌+◌, ◌↔◌, ℕ, [], false, Contains, IfNone, IfSome, IsTrue, MatchResult, None, OnErr, Some, find};
     ghost use Rattle.entity_core.specs.Airspace.{Airspace};
     ghost use Rattle.space_core.specs.Space.{IsContent};
     ghost use Rattle.service_calls.specs.Held.{is_shut, salt_of, space_of};
-    ghost use Rattle.pool_instance.specs.Does.{AnsweredSo, AskedSo, DidNothing, GaveUpSo};
+    ghost use Rattle.pool_instance.specs.Does.{AnsweredSo, AskedSo, DidNothing, GaveUpSo, IsDuePurge};
     ghost use Rattle.pool_instance.specs.Does.{LearnedSo};
-    ghost use Rattle.pool_instance.specs.Does.{OfferedSo, ReceivedSo, TookSo};
+    ghost use Rattle.pool_instance.specs.Does.{OfferedSo, PurgeOfferedSo, ReceivedSo, TookSo};
     ghost use Rattle.policy_core.specs.Policy.{breaks, early_rules};
     ghost use Rattle.pool_core.specs.Log.{entry_of};
     ghost use Rattle.pool_instance.specs.Effects.{FailsLog, Forgets, Holds, HoldsNoMore};
     ghost use Rattle.pool_instance.specs.Effects.{MakesEntry, with_end};
-    ghost use Rattle.pool_instance.specs.Parts.{count_taken, ids_sent, is_ended, salt_in, space_in};
+    ghost use Rattle.pool_instance.specs.Parts.{count_taken, heard_in, ids_sent, is_ended, purges_in, retention_in, salt_in, space_in};
     ghost use Rattle.pool_instance.specs.Request.{call_of};
     ghost use Rattle.pool_instance.specs.State.{IsAfter};
 
     /// Creates an instance that has taken no entry, over a service whose space holds the airspace
-    /// at the start of the log.
+    /// at the start of the log. With a retention it offers purges of what ended at least so many
+    /// seconds ago.
     ///
     /// Allocates nothing.
-    pub fn new(alloc: Global, log: L, service: Service<S>) -> Self
+    pub fn new(alloc: Global, log: L, service: Service<S>, retention: Option<u64>) -> Self
         ensures after { is_shut service ≡ false → (start : Airspace)
             → (S.is_sound (space_of service) → IsContent S.holds (space_of service) start)
             → IsAfter L.Log S.Space (L.history log) start [] result }
         ensures salt { salt_in result ≡ salt_of service }
+        ensures retention { retention_in result ≡ retention }
     {
         Instance {
             log,
@@ -71,6 +84,9 @@ impl<L: Log + Drop, S: Space + Drop> Instance<L, S> {
             taken: 0,
             received: 0,
             ended: false,
+            retention,
+            heard: None,
+            purges: PurgeTotals::none(),
         }
     }
 
@@ -100,6 +116,20 @@ impl<L: Log + Drop, S: Space + Drop> Instance<L, S> {
         ensures { result ≡ count_taken self.now }
     {
         self.taken
+    }
+
+    /// Returns the purges that were taken.
+    pub fn purges(&self) -> PurgeTotals
+        ensures { result ≡ purges_in self.now }
+    {
+        self.purges
+    }
+
+    /// Returns the time of the last call of another organization since the start, if there was one.
+    pub fn heard(&self) -> Option<u64>
+        ensures { result ≡ heard_in self.now }
+    {
+        self.heard
     }
 
     /// Returns how many readings and changes wait, and how many requests are in flight.
@@ -255,7 +285,54 @@ impl<L: Log + Drop, S: Space + Drop> Instance<L, S> {
         }
     }
 
-    /// Takes the next entry, if the log gives one, and makes its calls in order. Returns the replies
+    // Returns the end of the next purge at a time, if one is due.
+    fn purge_end(&self, now: u64) -> Option<u64>
+        ensures none { IfNone result ((until : ℕ) → IsDuePurge now self.now until → ⊥) }
+        ensures some { IfSome result (λ until. (seconds : ℕ) × ((time : ℕ)
+            × (retention_in self.now ≡ Some seconds) × (heard_in self.now ≡ Some time)
+            × (until + seconds ≤ now) × (until + seconds ≤ time))) }
+    {
+        let until = now.min(self.heard?).checked_sub(self.retention?)?;
+        if until < self.purges.until.saturating_add(PURGE_STEP) {
+            return None;
+        }
+        Some(until)
+    }
+
+    /// Offers a purge of what ended at least the retention ago, which every instance does at the
+    /// place of the entry. Returns true if it offered one.
+    ///
+    /// The purge ends the retention before `now` (Unix seconds), and before the last call of another
+    /// instance, whichever is earlier: one clock that is wrong purges no flight. Only calls count
+    /// that were written with another clock, after this instance started. Offers no purge without a
+    /// retention, less than a minute after the end of the last purge, or while a batch or a purge is
+    /// in flight.
+    pub fn offer_purge(&mut self, alloc: Global, now: u64) -> Result<bool, InstanceFault>
+        ensures { PurgeOfferedSo L.Log S.Space now self.old self.new result }
+    {
+        if self.ended {
+            return Err(InstanceFault::Ended);
+        }
+        if self.in_flight.is_some() {
+            return Ok(false);
+        }
+        let Some(until) = self.purge_end(now) else {
+            return Ok(false);
+        };
+        let Ok(bytes) = purge_bytes(alloc, until) else {
+            return Err(InstanceFault::NoMemory);
+        };
+        match self.log.offer(bytes.as_slice()) {
+            Ok(()) => {
+                self.in_flight = Some(Vec::new(alloc));
+                Ok(true)
+            }
+            Err(OfferFault::NoMemory) => Err(InstanceFault::NoMemory),
+            Err(OfferFault::TooLong) => Err(self.end()),
+        }
+    }
+
+    /// Takes the next entry, if the log gives one, and does its acts in order. Returns the replies
     /// to the requests of its own batch, each with the number of its request.
     ///
     /// If memory runs out in a call, the instance ends: others have made the call.
@@ -269,9 +346,10 @@ impl<L: Log + Drop, S: Space + Drop> Instance<L, S> {
         if self.ended {
             return Err(InstanceFault::Ended);
         }
+        let has_other_clock = self.log.next_has_other_clock();
         match self.log.next() {
             Ok(None) => Ok(None),
-            Ok(Some(entry)) => match self.make(alloc, routes, &entry) {
+            Ok(Some(entry)) => match self.make(alloc, routes, &entry, has_other_clock) {
                 Some(told) => Ok(Some(told)),
                 None => Err(self.end()),
             },
@@ -279,23 +357,35 @@ impl<L: Log + Drop, S: Space + Drop> Instance<L, S> {
         }
     }
 
-    // Makes the calls of an entry, and returns the replies to the own requests in it. Returns `None`
-    // if the instance cannot go on.
-    fn make(&mut self, alloc: Global, routes: &Routes, entry: &Entry) -> Option<Vec<(u64, Reply)>>
+    // Does the acts of an entry, and returns the replies to the own requests in it. Returns `None`
+    // if the instance cannot go on. Hears the calls of an entry that has another clock.
+    fn make(
+        &mut self,
+        alloc: Global,
+        routes: &Routes,
+        entry: &Entry,
+        has_other_clock: bool,
+    ) -> Option<Vec<(u64, Reply)>>
         ensures { MakesEntry L.Log S.Space (entry_of entry.now) self.old self.new result }
     {
         let taken = self.taken.checked_add(1)?;
-        let replies = make_calls(&mut self.service, alloc, routes, entry.bytes.as_slice())?;
+        let done = do_acts(&mut self.service, alloc, routes, entry.bytes.as_slice())?;
+        let purges = self.purges.with(done.purges);
         if entry.writer != self.log.number() {
             self.taken = taken;
+            self.purges = purges;
+            if has_other_clock && done.last.is_some() {
+                self.heard = done.last;
+            }
             return Some(Vec::new(alloc));
         }
         let told = match &self.in_flight {
-            Some(sent) => pair(alloc, sent.as_slice(), replies)?,
+            Some(sent) => pair(alloc, sent.as_slice(), done.replies)?,
             None => return None,
         };
         self.in_flight = None;
         self.taken = taken;
+        self.purges = purges;
         Some(told)
     }
 

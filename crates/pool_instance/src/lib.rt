@@ -3,8 +3,8 @@
 
 pub mod fault;
 pub mod instance;
-pub mod log_io;
 pub mod outcome;
+pub mod purge_totals;
 pub mod request;
 mod requests;
 mod waiting;

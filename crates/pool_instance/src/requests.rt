@@ -1,22 +1,28 @@
-//! Lists of requests, and the calls of an entry.
+//! Lists of requests, and the acts of an entry.
 ghost use Rattle.std.specs.Prelude.{◌≡◌, ◌==◌, All, false, true, IfOk, IfSome, length, map, position};
-ghost use Rattle.service_calls.specs.Held.{Stays, is_shut};
+ghost use Rattle.service_calls.specs.Held.{is_shut};
 ghost use Rattle.service_step.specs.Step.{IsDoneOrDenied};
+ghost use Rattle.pool_core.specs.Acts.{makes_all};
+ghost use Rattle.pool_core.specs.Purging.{Keeps};
 ghost use Rattle.pool_core.specs.Unlogged.{reads};
-ghost use Rattle.pool_entry.specs.Calls.{calls_of};
+ghost use Rattle.pool_entry.specs.Acts.{acts_of, acts_read};
 ghost use Rattle.pool_instance.specs.declared.waiting.Held.{Held};
 ghost use Rattle.pool_instance.specs.declared.waiting.Reading.{Reading};
-ghost use Rattle.pool_instance.specs.Lists.{IsFirstBatch, MadeCalls, asked, told, told_of};
+ghost use Rattle.pool_instance.specs.Effects.{IsLastTime};
+ghost use Rattle.pool_instance.specs.Lists.{DidActs, IsFirstBatch, asked, told, told_of};
 ghost use Rattle.pool_instance.specs.Parts.{asked_stage, is_due, is_due_by, is_fresh, is_number};
 ghost use Rattle.pool_instance.specs.Parts.{stage_after};
 
+use crate::purge_totals::PurgeTotals;
 use crate::waiting::{Held, Reading, Stage};
 use policy_core::call::{Call, Operation};
+use pool_core::purge::purge_all;
 use pool_entry::batch::{Batch, PushError};
 use pool_entry::batch_fault::ReadError;
-use pool_entry::entry::entry_calls;
+use pool_entry::entry::{EntryActs, entry_acts};
 use service_calls::service::Service;
 use service_step::reply::Reply;
+use space_core::purge_ended::PurgeEnded;
 use space_core::space::Space;
 use std::alloc::{AllocError, Global};
 use wire_route::routes::Routes;
@@ -183,40 +189,93 @@ fn all_final(replies: &[Reply]) -> bool
     true
 }
 
-// Returns the calls that the bytes of an entry represent, or `None` if memory runs out.
-fn calls_in(alloc: Global, routes: &Routes, bytes: &[u8]) -> Option<Vec<(u64, Call)>>
-    ensures { IfSome result (λ calls. calls.items ≡ calls_of bytes.now) }
+// Returns the acts that the bytes of an entry represent, or `None` if memory runs out.
+fn acts_in(alloc: Global, routes: &Routes, bytes: &[u8]) -> Option<EntryActs>
+    ensures { IfSome result (λ acts. acts_read acts ≡ acts_of bytes.now) }
 {
-    match entry_calls(alloc, routes, bytes) {
-        Ok(calls) => Some(calls),
-        Err(ReadError::Fault(_)) => Some(Vec::new(alloc)),
+    match entry_acts(alloc, routes, bytes) {
+        Ok(acts) => Some(acts),
+        Err(ReadError::Fault(_)) => Some(EntryActs::Calls(Vec::new(alloc))),
         Err(ReadError::Memory) => None,
     }
 }
 
-/// Makes the calls that the bytes of an entry represent, and returns the replies.
-///
-/// Returns `None` if a call failed, or if memory ran out.
-pub(crate) fn make_calls<S: Space + Drop>(
+// Makes calls, and returns the replies. Returns `None` if a call failed, or if memory ran out.
+fn make_calls<S: Space + Drop>(
     service: &mut Service<S>,
     alloc: Global,
-    routes: &Routes,
-    bytes: &[u8],
+    calls: &[(u64, Call)],
 ) -> Option<Vec<Reply>>
-    ensures stays { Stays S.Space service.old service.new }
+    ensures keeps { Keeps S.Space service.old service.new }
     ensures made { is_shut service.old ≡ false → IfSome result (λ replies.
-        MadeCalls S.Space bytes.now service.old service.new replies.items) }
+        DidActs S.Space (makes_all calls.now) service.old service.new replies.items) }
 {
-    let Some(calls) = calls_in(alloc, routes, bytes) else {
-        return None;
-    };
-    let Ok(replies) = service.run(alloc, calls.as_slice()) else {
+    let Ok(replies) = service.run(alloc, calls) else {
         return None;
     };
     if all_final(replies.as_slice()) {
         Some(replies)
     } else {
         None
+    }
+}
+
+/// What the acts of an entry gave.
+#[derive(Drop)]
+pub(crate) struct Done {
+    /// The replies to its calls.
+    pub replies: Vec<Reply>,
+    /// The time of its last call, if it has one.
+    pub last: Option<u64>,
+    /// Its purges.
+    pub purges: PurgeTotals,
+}
+
+// Returns the time of the last call.
+fn last_time(calls: &[(u64, Call)]) -> Option<u64>
+    ensures { IsLastTime (makes_all calls.now) result }
+{
+    match calls.last() {
+        Some(timed) => Some(timed.0),
+        None => None,
+    }
+}
+
+/// Does the acts that the bytes of an entry represent.
+///
+/// Returns `None` if an act failed, or if memory ran out.
+pub(crate) fn do_acts<S: PurgeEnded + Drop>(
+    service: &mut Service<S>,
+    alloc: Global,
+    routes: &Routes,
+    bytes: &[u8],
+) -> Option<Done>
+    ensures keeps { Keeps S.Space service.old service.new }
+    ensures made { is_shut service.old ≡ false → IfSome result (λ done.
+        DidActs S.Space (acts_of bytes.now) service.old service.new done.replies.items) }
+    ensures last { IfSome result (λ done. IsLastTime (acts_of bytes.now) done.last) }
+{
+    let Some(acts) = acts_in(alloc, routes, bytes) else {
+        return None;
+    };
+    match acts {
+        EntryActs::Calls(calls) => {
+            let replies = make_calls(service, alloc, calls.as_slice())?;
+            let last = last_time(calls.as_slice());
+            Some(Done {
+                replies,
+                last,
+                purges: PurgeTotals::none(),
+            })
+        }
+        EntryActs::Purge(until) => match purge_all(service, until) {
+            Ok(removed) => Some(Done {
+                replies: Vec::new(alloc),
+                last: None,
+                purges: PurgeTotals::one(until, removed),
+            }),
+            Err(_) => None,
+        },
     }
 }
 

@@ -1,6 +1,6 @@
 //! A log in memory, whose entries arrive as a test says.
 use pool_core::log::{Entry, Log, LogEnd, LogFault, OfferFault};
-use pool_instance::log_io::{LogIo, LogStatus};
+use pool_core::log_io::{LogIo, LogStatus};
 use std::alloc::{AllocError, Global};
 use std::time::Duration;
 
@@ -18,8 +18,12 @@ pub struct Plan {
     pub told_after: u64,
     /// The log is lost before this entry.
     pub lost_at: u64,
-    /// The index of an entry that represents no batch.
+    /// The index of an entry that represents neither a batch nor a purge.
     pub nonsense: u64,
+    /// The index of an entry that is a purge.
+    pub purge_at: u64,
+    /// The time up to which it purges.
+    pub until: u64,
     /// The time since the log last answered.
     pub silence: Duration,
 }
@@ -49,10 +53,15 @@ impl ListLog {
         }
     }
 
-    // Returns the bytes of the entry with this index: a put of an intent, which meets no other.
+    // Returns the bytes of the entry with this index: a put of an intent, which meets no other, or
+    // what the plan says.
     fn bytes_at(&self, index: u64) -> Result<String, AllocError> {
         if index == self.plan.nonsense {
             return String::from_str(self.alloc, "dss-batch 0\n");
+        }
+        if index == self.plan.purge_at {
+            let until = self.plan.until;
+            return format!(in self.alloc; "dss-purge 1\n{until}\n");
         }
         let id = FIRST.saturating_add(index);
         let start = index.saturating_mul(10).saturating_add(FIRST);
@@ -79,6 +88,18 @@ impl Log for ListLog {
 
     fn number(&self) -> u64 {
         1
+    }
+
+    fn next_has_other_clock(&self) -> bool {
+        true
+    }
+
+    fn is_read(&self) -> bool {
+        true
+    }
+
+    fn admits(&self, _uss: &str) -> bool {
+        true
     }
 
     fn offer(&mut self, _bytes: &[u8]) -> Result<(), OfferFault> {

@@ -24,6 +24,8 @@ const AT_ONCE: Plan = Plan {
     told_after: 1,
     lost_at: u64::MAX,
     nonsense: u64::MAX,
+    purge_at: u64::MAX,
+    until: u64::MAX,
     silence: Duration::ZERO,
 };
 
@@ -76,6 +78,33 @@ fn tell(rt: &HostRuntime, routes: &Routes, what: &str, plan: Plan) -> Result<()>
     Ok(())
 }
 
+// Follows logs with a purge.
+fn tell_purges(rt: &HostRuntime, routes: &Routes) -> Result<()> {
+    let plan = Plan {
+        purge_at: 100,
+        until: 10_495,
+        ..AT_ONCE
+    };
+    tell(rt, routes, "a purge of 50 intents", plan)?;
+    let plan = Plan {
+        purge_at: 20,
+        ..plan
+    };
+    tell(rt, routes, "a purge before later intents", plan)?;
+    let plan = Plan {
+        until: 10_004,
+        ..plan
+    };
+    tell(rt, routes, "a purge of nothing", plan)?;
+    let plan = Plan {
+        entries: 700,
+        arriving: 700,
+        purge_at: 600,
+        ..AT_ONCE
+    };
+    tell(rt, routes, "a purge in chunks", plan)
+}
+
 fn main(rt: HostRuntime) -> Result<()> {
     let routes = Routes::new(rt.alloc())
         .ok()
@@ -100,7 +129,7 @@ fn main(rt: HostRuntime) -> Result<()> {
         nonsense: 3,
         ..AT_ONCE
     };
-    tell(&rt, &routes, "an entry that is no batch", plan)?;
+    tell(&rt, &routes, "an entry without acts", plan)?;
     let plan = Plan {
         lost_at: 70,
         ..AT_ONCE
@@ -118,5 +147,5 @@ fn main(rt: HostRuntime) -> Result<()> {
         ..AT_ONCE
     };
     tell(&rt, &routes, "end never told", plan)?;
-    Ok(())
+    tell_purges(&rt, &routes)
 }

@@ -15,4 +15,6 @@ returns g c =
       taken = refl;
       received = refl;
       ended = λ h. h;
+      retention = refl;
+      heard = refl;
     })

@@ -30,7 +30,7 @@ returns-in-Fault g c =
     let same : c.call.result.now ≡ call_of f.one.held.request = c.call.ensures ∙ ap (λ (v : Reading). call_of v.held.request) (sym (found_is p xs i c.index.result.now f c.index.ensures)) in
     let asked = subst (λ (v : Call). IsReplyTo g.S.Space old.service c.call-reply.new.self c.args.now v c.call-reply.result) same c.call-reply.ensures.reply in
     subst (λ (v : Reading). AnsweredSo g.L.Log g.S.Space c.args.now old new (Ok (Some (Failed v.held.id)))) (found_is p xs i c.remove-id.result f c.remove-id.ensures.value)
-    (answered_fault g.L.Log g.S.Space old new c.args.now i c.call-reply.result f c.if-self.false asked refl c.remove-id.ensures.items refl refl refl refl refl (sym c.is_stopped.ensures ∙ c.if-is_stopped.false) c.in-Fault.is)
+    (answered_fault g.L.Log g.S.Space old new c.args.now i c.call-reply.result f c.if-self.false asked refl c.remove-id.ensures.items refl refl refl refl refl (sym c.is_stopped.ensures ∙ c.if-is_stopped.false) refl refl c.in-Fault.is)
 
 pub returns-in_default-reply : goal.returns-in_default-reply
 returns-in_default-reply g c =
@@ -45,5 +45,5 @@ returns-in_default-reply g c =
     let asked = subst (λ (v : Call). IsReplyTo g.S.Space old.service c.call-reply.new.self c.args.now v c.call-reply.result) same c.call-reply.ensures.reply in
     let goes = sym c.is_stopped.ensures ∙ c.if-is_stopped.false in
     subst (λ (v : Reading). AnsweredSo g.L.Log g.S.Space c.args.now old new (Ok (Some (Replied v.held.id c.call-reply.result)))) (found_is p xs i c.remove-id.result f c.remove-id.ensures.value)
-    (answered_reply g.L.Log g.S.Space old new c.args.now i c.call-reply.result f c.if-self.false asked refl c.remove-id.ensures.items refl refl refl refl refl goes
+    (answered_reply g.L.Log g.S.Space old new c.args.now i c.call-reply.result f c.if-self.false asked refl c.remove-id.ensures.items refl refl refl refl refl goes refl refl
     (final_reply c.call-reply.result c.in_default-reply.not-Fault goes))

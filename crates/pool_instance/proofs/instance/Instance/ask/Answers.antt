@@ -19,7 +19,7 @@ returns-in-Ok g c =
       (
         q,
         did_ask g.L.Log g.S.Space old (record old { log = c.ask_end.new.self; readings = with_items old.readings c.note_question.new.readings }) q
-            (record { service = refl; history = c.in-Ok.ensures.history; writer = c.ask_end.ensures.writer; taken = refl; ended = refl }) refl items refl refl,
+            (record { service = refl; history = c.in-Ok.ensures.history; writer = c.ask_end.ensures.writer; taken = refl; ended = refl; retention = refl; heard = refl }) refl items refl refl,
       ),
       subst (λ (v : List Reading). All (λ (r : Reading). is_fresh r ≡ false) v) (sym items) (none_fresh q old.readings.items),
     )

@@ -4,7 +4,7 @@ use Rattle.std.specs.List.{remove}
 use Rattle.pool_instance.specs.Effects.{Forgets}
 use Rattle.pool_instance.specs.declared.waiting.Held.{Held}
 use Rattle.pool_instance.specs.declared.waiting.Reading.{Reading}
-use Rattle.pool_instance.proofs.After.{continues_same}
+use Rattle.pool_core.proofs.Histories.{continues_same}
 use Rattle.pool_instance.proofs.Did.{did_fail_change, did_fail_reading, did_forget, did_same}
 use Rattle.pool_instance.proofs.Ends.{none_there, unsent_change, unsent_reading}
 use Rattle.pool_instance.proofs.Places.{position_found, position_none, position_within}
@@ -22,7 +22,7 @@ returns-in-Some g c =
     let number : f.one.held.id ≡ id = grind (arith, f.passes) in
     let less = c.remove-gone.ensures.items ∙ ap (λ (v : List Reading). remove v i) f.split.split ∙ remove_split f.split.front f.one f.split.back i f.split.at in (
       did_fail_reading g.L.Log g.S.Space old (record old { readings = c.remove-gone.new.self }) id
-          (record { service = refl; history = continues_same (g.L.Log.history old.log) (g.L.Log.history old.log) refl; writer = refl; taken = refl; ended = refl }) refl refl
+          (record { service = refl; history = continues_same (g.L.Log.history old.log) (g.L.Log.history old.log) refl; writer = refl; taken = refl; ended = refl; retention = refl; heard = refl }) refl refl
           f.split.front f.one f.split.back f.split.split less refl number,
       unsent_reading old.readings.items old.unsent.items f.split.front f.one f.split.back id f.split.split number,
     )
@@ -38,7 +38,7 @@ returns-in-Some-place_of_change g c =
     let number : f.one.id ≡ id = grind (arith, f.passes) in
     let less = c.remove-gone-in-Some-place_of_change.ensures.items ∙ ap (λ (v : List Held). remove v i) f.split.split ∙ remove_split f.split.front f.one f.split.back i f.split.at in (
       did_fail_change g.L.Log g.S.Space old (record old { unsent = c.remove-gone-in-Some-place_of_change.new.self }) id
-          (record { service = refl; history = continues_same (g.L.Log.history old.log) (g.L.Log.history old.log) refl; writer = refl; taken = refl; ended = refl }) refl refl
+          (record { service = refl; history = continues_same (g.L.Log.history old.log) (g.L.Log.history old.log) refl; writer = refl; taken = refl; ended = refl; retention = refl; heard = refl }) refl refl
           f.split.front f.one f.split.back f.split.split less refl number,
       unsent_change old.readings.items old.unsent.items f.split.front f.one f.split.back id f.split.split number,
     )

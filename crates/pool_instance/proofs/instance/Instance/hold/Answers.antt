@@ -5,7 +5,7 @@ use Rattle.pool_instance.proofs.instance.Instance.hold.Goals as goal
 
 pub returns-in_ok-push : goal.returns-in_ok-push
 returns-in_ok-push g c = record {
-  rest = record { service = refl; log = refl; in_flight = refl; taken = refl; received = refl; ended = refl };
+  rest = record { service = refl; log = refl; in_flight = refl; taken = refl; received = refl; ended = refl; retention = refl; heard = refl };
   waits = inl (record {
     one = _;
     readings = c.in_ok-push.ensures.items;
@@ -19,7 +19,7 @@ returns-in_ok-push g c = record {
 
 pub returns-in_ok-push-2 : goal.returns-in_ok-push-2
 returns-in_ok-push-2 g c = record {
-  rest = record { service = refl; log = refl; in_flight = refl; taken = refl; received = refl; ended = refl };
+  rest = record { service = refl; log = refl; in_flight = refl; taken = refl; received = refl; ended = refl; retention = refl; heard = refl };
   waits = inr (record {
     one = _;
     unsent = c.in_ok-push-2.ensures.items;

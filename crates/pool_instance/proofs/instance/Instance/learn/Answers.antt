@@ -17,7 +17,7 @@ returns g c =
       (
         n,
         did_learn g.L.Log g.S.Space old (record old { log = c.end.new.self; readings = with_items old.readings c.note_end.new.readings }) q n
-            (record { service = refl; history = c.in-Some.ensures.history; writer = c.end.ensures.writer; taken = refl; ended = refl }) refl
+            (record { service = refl; history = c.in-Some.ensures.history; writer = c.end.ensures.writer; taken = refl; ended = refl; retention = refl; heard = refl }) refl
             (with_items_is old.readings c.note_end.new.readings long ∙ m) refl refl,
       ),
     )
