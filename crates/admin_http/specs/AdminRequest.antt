@@ -40,6 +40,7 @@ abbrev pub status_at : AdminRoute → Health → ℕ
 status_at page.Health state.Serving = 200
 status_at page.Health state.Degraded = 200
 status_at page.Health state.Failing = 503
+status_at page.Health state.Silent = 503
 status_at page.Health state.Stopped = 503
 status_at page.Health state.Stopping = 503
 status_at page.Metrics health = 200

@@ -51,6 +51,7 @@ words_of state.Serving = codes "serving\n"
 words_of state.Degraded =
     codes "degraded: purges are held; check the clock, then POST /purge/resume\n"
 words_of state.Failing = codes "failing: the last commit failed\n"
+words_of state.Silent = codes "failing: the log of the pool does not answer; check etcd\n"
 words_of state.Stopped = codes "stopped: the database failed; restart the service\n"
 words_of state.Stopping = codes "stopping: a stop was requested\n"
 

@@ -39,6 +39,8 @@ pub enum Health {
     Degraded,
     /// It answers calls, and the last commit failed.
     Failing,
+    /// It is an instance of a pool, whose log does not answer.
+    Silent,
     /// It answers no calls any more.
     Stopped,
     /// An operator requested its stop.
@@ -110,7 +112,7 @@ pub fn request_status(asked: AdminRequest, health: Health) -> u16
         (AdminRequest::Refuses(_), _) => 405,
         (
             AdminRequest::Does(AdminRoute::Health),
-            Health::Failing | Health::Stopped | Health::Stopping,
+            Health::Failing | Health::Silent | Health::Stopped | Health::Stopping,
         ) => 503,
         (AdminRequest::Does(AdminRoute::Backup), _) => 404,
         (AdminRequest::Does(AdminRoute::Airspace), _) => 503,

@@ -95,6 +95,7 @@ fn health_text(health: Health) -> &'static str
             "degraded: purges are held; check the clock, then POST /purge/resume\n"
         }
         Health::Failing => "failing: the last commit failed\n",
+        Health::Silent => "failing: the log of the pool does not answer; check etcd\n",
         Health::Stopped => "stopped: the database failed; restart the service\n",
         Health::Stopping => "stopping: a stop was requested\n",
     }

@@ -17,6 +17,7 @@ fn put_health(text: &mut Exposition, health: Health) -> Result<(), AllocError> {
         ("serving", Health::Serving),
         ("degraded", Health::Degraded),
         ("failing", Health::Failing),
+        ("silent", Health::Silent),
         ("stopped", Health::Stopped),
         ("stopping", Health::Stopping),
     ];

@@ -11,12 +11,16 @@ pub struct PoolMetrics {
     pub entries: u64,
     /// The number of requests that wait for the log.
     pub waiting: usize,
-    /// The number of batches that were offered, and whose outcome is not known.
+    /// The number of batches and purges that were offered, and whose outcome is not known.
     pub open: usize,
     /// The revision of the last change that was received of the log.
     pub revision: u64,
-    /// The time since the log last answered.
+    /// The time since the log last answered. It is at least 4 seconds until the log was read.
     pub silence: Duration,
+    /// The time of the last call of another organization since the start, if there was one.
+    pub heard: Option<u64>,
+    /// The latest end of a purge, or 0, in Unix seconds.
+    pub purged_until: u64,
 }
 
 impl PoolMetrics {
@@ -37,7 +41,7 @@ impl PoolMetrics {
         let open = Metric {
             name: "dss_pool_batches_open",
             kind: MetricKind::Gauge,
-            help: "Batches of changes that were offered to the pool's log, without an outcome.",
+            help: "Batches of changes, and purges, that were offered to the pool's log without an outcome yet.",
         };
         text.one(open, wide(self.open))?;
         let revision = Metric {
@@ -49,8 +53,23 @@ impl PoolMetrics {
         let silence = Metric {
             name: "dss_pool_silence_seconds",
             kind: MetricKind::Gauge,
-            help: "Whole seconds since the pool's log last answered.",
+            help: "Whole seconds since the pool's log last answered; at least 4 until the instance has read it.",
         };
-        text.one(silence, self.silence.as_secs())
+        text.one(silence, self.silence.as_secs())?;
+        let purged = Metric {
+            name: "dss_pool_purged_until_seconds",
+            kind: MetricKind::Gauge,
+            help: "Latest end of a purge of the pool's log, in Unix seconds, or 0.",
+        };
+        text.one(purged, self.purged_until)?;
+        let Some(time) = self.heard else {
+            return Ok(());
+        };
+        let heard = Metric {
+            name: "dss_pool_heard_time_seconds",
+            kind: MetricKind::Gauge,
+            help: "Time of the last call of another organization since the start, by its clock, in Unix seconds.",
+        };
+        text.one(heard, time)
     }
 }

@@ -1,6 +1,6 @@
 //! The metrics and the health of a service.
 ghost use Rattle.std.specs.Prelude.{◌≡◌};
-ghost use Rattle.admin_http.specs.ServiceMetrics.{health_of, shown_health, when_broken, when_failing, when_kept};
+ghost use Rattle.admin_http.specs.ServiceMetrics.{health_of, shown_health, when_broken, when_failing, when_kept, when_silent};
 ghost use Rattle.admin_http.specs.declared.admin_route.Health.TheVariants as health;
 
 use crate::admin_route::Health;
@@ -119,11 +119,22 @@ impl ServiceMetrics {
         ensures { health_of self.new ≡ when_broken (health_of self.old) }
     {
         match self.health {
-            Health::Serving | Health::Degraded | Health::Failing => {
+            Health::Serving | Health::Degraded | Health::Failing | Health::Silent => {
                 self.faults.note_store();
                 self.health = Health::Stopped;
             }
             Health::Stopped | Health::Stopping => {}
+        }
+    }
+
+    /// Records whether the log of the pool does not answer.
+    pub fn show_silence(&mut self, is_silent: bool)
+        ensures { health_of self.new ≡ when_silent is_silent (health_of self.old) }
+    {
+        match self.health {
+            Health::Serving if is_silent => self.health = Health::Silent,
+            Health::Silent if !is_silent => self.health = Health::Serving,
+            _ => {}
         }
     }
 

@@ -6,3 +6,4 @@ pub mod Serves
 pub mod Own
 pub mod Requests
 pub mod ServedRuns
+pub mod Held

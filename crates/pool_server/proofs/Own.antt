@@ -1,15 +1,15 @@
 -- Lemmas: what an instance does for its server, apart from the receipt of a request.
-use Rattle.std.proofs.Common.{◌≡◌, ℕ, zero, suc, Bool, true, false, List, [], ◌∷◌, ◌++◌, map, take, Option, Some, None, Result, Ok, Err, refl, sym, subst, inl, inr}
+use Rattle.std.proofs.Common.{ℕ, zero, suc, Bool, true, false, List, [], ◌∷◌, ◌++◌, map, take, Option, Some, None, Result, Ok, Err, refl, sym, subst, inl, inr}
 use Rattle.std.specs.Prelude.{All}
 use Rattle.std.specs.declared.vec.Vec.{Vec}
 use Rattle.std.proofs.lemmas.List.Elements.{All-append, All-cons, All-nil}
-use Rattle.service_calls.specs.Run.{TimedCall}
 use Rattle.service_step.specs.declared.reply.Reply.{Reply}
 use Rattle.space_core.specs.declared.space.Space as spaces
+use Rattle.pool_core.specs.Acts.{Purges}
 use Rattle.pool_core.specs.Events.{AsksForEnd, Fails, Gets, InstanceEvent, LearnsEnd}
 use Rattle.pool_core.specs.declared.log.Log as logs
-use Rattle.pool_instance.specs.Does.{AnsweredSo, AskedSo, Did, DidNothing, FailedSo, GaveUpSo, LearnedSo, OfferedSo, TookSo, in_place}
-use Rattle.pool_instance.specs.Parts.{unsent_in}
+use Rattle.pool_instance.specs.Does.{AnsweredSo, AskedSo, Did, DidNothing, FailedSo, GaveUpSo, LearnedSo, OfferedSo, PurgeOfferedSo, TookSo, in_place}
+use Rattle.pool_instance.specs.Parts.{retention_in, unsent_in}
 use Rattle.pool_instance.specs.declared.fault.InstanceFault.{InstanceFault}
 use Rattle.pool_instance.specs.declared.fault.InstanceFault.TheVariants.{Ended, NoMemory}
 use Rattle.pool_instance.specs.declared.instance.Instance.{Instance}
@@ -18,7 +18,7 @@ use Rattle.pool_instance.specs.declared.outcome.Outcome.TheVariants.{Failed, Rep
 use Rattle.pool_instance.specs.declared.outcome.Unanswered.{Unanswered}
 use Rattle.pool_instance.specs.declared.outcome.Unanswered.TheVariants.{Unknown, Unsent}
 use Rattle.pool_server.specs.ServesClients.{AreOwn, IsOwn, WorksOwn}
-use Rattle.pool_server.specs.Serving.{IsAt}
+use Rattle.pool_server.specs.Serving.{IsActAt, IsAt}
 use Rattle.pool_server.proofs.Works.{all_at, did_none, did_then}
 
 pub own_then_all : (xs ys : List InstanceEvent) → AreOwn xs → AreOwn ys → AreOwn (xs ++ ys)
@@ -30,13 +30,13 @@ pub told_own : (told : List (ℕ × Reply)) → AreOwn (map in_place told)
 told_own [] = tt
 told_own (t ∷ told) = (tt, told_own told)
 
-pub told_timeless : (moment : ℕ) (told : List (ℕ × Reply)) → All (IsAt moment) (map in_place told)
-told_timeless moment [] = All-nil (IsAt moment)
-told_timeless moment (t ∷ told) = All-cons (IsAt moment) (in_place t) (map in_place told) tt (told_timeless moment told)
+pub told_timeless : (retention : Option ℕ) (moment : ℕ) (told : List (ℕ × Reply)) → All (IsAt retention moment) (map in_place told)
+told_timeless retention moment [] = All-nil (IsAt retention moment)
+told_timeless retention moment (t ∷ told) = All-cons (IsAt retention moment) (in_place t) (map in_place told) tt (told_timeless retention moment told)
 
 module _ {L S : Type 0} (gl : logs.Ghosts L) (gs : spaces.Ghosts S) (moment : ℕ) where
   own_no_event : (old new : Instance L S) → Did gl gs old [] new → WorksOwn gl gs moment old new
-  own_no_event old new did = record { events = []; did = did; own = tt; times = All-nil (IsAt moment) }
+  own_no_event old new did = record { events = []; did = did; own = tt; times = All-nil (IsAt (retention_in old) moment) }
 
   pub own_none : (x : Instance L S) → WorksOwn gl gs moment x x
   own_none x = own_no_event x x (did_none gl gs x)
@@ -46,11 +46,11 @@ module _ {L S : Type 0} (gl : logs.Ghosts L) (gs : spaces.Ghosts S) (moment : �
     events = p.events ++ q.events;
     did = did_then gl gs old p.events mid q.events new p.did q.did;
     own = own_then_all p.events q.events p.own q.own;
-    times = All-append (IsAt moment) p.events q.events p.times q.times;
+    times = All-append (IsAt (retention_in old) moment) p.events q.events p.times (subst (λ (v : Option ℕ). All (IsAt v moment) q.events) p.did.retention q.times);
   }
 
-  own_one : (old : Instance L S) (e : InstanceEvent) (new : Instance L S) → Did gl gs old (e ∷ []) new → IsOwn e → IsAt moment e → WorksOwn gl gs moment old new
-  own_one old e new did is time = record { events = e ∷ []; did = did; own = (is, tt); times = All-cons (IsAt moment) e [] time (All-nil (IsAt moment)) }
+  own_one : (old : Instance L S) (e : InstanceEvent) (new : Instance L S) → Did gl gs old (e ∷ []) new → IsOwn e → IsAt (retention_in old) moment e → WorksOwn gl gs moment old new
+  own_one old e new did is time = record { events = e ∷ []; did = did; own = (is, tt); times = All-cons (IsAt (retention_in old) moment) e [] time (All-nil (IsAt (retention_in old) moment)) }
 
   pub own_nothing : (old new : Instance L S) → DidNothing gl gs old new → WorksOwn gl gs moment old new
   own_nothing old new h = own_no_event old new h.did
@@ -75,8 +75,15 @@ module _ {L S : Type 0} (gl : logs.Ghosts L) (gs : spaces.Ghosts S) (moment : �
   pub own_offered : (old new : Instance L S) (r : Result ℕ InstanceFault) → OfferedSo gl gs moment old new r → WorksOwn gl gs moment old new
   own_offered old new (Ok zero) h = own_nothing old new h.0
   own_offered old new (Ok (suc n)) h =
-      own_one old _ new h.1 tt (subst (λ v. All (λ (timed : TimedCall). timed.0 ≡ moment) v) (sym h.2.calls) (all_at gl gs moment (take (suc n) (unsent_in old))))
+      own_one old _ new h.1 tt (subst (λ v. All (IsActAt (retention_in old) moment) v) (sym h.2.calls) (all_at gl gs (retention_in old) moment (take (suc n) (unsent_in old))))
   own_offered old new (Err fault) h = own_failed old new fault h
+
+  pub own_purge_offered : (old new : Instance L S) (r : Result Bool InstanceFault) → PurgeOfferedSo gl gs moment old new r → WorksOwn gl gs moment old new
+  own_purge_offered old new (Ok true) h =
+      own_one old _ new h.1 tt (subst (λ v. All (IsActAt (retention_in old) moment) v) (sym h.2.acts)
+      (All-cons (IsActAt (retention_in old) moment) (Purges h.2.until) [] (h.2.seconds, h.2.retained, h.2.past) (All-nil (IsActAt (retention_in old) moment))))
+  own_purge_offered old new (Ok false) h = own_nothing old new h.0
+  own_purge_offered old new (Err fault) h = own_failed old new fault h
 
   pub own_took : {A : Type 0} (old new : Instance L S) (r : Result (Option (Vec (ℕ × Reply) A)) InstanceFault) → TookSo gl gs old new r → WorksOwn gl gs moment old new
   own_took old new (Ok None) h = own_nothing old new h
@@ -84,7 +91,7 @@ module _ {L S : Type 0} (gl : logs.Ghosts L) (gs : spaces.Ghosts S) (moment : �
     events = Gets h.0 ∷ map in_place told.items;
     did = h.1;
     own = (tt, told_own told.items);
-    times = All-cons (IsAt moment) (Gets h.0) (map in_place told.items) tt (told_timeless moment told.items);
+    times = All-cons (IsAt (retention_in old) moment) (Gets h.0) (map in_place told.items) tt (told_timeless (retention_in old) moment told.items);
   }
   own_took old new (Err fault) h = own_failed old new fault h
 

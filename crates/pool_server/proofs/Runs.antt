@@ -15,9 +15,10 @@ use Rattle.server_watch.specs.declared.token_watch.TokenWatch.{TokenWatch}
 use Rattle.pool_core.specs.Events.{InstanceEvent}
 use Rattle.pool_core.specs.Serves.{ServesPool}
 use Rattle.pool_core.specs.declared.log.Log as logs
-use Rattle.pool_entry.specs.Calls.{calls_of}
+use Rattle.pool_entry.specs.Acts.{acts_of}
 use Rattle.pool_instance.specs.Does.{Did}
-use Rattle.pool_instance.specs.Parts.{log_of, salt_in}
+use Rattle.pool_instance.specs.Parts.{log_of, retention_in, salt_in}
+use Rattle.pool_instance.specs.Purging.{AreAgreed}
 use Rattle.pool_instance.specs.declared.instance.Instance.{Instance}
 use Rattle.pool_server.specs.Serving.{IsAt, IsOfClient, Round, RoundsRun, ServesAsInstance, Works, events_in}
 use Rattle.pool_server.proofs.Works.{did_none, did_then}
@@ -36,11 +37,11 @@ active_more (first ∷ rounds) round active = active_more rounds round (unwrap_o
 pub events_more : (rounds : List Round) (round : Round) → events_in (rounds ++ round ∷ []) ≡ events_in rounds ++ round.events
 events_more rounds round = flat_map-append (λ (r : Round). r.events) rounds (round ∷ []) ∙ ap (λ (v : List InstanceEvent). events_in rounds ++ v) (append-nil round.events)
 
-module _ {M T : Type 0} (m : clocks.Ghosts M) (t : sources.Ghosts T) (first : TokenFile) where
+module _ {M T : Type 0} (m : clocks.Ghosts M) (t : sources.Ghosts T) (first : TokenFile) (retention : Option ℕ) where
   pub rounds_more : (rounds : List Round) (round : Round) (active : TokenFile) (watch watched watch' : TokenWatch T) (clock between clock' : M)
-      → RoundsRun m t first rounds active watch watched clock between → m.gives between round.moment clock' → LooksOnce t first round.looked watched watch' round.taken
-      → All (IsOfClient (callers_of (unwrap_or round.taken (active_after rounds active)))) round.events → All (IsAt round.moment) round.events
-      → RoundsRun m t first (rounds ++ round ∷ []) active watch watch' clock clock'
+      → RoundsRun m t first retention rounds active watch watched clock between → m.gives between round.moment clock' → LooksOnce t first round.looked watched watch' round.taken
+      → All (IsOfClient (callers_of (unwrap_or round.taken (active_after rounds active)))) round.events → All (IsAt retention round.moment) round.events
+      → RoundsRun m t first retention (rounds ++ round ∷ []) active watch watch' clock clock'
   rounds_more [] round active watch watched watch' clock between clock' run given looks clients times = (
     watch',
     clock',
@@ -72,7 +73,7 @@ module _ {L S M T : Type 0} (gl : logs.Ghosts L) (gs : spaces.Ghosts S) (m : clo
   pub record WorksUpTo (active : TokenFile) (watched : TokenWatch T) (old new : Instance L S) (clock clock' : M) : Type 0 where
     pub rounds : List Round
     pub did : Did gl gs old (events_in rounds) new
-    pub run : RoundsRun m t first rounds first watch watched clock clock'
+    pub run : RoundsRun m t first (retention_in old) rounds first watch watched clock clock'
     pub active_is : active_after rounds first ≡ active
 
   unfoldable pub up_to_none : (x : Instance L S) (clock : M) → WorksUpTo first watch x x clock clock
@@ -89,8 +90,9 @@ module _ {L S M T : Type 0} (gl : logs.Ghosts L) (gs : spaces.Ghosts S) (m : clo
       record {
         rounds = p.rounds ++ round ∷ [];
         did = subst (λ (v : List InstanceEvent). Did gl gs old v new) (sym (events_more p.rounds round)) (did_then gl gs old (events_in p.rounds) mid w.events new p.did w.did);
-        run = rounds_more m t first p.rounds round first watch watched watch' clock between clock' p.run given looks
-            (subst (λ (a : TokenFile). All (IsOfClient (callers_of a)) w.events) (used_is ∙ active_is) w.clients) w.times;
+        run = rounds_more m t first (retention_in old) p.rounds round first watch watched watch' clock between clock' p.run given looks
+            (subst (λ (a : TokenFile). All (IsOfClient (callers_of a)) w.events) (used_is ∙ active_is) w.clients)
+            (subst (λ (v : Option ℕ). All (IsAt v moment) w.events) p.did.retention w.times);
         active_is = active_more p.rounds round first ∙ sym active_is;
       }
 
@@ -101,8 +103,10 @@ module _ {L S M T : Type 0} (gl : logs.Ghosts L) (gs : spaces.Ghosts S) (m : clo
       let after = p.did.after past start before is in
       record {
         rounds = p.rounds;
-        serves = λ sound. subst (λ v. ServesPool calls_of v start (gl.writer (log_of old)) (before ++ events)) p.did.salt
-            (subst (λ v. ServesPool calls_of (salt_in new) start v (before ++ events)) p.did.writer (after.serves sound));
+        serves = λ sound. subst (λ v. ServesPool acts_of v start (gl.writer (log_of old)) (before ++ events)) p.did.salt
+            (subst (λ v. ServesPool acts_of (salt_in new) start v (before ++ events)) p.did.writer (after.serves sound));
+        agreed = subst (λ v. AreAgreed v (gl.writer (log_of old)) (before ++ events)) p.did.retention
+            (subst (λ v. AreAgreed (retention_in new) v (before ++ events)) p.did.writer after.agreed);
         logged = after.logged;
         watched = watched;
         read = read;

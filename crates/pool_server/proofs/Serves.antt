@@ -17,7 +17,7 @@ use Rattle.server_base.proofs.Histories.{extends_none, extends_same, extends_the
 use Rattle.pool_core.specs.Events.{Answers, AsksForEnd, Fails, Gets, InstanceEvent, LearnsEnd, Offers, Receives}
 use Rattle.pool_core.specs.declared.log.Log as logs
 use Rattle.pool_instance.specs.Does.{Did}
-use Rattle.pool_instance.specs.Parts.{is_ended}
+use Rattle.pool_instance.specs.Parts.{is_ended, retention_in}
 use Rattle.pool_instance.specs.declared.instance.Instance.{Instance}
 use Rattle.pool_server.specs.ClientState.{ClientState, ClientSteps, IsNewClient, state_of}
 use Rattle.pool_server.specs.ServesClients.{Accepts, ActsBy, AllIn, AreDue, AreOwn, ChangesBy, ChangesTo, Changed, Closes, Declines, Clients, Delivers, Denies, EndedIfRejects, EndedIfRejectsRequest, GivesUp, IsDueRequest, IsOwn, Loses, LosesDenial, MayAccept, PoolAct, PoolState, RejectsAtEnd, RejectsLong, RequestAct, Requested, RequestsTo, Serves, ServesClient, SetChange, SetChanges, TakesSteps, Waits, Worked, WorksOwn, clients_of, events_of_act, events_of_request, history_of_act, history_of_change, no_clients, pool_state}
@@ -245,8 +245,9 @@ module _ (callers : Callers) where
                 (did_then gl gs old.instance (flat_map events_of_act p.acts) mid.instance (flat_map events_of_act q.acts) new.instance p.did q.did);
             of_clients = subst (λ (v : List InstanceEvent). All (IsOfClient callers) v) events
                 (All-append (IsOfClient callers) (flat_map events_of_act p.acts) (flat_map events_of_act q.acts) p.of_clients q.of_clients);
-            times = subst (λ (v : List InstanceEvent). All (IsAt moment) v) events
-                (All-append (IsAt moment) (flat_map events_of_act p.acts) (flat_map events_of_act q.acts) p.times q.times);
+            times = subst (λ (v : List InstanceEvent). All (IsAt (retention_in old.instance) moment) v) events
+                (All-append (IsAt (retention_in old.instance) moment) (flat_map events_of_act p.acts) (flat_map events_of_act q.acts) p.times
+                (subst (λ (v : Option ℕ). All (IsAt v moment) (flat_map events_of_act q.acts)) p.did.retention q.times));
             due = λ before. λ h. due_then p.acts q.acts before (p.due before h) (q.due (before ++ flat_map events_of_act p.acts) (known before h));
             ended = All-append (EndedIfRejects (is_ended new.instance)) p.acts q.acts
                 (later_acts (is_ended mid.instance) (is_ended new.instance) q.did.stays_ended p.acts p.ended) q.ended;
@@ -275,7 +276,7 @@ module _ (callers : Callers) where
             history = subst (λ (v : List HistoryEvent). Extends past now v) (sym (changed_history p.changes)) p.history;
             did = subst (λ (v : List InstanceEvent). Did gl gs i v i) none (did_none gl gs i);
             of_clients = subst (λ (v : List InstanceEvent). All (IsOfClient callers) v) none (All-nil (IsOfClient callers));
-            times = subst (λ (v : List InstanceEvent). All (IsAt moment) v) none (All-nil (IsAt moment));
+            times = subst (λ (v : List InstanceEvent). All (IsAt (retention_in i) moment) v) none (All-nil (IsAt (retention_in i) moment));
             due = λ before. λ h. changed_due p.changes before;
             ended = changed_ended (is_ended i) p.changes;
           }
@@ -286,7 +287,7 @@ module _ (callers : Callers) where
       serves_none i old new past now same is = serves_changes i old new past now (changes_none old new past now same is)
 
       -- The instance alone did something.
-      serves_events : (i i' : Instance L S) (events : List InstanceEvent) (old new : Clients) (past now : Option (List HistoryEvent)) → Did gl gs i events i' → AreOwn events → All (IsAt moment) events
+      serves_events : (i i' : Instance L S) (events : List InstanceEvent) (old new : Clients) (past now : Option (List HistoryEvent)) → Did gl gs i events i' → AreOwn events → All (IsAt (retention_in i) moment) events
           → new ≡ old → now ≡ past → Serves gl gs callers explaining moment [] (pool_state i old past) (pool_state i' new now)
       serves_events i i' events old new past now did own times same is =
           let are = sym (worked_events events) in
@@ -296,7 +297,7 @@ module _ (callers : Callers) where
             history = subst (λ (v : List HistoryEvent). Extends past now v) (sym (worked_history events)) (extends_same past now is);
             did = subst (λ (v : List InstanceEvent). Did gl gs i v i') are did;
             of_clients = subst (λ (v : List InstanceEvent). All (IsOfClient callers) v) are (own_all events own);
-            times = subst (λ (v : List InstanceEvent). All (IsAt moment) v) are times;
+            times = subst (λ (v : List InstanceEvent). All (IsAt (retention_in i) moment) v) are times;
             due = λ before. λ h. worked_due events before;
             ended = worked_ended (is_ended i') events;
           }
@@ -306,7 +307,7 @@ module _ (callers : Callers) where
       serves_own i i' old new past now p same is = serves_events i i' p.events old new past now p.did p.own p.times same is
 
       -- The instance alone did something, and events that it did may be used then.
-      pub serves_own_then : (i i' i'' : Instance L S) (old new : Clients) (past now : Option (List HistoryEvent)) (given events : List InstanceEvent) → Did gl gs i events i' → AreOwn events → All (IsAt moment) events
+      pub serves_own_then : (i i' i'' : Instance L S) (old new : Clients) (past now : Option (List HistoryEvent)) (given events : List InstanceEvent) → Did gl gs i events i' → AreOwn events → All (IsAt (retention_in i) moment) events
           → ((before : List InstanceEvent) → AllIn given (before ++ events)) → Serves gl gs callers explaining moment given (pool_state i' old past) (pool_state i'' new now)
           → Serves gl gs callers explaining moment [] (pool_state i old past) (pool_state i'' new now)
       unfolding serves_events
@@ -335,7 +336,7 @@ module _ (callers : Callers) where
           serves_own i i' clients (set_at clients key (Some l')) past past p (ap (λ v. set_at clients key (Some v)) same ∙ set_same clients key (Some l) there) refl
 
       pub client_request : (i i' : Instance L S) (act : RequestAct) (l l' : ClientState) (given : List InstanceEvent) → RequestsTo callers explaining act l l' → Did gl gs i (events_of_request act) i'
-          → All (IsOfClient callers) (events_of_request act) → All (IsAt moment) (events_of_request act) → ((before : List InstanceEvent) → AllIn given before → IsDueRequest before act)
+          → All (IsOfClient callers) (events_of_request act) → All (IsAt (retention_in i) moment) (events_of_request act) → ((before : List InstanceEvent) → AllIn given before → IsDueRequest before act)
           → EndedIfRejectsRequest (is_ended i') act → (past : Option (List HistoryEvent)) (key : ℕ) (clients : Clients) → clients key ≡ Some l
           → Serves gl gs callers explaining moment given (pool_state i clients past) (pool_state i' (set_at clients key (Some l')) past)
       client_request i i' act l l' given h did all times due ended past key clients there =
@@ -346,7 +347,7 @@ module _ (callers : Callers) where
             history = extends_none past;
             did = subst (λ (v : List InstanceEvent). Did gl gs i v i') are did;
             of_clients = subst (λ (v : List InstanceEvent). All (IsOfClient callers) v) are all;
-            times = subst (λ (v : List InstanceEvent). All (IsAt moment) v) are times;
+            times = subst (λ (v : List InstanceEvent). All (IsAt (retention_in i) moment) v) are times;
             due = λ before. λ k. (due before k, tt);
             ended = All-cons (EndedIfRejects (is_ended i')) (Requested key act) [] ended (All-nil (EndedIfRejects (is_ended i')));
           }

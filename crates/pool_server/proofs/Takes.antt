@@ -1,12 +1,12 @@
 -- Lemmas: what became of the next request of a client.
 use Rattle.std.proofs.Common.{◌≡◌, ◌<◌, ◌+◌, ◌⊎◌, ℕ, true, List, length, Result, Ok, Err, sym, subst, inr}
-use Rattle.std.specs.Prelude.{IfErr, IfOk, option_copied}
+use Rattle.std.specs.Prelude.{IfErr, IfOk, None, option_copied}
 use Rattle.policy_core.specs.declared.call.Call.{Call}
 use Rattle.space_core.specs.declared.space.Space as spaces
 use Rattle.token_conf.specs.TokenFile.{Callers}
 use Rattle.wire_head.specs.Target.{path_of}
 use Rattle.wire_operation.specs.Operation.{GivesOperation}
-use Rattle.wire_http.specs.Connection.{buffered_of}
+use Rattle.wire_http.specs.Connection.{buffered_of, left_of}
 use Rattle.wire_http.specs.Later.{HasParts}
 use Rattle.wire_http.specs.declared.explaining.Explaining.{Explaining}
 use Rattle.wire_http.specs.declared.fault.StreamFault.{StreamFault}
@@ -18,7 +18,9 @@ use Rattle.pool_entry.proofs.Entries.{gives_its_operation_lem}
 use Rattle.pool_instance.specs.Parts.{is_ended}
 use Rattle.pool_instance.specs.Request.{call_from}
 use Rattle.pool_instance.specs.declared.instance.Instance.{Instance}
+use Rattle.pool_server.specs.ClientState.{ClientState, IsRunning}
 use Rattle.pool_server.specs.PoolClient.{IsTooLong, MayFail, Refuses, TookRequest, connection_of}
+use Rattle.pool_server.specs.ServesClients.{HasNext}
 use Rattle.pool_server.specs.Serving.{MakesCall, Works}
 use Rattle.pool_server.specs.declared.pool_client.PoolClient.{PoolClient}
 use Rattle.pool_server.specs.declared.pool_client.Taken.{Taken}
@@ -62,3 +64,7 @@ long_request callers bytes parts h long = record {
       (subst (λ v. (8192 < length parts.method.now + length v) ⊎ (1048576 < length h.body)) h.parts_are.path_is
       (subst (λ v. (8192 < length parts.method.now + length parts.path.now) ⊎ (1048576 < length v)) h.parts_are.body_is long));
 }
+
+-- A client whose next request has these parts has a next request.
+pub has_next : (callers : Callers) (l : ClientState) (parts : RequestParts) → IsRunning l → l.waits ≡ None → (0 < left_of l.connection) × HasParts callers (buffered_of l.connection) parts → HasNext l
+has_next callers l parts running none (some, has) = record { running = running; none_waits = none; some = some; head = has.head; body = has.body; request = has.request }

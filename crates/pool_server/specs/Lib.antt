@@ -1,4 +1,5 @@
 pub mod ClientState
+pub mod HeldRequests
 pub mod PoolClient
 pub mod ServesClients
 pub mod ServesEachClient

@@ -1,6 +1,7 @@
 -- What the server of an instance does for its clients, from the sockets to the instance and back.
-use Rattle.std.specs.Prelude.{◌≡◌, ◌⊎◌, ℕ, Bool, true, List, [], ◌∷◌, ◌++◌, All, Contains, Option, Some, None, option_map}
+use Rattle.std.specs.Prelude.{◌≡◌, ◌<◌, ◌⊎◌, ℕ, Bool, true, false, List, [], ◌∷◌, ◌++◌, All, Contains, Option, Some, None, option_map}
 use Rattle.std.specs.List.{flat_map}
+use Rattle.httparse.specs.Grammar.{RequestHead}
 use Rattle.policy_core.specs.declared.call.Call.{Call}
 use Rattle.service_calls.specs.Run.{TimedCall}
 use Rattle.service_step.specs.declared.reply.Reply.{Reply}
@@ -8,17 +9,18 @@ use Rattle.service_step.specs.declared.reply.Reply.TheVariants as replies
 use Rattle.slab.specs.Slab.{Slab, get}
 use Rattle.space_core.specs.declared.space.Space as spaces
 use Rattle.token_conf.specs.TokenFile.{Callers}
-use Rattle.wire_http.specs.Connection.{buffered_of}
+use Rattle.wire_http.specs.Connection.{buffered_of, left_of}
 use Rattle.wire_http.specs.Turns.{set_at}
+use Rattle.wire_http.specs.Wire.{IsRequest}
 use Rattle.wire_http.specs.declared.connection.Connection.{Connection}
 use Rattle.wire_http.specs.declared.explaining.Explaining.{Explaining}
 use Rattle.wire_http.specs.declared.unavailable.Unavailable.{Unavailable}
-use Rattle.wire_http.specs.declared.unavailable.Unavailable.TheVariants.{Unknown, Unreachable}
+use Rattle.wire_http.specs.declared.unavailable.Unavailable.TheVariants.{Unassigned, Unknown, Unreachable}
 use Rattle.server_base.specs.History.{Accepted, Extends, HistoryEvent}
 use Rattle.pool_core.specs.Events.{AfterFirst, Answers, AsksForEnd, AtOnce, Fails, Gets, InPlace, InstanceEvent, LearnsEnd, Offers, Receives}
 use Rattle.pool_core.specs.declared.log.Log as logs
 use Rattle.pool_instance.specs.Does.{Did}
-use Rattle.pool_instance.specs.Parts.{is_ended}
+use Rattle.pool_instance.specs.Parts.{is_ended, retention_in}
 use Rattle.pool_instance.specs.declared.instance.Instance.{Instance}
 use Rattle.pool_instance.specs.declared.outcome.Outcome.{Outcome}
 use Rattle.pool_instance.specs.declared.outcome.Outcome.TheVariants.{Failed, Replied}
@@ -147,6 +149,7 @@ abbrev pub IsDueRequest : List InstanceEvent → RequestAct → Type 0
 IsDueRequest before (Delivers id reply) =
     (event : InstanceEvent) × GivesReply id reply event × Contains before event
 IsDueRequest before (GivesUp id Unreachable) = Contains before (Fails id)
+IsDueRequest before (GivesUp id Unassigned) = Contains before (Fails id)
 IsDueRequest before (GivesUp id Unknown) = Unit {0}
 IsDueRequest before (Waits id call) = Unit {0}
 IsDueRequest before (Denies id timed reply) = Unit {0}
@@ -166,10 +169,20 @@ EndedIfRejectsRequest ended (Delivers id reply) = Unit {0}
 EndedIfRejectsRequest ended (GivesUp id unavailable) = Unit {0}
 EndedIfRejectsRequest ended (Loses id) = Unit {0}
 
+-- Holds if the client has a complete request that may be answered, and none that waits.
+pub record HasNext (l : ClientState) : Type 0 where
+  pub running : IsRunning l
+  pub none_waits : l.waits ≡ None
+  pub some : 0 < left_of l.connection
+  pub head : RequestHead
+  pub body : List ℕ
+  pub request : IsRequest (buffered_of l.connection) head body
+
 -- Holds if the next request of the client may be answered, and makes this call.
 pub record IsNext (callers : Callers) (call : Call) (l : ClientState) : Type 0 where
   pub running : IsRunning l
   pub none_waits : l.waits ≡ None
+  pub some : 0 < left_of l.connection
   pub makes : MakesCall callers (buffered_of l.connection) call
 
 -- The state after the request that waits got its response.
@@ -213,10 +226,9 @@ module _ (callers : Callers) (explaining : Explaining) where
   RequestsTo (Denies id timed reply) l l' = IsNext callers timed.1 l
       × Changes (λ c c'. Replies explaining reply c c') l l'
   RequestsTo (LosesDenial id timed reply) l l' = IsNext callers timed.1 l × Silences l l'
-  RequestsTo RejectsLong l l' = IsRunning l × (l.waits ≡ None)
-      × IsTooLong (buffered_of l.connection) × Changes (λ c c'. Refuses Unreachable c c') l l'
-  RequestsTo RejectsAtEnd l l' = IsRunning l × (l.waits ≡ None)
+  RequestsTo RejectsLong l l' = HasNext l × IsTooLong (buffered_of l.connection)
       × Changes (λ c c'. Refuses Unreachable c c') l l'
+  RequestsTo RejectsAtEnd l l' = HasNext l × Changes (λ c c'. Refuses Unreachable c c') l l'
   RequestsTo (Delivers id reply) l l' = DeliversTo explaining id reply l l'
   RequestsTo (GivesUp id unavailable) l l' = GivesUpTo id unavailable l l'
   RequestsTo (Loses id) l l' = LosesTo id l l'
@@ -245,7 +257,7 @@ pub record WorksOwn {L S : Type 0} (gl : logs.Ghosts L) (gs : spaces.Ghosts S) (
   pub events : List InstanceEvent
   pub did : Did gl gs old events new
   pub own : AreOwn events
-  pub times : All (IsAt moment) events
+  pub times : All (IsAt (retention_in old) moment) events
 
 -- An act of the server: a change of the clients, an act for the request of a client, or an event of
 -- the instance alone.
@@ -329,7 +341,7 @@ pub record Serves {L S : Type 0} (gl : logs.Ghosts L) (gs : spaces.Ghosts S) (ca
   pub history : Extends old.history new.history (flat_map history_of_act acts)
   pub did : Did gl gs old.instance (flat_map events_of_act acts) new.instance
   pub of_clients : All (IsOfClient callers) (flat_map events_of_act acts)
-  pub times : All (IsAt moment) (flat_map events_of_act acts)
+  pub times : All (IsAt (retention_in old.instance) moment) (flat_map events_of_act acts)
   pub due : (before : List InstanceEvent) → AllIn given before → AreDue before acts
   pub ended : All (EndedIfRejects (is_ended new.instance)) acts
 
@@ -351,13 +363,16 @@ ServesClient gl gs callers explaining moment old new l l' past now =
 -- The event after which a request is answered with status 503, if there has to be one.
 abbrev pub given_for : (id : ℕ) → Unavailable → List InstanceEvent
 given_for id Unreachable = Fails id ∷ []
+given_for id Unassigned = Fails id ∷ []
 given_for id Unknown = []
 
--- The reason for status 503, after the instance failed a request.
-abbrev pub unavailable_for : Option Unanswered → Unavailable
-unavailable_for None = Unknown
-unavailable_for (Some Unsent) = Unreachable
-unavailable_for (Some unanswered.Unknown) = Unknown
+-- The reason for status 503, after the instance failed a request. The instance may act for the USS of
+-- the request, or not.
+abbrev pub unavailable_for : (assigned : Bool) → Option Unanswered → Unavailable
+unavailable_for assigned None = Unknown
+unavailable_for true (Some Unsent) = Unreachable
+unavailable_for false (Some Unsent) = Unassigned
+unavailable_for assigned (Some unanswered.Unknown) = Unknown
 
 -- Holds if the instance gave this outcome of a reading in that event.
 abbrev pub GivesOutcome : Outcome → InstanceEvent → Type 0

@@ -2,6 +2,7 @@
 #![tactic(auto)]
 
 mod context;
+pub mod laws;
 pub mod limits;
 mod operated;
 mod operators;

@@ -7,6 +7,7 @@ use crate::pool_server::PoolServer;
 use admin_http::build::BuildInfo;
 use admin_http::pool_metrics::PoolMetrics;
 use admin_http::tokens::TokenMetrics;
+use pool_instance::purge_totals::PurgeTotals;
 use server_base::limits::{MAX_CONNECTIONS, STOPPING};
 use server_base::server_log::ServerLog;
 use server_base::sockets::{ClientSocket, Sockets};
@@ -24,19 +25,29 @@ impl<T: ClientSocket> PoolServer<T> {
         self.metrics.tokens = tokens;
     }
 
-    /// Sets the metrics of the pool. The service is failing while its log does not answer.
-    pub(crate) fn show_pool(&mut self, pool: PoolMetrics)
+    /// Sets the metrics of the pool. Counts and logs what purges have removed since the last time;
+    /// these count as one purge.
+    pub(crate) fn show_pool<J: ServerLog>(
+        &mut self,
+        pool: PoolMetrics,
+        purges: PurgeTotals,
+        journal: &mut J,
+    )
         ensures { KeepsClients T.name self.old self.new }
     {
-        let is_silent = pool.silence > Duration::from_millis(SILENCE);
-        if is_silent && !self.is_silent {
-            self.metrics.fail_store();
-        }
-        if self.is_silent && !is_silent {
-            self.metrics.keep();
-        }
-        self.is_silent = is_silent;
+        self.metrics
+            .show_silence(pool.silence > Duration::from_millis(SILENCE));
         self.metrics.pool = Some(pool);
+        if purges == self.purges {
+            return;
+        }
+        let removed = purges.removed.saturating_sub(self.purges.removed) as usize;
+        self.purges = purges;
+        if removed > 0 {
+            self.metrics.purged.note_purge();
+            self.metrics.purged.note_purged(removed);
+            journal.purged(removed);
+        }
     }
 
     /// Flushes the log lines of the iteration.

@@ -25,7 +25,7 @@ use server_base::phase::Phase;
 use server_base::server_log::AbortedConnection;
 use server_base::sockets::{ClientSocket, SocketEvent, Sockets};
 use service_step::reply::Reply;
-use space_core::space::Space;
+use space_core::purge_ended::PurgeEnded;
 use std::alloc::{AllocError, Global};
 use std::time::Duration;
 use wire_http::{Connection, RequestInfo, RequestParts, Step, StreamFault, Unavailable};
@@ -242,16 +242,19 @@ impl<T: ClientSocket> PoolClient<T> {
         !is_kept && self.waiting.is_none() && self.until < now
     }
 
+    /// Returns the USS whose request waits, if there is one.
+    pub(crate) fn waiting_supplier(&self) -> Option<&UssId> {
+        match &self.waiting {
+            Some(pending) => pending.supplier.as_ref(),
+            None => None,
+        }
+    }
+
     /// Returns a copy of the USS whose request waits, if there is one.
     pub(crate) fn supplier(&self) -> Result<Option<UssId>, AllocError> {
-        match &self.waiting {
-            Some(
-                Pending {
-                    supplier: Some(supplier),
-                    ..
-                },
-            ) => Ok(Some(supplier.clone()?)),
-            _ => Ok(None),
+        match self.waiting_supplier() {
+            Some(supplier) => Ok(Some(supplier.clone()?)),
+            None => Ok(None),
         }
     }
 
@@ -291,7 +294,7 @@ impl<T: ClientSocket> PoolClient<T> {
     /// denied at once has its response. Takes none of a USS of which too many wait.
     ///
     /// Returns a fault if memory runs out. No more requests are answered then.
-    pub(crate) fn take_request<L: Log + Drop, S: Space + Drop>(
+    pub(crate) fn take_request<L: Log + Drop, S: PurgeEnded + Drop>(
         &mut self,
         context: PoolContext<'_>,
         others: &WaitingList,
@@ -598,7 +601,7 @@ impl<T: ClientSocket> PoolClient<T> {
     }
 
     // Sends, reads, and takes the next request. Returns the outcome of the turn.
-    fn serve<L: Log + Drop, S: Space + Drop, N: Sockets<Client = T>>(
+    fn serve<L: Log + Drop, S: PurgeEnded + Drop, N: Sockets<Client = T>>(
         &mut self,
         context: PoolContext<'_>,
         others: &WaitingList,
@@ -622,7 +625,7 @@ impl<T: ClientSocket> PoolClient<T> {
     /// Runs one turn: sends, reads at most one chunk, and takes at most one request, which is
     /// received at this time (Unix seconds), beside the requests that wait. Takes no request of a
     /// client that is known to be gone.
-    pub(crate) fn turn<L: Log + Drop, S: Space + Drop, N: Sockets<Client = T>>(
+    pub(crate) fn turn<L: Log + Drop, S: PurgeEnded + Drop, N: Sockets<Client = T>>(
         &mut self,
         context: PoolContext<'_>,
         others: &WaitingList,

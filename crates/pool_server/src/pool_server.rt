@@ -18,13 +18,14 @@ use crate::waiting_list::WaitingList;
 use admin_http::service_metrics::ServiceMetrics;
 use pool_core::log::Log;
 use pool_instance::instance::Instance;
+use pool_instance::purge_totals::PurgeTotals;
 use server_base::limits::{ACCEPT_SILENCE, FULL, LOOKS, LOOKS_SOON, MAX_CONNECTIONS};
 use server_base::response_info::ResponseInfo;
 use server_base::server_log::ServerLog;
 use server_base::service_record::{failure_of, record_answer};
 use server_base::sockets::{AcceptFault, ClientSocket, EventSource, SocketEvent, Sockets};
 use slab::Slab;
-use space_core::space::Space;
+use space_core::purge_ended::PurgeEnded;
 use std::alloc::{AllocError, Global};
 use std::collections::VecDeque;
 use std::time::Duration;
@@ -56,11 +57,15 @@ pub(crate) struct PoolServer<T> {
     may_come: bool,
     full_until: Duration,
     silent_until: Duration,
+    // Until when requests of USSs for which the instance may not act are not logged, and whether one
+    // may be among those that wait.
+    unassigned_until: Duration,
+    unchecked: bool,
     // When late clients were last looked for, and whether one had its last response then.
     looked: Duration,
     ending: bool,
-    // Whether the log does not answer, and the deadline of a requested stop.
-    pub(crate) is_silent: bool,
+    // The purges that were logged, and the deadline of a requested stop.
+    pub(crate) purges: PurgeTotals,
     pub(crate) stopping: Option<Duration>,
 }
 
@@ -87,9 +92,11 @@ impl<T: ClientSocket> PoolServer<T> {
             may_come: true,
             full_until: Duration::ZERO,
             silent_until: Duration::ZERO,
+            unassigned_until: Duration::ZERO,
+            unchecked: false,
             looked: Duration::ZERO,
             ending: false,
-            is_silent: false,
+            purges: PurgeTotals::none(),
             stopping: None,
         })
     }
@@ -246,7 +253,7 @@ impl<T: ClientSocket> PoolServer<T> {
     }
 
     // Fails a request that waits, if there is one.
-    fn fail_waiting<L: Log + Drop, S: Space + Drop>(
+    fn fail_waiting<L: Log + Drop, S: PurgeEnded + Drop>(
         &mut self,
         waits: Option<u64>,
         instance: &mut Instance<L, S>,
@@ -261,7 +268,11 @@ impl<T: ClientSocket> PoolServer<T> {
     }
 
     // Removes a client, and fails its request that waits.
-    fn close<L: Log + Drop, S: Space + Drop>(&mut self, key: usize, instance: &mut Instance<L, S>)
+    fn close<L: Log + Drop, S: PurgeEnded + Drop>(
+        &mut self,
+        key: usize,
+        instance: &mut Instance<L, S>,
+    )
         ensures { (explaining : Explaining) (past : Option (List HistoryEvent))
             → ServesAlone L.Log S.Space explaining []
             (server_state T.name instance.old self.old past)
@@ -372,27 +383,35 @@ impl<T: ClientSocket> PoolServer<T> {
         self.end_served(sockets, key, turn, now)
     }
 
-    // Makes a client wait whose next request waits for the log.
-    fn follow<L: Log + Drop, S: Space + Drop>(
+    // Makes a client wait whose next request waits for the log, unless the instance may not act for
+    // its USS. That is not known before the log was read.
+    fn follow<L: Log + Drop, S: PurgeEnded + Drop, N: Sockets<Client = T>, J: ServerLog>(
         &mut self,
+        context: PoolContext<'_>,
         instance: &mut Instance<L, S>,
+        sockets: &mut N,
         key: usize,
         id: u64,
         now: Duration,
+        journal: &mut J,
     )
-        ensures { (explaining : Explaining) (past : Option (List HistoryEvent))
-            → ServesAlone L.Log S.Space explaining []
-            (server_state T.name instance.old self.old past)
-            (server_state T.name instance.new self.new past) }
+        ensures { ServesAlone L.Log S.Space context.entry.explaining []
+            (server_state T.name instance.old self.old (N.history sockets.old))
+            (server_state T.name instance.new self.new (N.history sockets.new)) }
     {
         if !self.add_waiting(id, key, now) {
             self.close(key, instance);
+        } else if instance.log().is_read() {
+            self.refuse_unassigned(context, instance, sockets, key, id, now, journal);
+        } else {
+            self.unchecked = true;
         }
     }
 
     // Acts on the outcome of a client's turn.
-    fn act_on<L: Log + Drop, S: Space + Drop, N: Sockets<Client = T>, J: ServerLog>(
+    fn act_on<L: Log + Drop, S: PurgeEnded + Drop, N: Sockets<Client = T>, J: ServerLog>(
         &mut self,
+        context: PoolContext<'_>,
         instance: &mut Instance<L, S>,
         sockets: &mut N,
         key: usize,
@@ -400,14 +419,14 @@ impl<T: ClientSocket> PoolServer<T> {
         now: Duration,
         journal: &mut J,
     )
-        ensures { (explaining : Explaining) → ServesAlone L.Log S.Space explaining []
+        ensures { ServesAlone L.Log S.Space context.entry.explaining []
             (server_state T.name instance.old self.old (N.history sockets.old))
             (server_state T.name instance.new self.new (N.history sockets.new)) }
     {
         match self.settle(sockets, key, turn, now, journal) {
             Turn::Again => self.queue(key),
             Turn::Rests => {}
-            Turn::Waits(id) => self.follow(instance, key, id, now),
+            Turn::Waits(id) => self.follow(context, instance, sockets, key, id, now, journal),
             Turn::Held => self.hold(key),
             Turn::WantsLargeBuffer => self.await_large_buffer(key),
             Turn::Gone => self.close(key, instance),
@@ -432,7 +451,7 @@ impl<T: ClientSocket> PoolServer<T> {
     }
 
     // Logs the fault of a client, and ends its connection.
-    fn fail<L: Log + Drop, S: Space + Drop, N: Sockets<Client = T>, J: ServerLog>(
+    fn fail<L: Log + Drop, S: PurgeEnded + Drop, N: Sockets<Client = T>, J: ServerLog>(
         &mut self,
         instance: &mut Instance<L, S>,
         sockets: &mut N,
@@ -467,7 +486,7 @@ impl<T: ClientSocket> PoolServer<T> {
     }
 
     // Runs the turn of a client.
-    fn turn<L: Log + Drop, S: Space + Drop, N: Sockets<Client = T>, J: ServerLog>(
+    fn turn<L: Log + Drop, S: PurgeEnded + Drop, N: Sockets<Client = T>, J: ServerLog>(
         &mut self,
         context: PoolContext<'_>,
         instance: &mut Instance<L, S>,
@@ -489,11 +508,16 @@ impl<T: ClientSocket> PoolServer<T> {
         let turn = client.turn(context, &self.waiting, instance, sockets, moment, now);
         let is_ending = client.is_ending();
         self.note_ending(is_ending);
-        self.act_on(instance, sockets, key, turn, now, journal);
+        self.act_on(context, instance, sockets, key, turn, now, journal);
     }
 
     /// Runs the turns of the queued clients, each one turn.
-    pub(crate) fn turn_all<L: Log + Drop, S: Space + Drop, N: Sockets<Client = T>, J: ServerLog>(
+    pub(crate) fn turn_all<
+        L: Log + Drop,
+        S: PurgeEnded + Drop,
+        N: Sockets<Client = T>,
+        J: ServerLog,
+    >(
         &mut self,
         context: PoolContext<'_>,
         instance: &mut Instance<L, S>,
@@ -519,7 +543,7 @@ impl<T: ClientSocket> PoolServer<T> {
     }
 
     // Ends a client whose timeout has passed.
-    fn end_late<L: Log + Drop, S: Space + Drop, N: Sockets<Client = T>, J: ServerLog>(
+    fn end_late<L: Log + Drop, S: PurgeEnded + Drop, N: Sockets<Client = T>, J: ServerLog>(
         &mut self,
         instance: &mut Instance<L, S>,
         sockets: &mut N,
@@ -549,7 +573,7 @@ impl<T: ClientSocket> PoolServer<T> {
     /// while some have their last response.
     pub(crate) fn end_all_late<
         L: Log + Drop,
-        S: Space + Drop,
+        S: PurgeEnded + Drop,
         N: Sockets<Client = T>,
         J: ServerLog,
     >(&mut self, instance: &mut Instance<L, S>, sockets: &mut N, now: Duration, journal: &mut J)

@@ -14,12 +14,12 @@ use crate::pool_server::PoolServer;
 use admin_http::build::BuildInfo;
 use admin_http::pool_metrics::PoolMetrics;
 use pool_core::log::Log;
+use pool_core::log_io::{LogIo, LogStatus};
 use pool_instance::instance::Instance;
-use pool_instance::log_io::{LogIo, LogStatus};
 use server_base::server_log::ServerLog;
 use server_base::sockets::Sockets;
 use server_watch::token_watch::{TokenSource, TokenWatch, in_force};
-use space_core::space::Space;
+use space_core::purge_ended::PurgeEnded;
 use space_snapshot::snapshot::SnapshotSource;
 use std::alloc::Global;
 use std::io;
@@ -29,8 +29,9 @@ use token_conf::token_table::TokenTable;
 use wire_http::{Explaining, Moments};
 use wire_route::routes::Routes;
 
-// Asks the log for its end, and offers the changes that wait.
-fn ask_and_offer<L: Log + Drop, S: Space + Drop>(
+// Asks the log for its end. Once the log was read, offers a purge that is due, or else the changes
+// that wait.
+fn ask_and_offer<L: Log + Drop, S: PurgeEnded + Drop>(
     alloc: Global,
     instance: &mut Instance<L, S>,
     moment: u64,
@@ -38,11 +39,15 @@ fn ask_and_offer<L: Log + Drop, S: Space + Drop>(
     ensures { WorksOwn L.Log S.Space moment instance.old instance.new }
 {
     let _ = instance.ask();
+    if !instance.log().is_read() {
+        return;
+    }
+    let _ = instance.offer_purge(alloc, moment);
     let _ = instance.offer(alloc, moment);
 }
 
 // Learns the ends of the log that it has told. Returns true if there was any.
-fn learn_ends<L: Log + Drop, S: Space + Drop>(instance: &mut Instance<L, S>) -> bool
+fn learn_ends<L: Log + Drop, S: PurgeEnded + Drop>(instance: &mut Instance<L, S>) -> bool
     ensures { (moment : ℕ) → WorksOwn L.Log S.Space moment instance.old instance.new }
 {
     for count in 0..usize::MAX {
@@ -60,7 +65,7 @@ fn patience_after(did: bool, patience: Duration) -> Duration {
 
 // Runs the turns of the clients, moves the bytes of the log, and answers what can be answered.
 // Returns the time until the next iteration.
-fn run_once<L: Log + Drop, S: Space + Drop, N: Sockets + Drop, I: LogIo<L>, J: ServerLog>(
+fn run_once<L: Log + Drop, S: PurgeEnded + Drop, N: Sockets + Drop, I: LogIo<L>, J: ServerLog>(
     server: &mut PoolServer<N::Client>,
     context: PoolContext<'_>,
     instance: &mut Instance<L, S>,
@@ -76,6 +81,7 @@ fn run_once<L: Log + Drop, S: Space + Drop, N: Sockets + Drop, I: LogIo<L>, J: S
         (server_state N.Client.name instance.new server.new (N.history sockets.new)) }
 {
     server.turn_all(context, instance, sockets, moment, now, journal);
+    server.check_waiting(context, instance, sockets, now, journal);
     ask_and_offer(context.alloc, instance, moment);
     let log_patience = instance.advance_log(log_io, now);
     let learned = learn_ends(instance);
@@ -88,7 +94,7 @@ fn run_once<L: Log + Drop, S: Space + Drop, N: Sockets + Drop, I: LogIo<L>, J: S
 }
 
 // Returns the metrics of an instance and its log.
-fn pool_metrics<L: Log + Drop, S: Space + Drop, I: LogIo<L>>(
+fn pool_metrics<L: Log + Drop, S: PurgeEnded + Drop, I: LogIo<L>>(
     instance: &Instance<L, S>,
     log_io: &I,
     now: Duration,
@@ -104,6 +110,8 @@ fn pool_metrics<L: Log + Drop, S: Space + Drop, I: LogIo<L>>(
         open,
         revision,
         silence,
+        heard: instance.heard(),
+        purged_until: instance.purges().until,
     }
 }
 
@@ -114,7 +122,8 @@ fn pool_metrics<L: Log + Drop, S: Space + Drop, I: LogIo<L>>(
 /// Each client has at most one request that waits.
 ///
 /// The calls of a batch, of a reading and of a request that is denied at once have a time of the
-/// clock, which is read once in each iteration.
+/// clock, which is read once in each iteration. A purge that is offered keeps the retention of the
+/// instance by this time, and by a call of another instance.
 ///
 /// Each request is checked against one token table. The token file is checked each second. If it
 /// has changed and is valid, with the same salt, its table becomes active. Otherwise the reason is
@@ -127,7 +136,7 @@ fn pool_metrics<L: Log + Drop, S: Space + Drop, I: LogIo<L>>(
 /// system that ends the service.
 pub fn serve_pool<
     L: Log + Drop,
-    S: SnapshotSource + Drop,
+    S: SnapshotSource + PurgeEnded + Drop,
     M: Moments,
     N: Sockets + Drop,
     I: LogIo<L>,
@@ -183,7 +192,11 @@ pub fn serve_pool<
             now,
             journal,
         );
-        server.show_pool(pool_metrics(instance, log_io, now));
+        server.show_pool(
+            pool_metrics(instance, log_io, now),
+            instance.purges(),
+            journal,
+        );
         let shown = instance.space().snapshot();
         let is_stopped = server.serve_operators(&mut operators, operated, shown, sockets, now);
         if is_stopped || instance.is_ended() {

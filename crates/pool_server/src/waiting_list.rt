@@ -4,7 +4,7 @@ use entity_core::uss_id::UssId;
 use policy_core::scope::Caller;
 use pool_core::log::Log;
 use pool_instance::instance::Instance;
-use space_core::space::Space;
+use space_core::purge_ended::PurgeEnded;
 use std::alloc::{AllocError, Global};
 use std::time::Duration;
 
@@ -83,7 +83,7 @@ impl WaitingList {
 
     /// Returns the first request whose time is over. A request that was sent to the log has more
     /// time.
-    pub(crate) fn first_late<L: Log + Drop, S: Space + Drop>(
+    pub(crate) fn first_late<L: Log + Drop, S: PurgeEnded + Drop>(
         &self,
         instance: &Instance<L, S>,
         limits: PoolLimits,

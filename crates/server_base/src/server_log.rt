@@ -91,6 +91,9 @@ pub trait ServerLog {
     /// logs nothing.
     fn accept_failed(&mut self) {}
 
+    /// Logs a request of a USS for which the service may not act. The default logs nothing.
+    fn unassigned(&mut self, _uss: &str) {}
+
     /// Logs a change of the store's state. The default logs nothing.
     fn store_event(&mut self, _news: StoreEvent) {}
 

@@ -121,6 +121,7 @@ IsReplied explaining reply supplier c c' =
 abbrev pub outcome_without : Unavailable → Outcome
 outcome_without unavailable.Unreachable = outcomes.Stopped
 outcome_without unavailable.Unknown = outcomes.Fault
+outcome_without unavailable.Unassigned = outcomes.Stopped
 
 -- Holds if the connection answered its next request with status 503, or there is none.
 abbrev pub IsUnreplied : Unavailable → (supplier : Option (List ℕ)) → Connection → Connection → Step

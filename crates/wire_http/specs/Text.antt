@@ -15,7 +15,7 @@ use Rattle.wire_http.specs.declared.end.End.{End}
 use Rattle.wire_http.specs.declared.end.End.TheVariants as ends
 use Rattle.wire_head.specs.declared.rule.WireRule.{WireRule}
 use Rattle.wire_http.specs.declared.unavailable.Unavailable.{Unavailable}
-use Rattle.wire_http.specs.declared.unavailable.Unavailable.TheVariants.{Unreachable, Unknown}
+use Rattle.wire_http.specs.declared.unavailable.Unavailable.TheVariants.{Unreachable, Unknown, Unassigned}
 use Rattle.wire_head.specs.Rule as rule
 use Rattle.wire_head.specs.Lines.{length_line, line, status_line}
 
@@ -98,6 +98,7 @@ end_texts ends.Close = []
 abbrev pub unavailable_body : Unavailable → List ℕ
 unavailable_body Unreachable = codes "{\"message\":\"unreachable\"}"
 unavailable_body Unknown = codes "{\"message\":\"unknown\"}"
+unavailable_body Unassigned = codes "{\"message\":\"unassigned\"}"
 
 -- The text of the response to a request to which no reply is known.
 abbrev pub unavailable_text : Bool → Unavailable → List ℕ

@@ -7,6 +7,8 @@ pub enum Unavailable {
     Unreachable,
     /// The call may have been made.
     Unknown,
+    /// The call was not made, since the service may not act for the USS.
+    Unassigned,
 }
 
 impl Unavailable {
@@ -20,6 +22,7 @@ impl Unavailable {
         match self {
             Unavailable::Unreachable => "{\"message\":\"unreachable\"}",
             Unavailable::Unknown => "{\"message\":\"unknown\"}",
+            Unavailable::Unassigned => "{\"message\":\"unassigned\"}",
         }
     }
 }

@@ -49,6 +49,7 @@ fn outcome_in(response: Response<'_>) -> Outcome
         Response::Replied(_, _, reply) => outcome_of(reply),
         Response::Unreplied(Unavailable::Unreachable) => Outcome::Stopped,
         Response::Unreplied(Unavailable::Unknown) => Outcome::Fault,
+        Response::Unreplied(Unavailable::Unassigned) => Outcome::Stopped,
     }
 }
 
@@ -319,8 +320,8 @@ impl Connection {
     }
 
     /// Answers the next request with status 503, since no reply to it is known. The response is not
-    /// deferred. The recorded supplier is `supplier`. The recorded outcome is `Outcome::Stopped` for
-    /// `Unavailable::Unreachable`, and `Outcome::Fault` for `Unavailable::Unknown`.
+    /// deferred. The recorded supplier is `supplier`. The recorded outcome is `Outcome::Fault` for
+    /// `Unavailable::Unknown`, and `Outcome::Stopped` otherwise.
     ///
     /// Returns `NeedsInput` and does nothing if none may come or none is complete.
     ///

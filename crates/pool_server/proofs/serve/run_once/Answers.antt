@@ -12,12 +12,13 @@ returns g c =
     let e = c.args.context.explaining in
     let m = c.args.moment in
     let name = g.N.Client.ClientSocket.name in
-    let h1 = g.N.Sockets.history c.turn_all.new.sockets in
-    let i1 = c.turn_all.new.instance in
+    let h1 = g.N.Sockets.history c.check_waiting.new.sockets in
+    let i1 = c.check_waiting.new.instance in
     let i4 = c.learn_ends-learned.new.instance in
     let s0 = server_state name c.args.instance.now c.args.server.now (g.N.Sockets.history c.args.sockets.now) in
-    let s1 = server_state name i1 c.turn_all.new.self h1 in
-    let s4 = server_state name i4 c.turn_all.new.self h1 in
+    let s1 = server_state name c.turn_all.new.instance c.turn_all.new.self (g.N.Sockets.history c.turn_all.new.sockets) in
+    let s2 = server_state name i1 c.check_waiting.new.self h1 in
+    let s4 = server_state name i4 c.check_waiting.new.self h1 in
     let s5 = server_state name c.take_entries-took.new.instance c.take_entries-took.new.self (g.N.Sockets.history c.take_entries-took.new.sockets) in
     let s6 = server_state name c.answer_readings-answered.new.instance c.answer_readings-answered.new.self (g.N.Sockets.history c.answer_readings-answered.new.sockets) in
     let s7 = server_state name c.fail_late.new.instance c.fail_late.new.self (g.N.Sockets.history c.fail_late.new.sockets) in
@@ -30,7 +31,7 @@ returns g c =
     (serves_then t e g.L.Log g.S.Space m [] s0 s6 s7
     (serves_then t e g.L.Log g.S.Space m [] s0 s5 s6
     (serves_then t e g.L.Log g.S.Space m [] s0 s4 s5
-    (serves_then t e g.L.Log g.S.Space m [] s0 s1 s4 c.turn_all.ensures (serves_own t e g.L.Log g.S.Space m i1 i4 (clients_of name c.turn_all.new.self.clients) (clients_of name c.turn_all.new.self.clients) h1 h1 own refl refl))
+    (serves_then t e g.L.Log g.S.Space m [] s0 s2 s4 (serves_then t e g.L.Log g.S.Space m [] s0 s1 s2 c.turn_all.ensures (c.check_waiting.ensures t m)) (serves_own t e g.L.Log g.S.Space m i1 i4 (clients_of name c.check_waiting.new.self.clients) (clients_of name c.check_waiting.new.self.clients) h1 h1 own refl refl))
     (c.take_entries-took.ensures t m))
     (c.answer_readings-answered.ensures t))
     (c.fail_late.ensures t m))

@@ -14,4 +14,4 @@ returns g c =
     (serves_found (callers_of c.args.context.tokens.now) c.args.context.explaining g.L.Log g.S.Space c.args.moment [] c.args.instance.now c.turn-turn.new.instance (clients_of g.T.ClientSocket.name c.args.self.now.clients) _ (clients_of g.T.ClientSocket.name c.note_ending.new.self.clients) (g.N.Sockets.history c.args.sockets.now) (g.N.Sockets.history c.turn-turn.new.sockets) (g.N.Sockets.history c.turn-turn.new.sockets)
     (serves_at (callers_of c.args.context.tokens.now) c.args.context.explaining g.L.Log g.S.Space c.args.moment g.T.ClientSocket.name c.args.instance.now c.turn-turn.new.instance c.args.self.now.clients c.args.key c.in-Some.client.now c.turn-turn.new.self (g.N.Sockets.history c.args.sockets.now) (g.N.Sockets.history c.turn-turn.new.sockets) c.in-Some.ensures.value c.turn-turn.ensures)
     c.note_ending.ensures refl)
-    (c.act_on.ensures c.args.context.explaining (callers_of c.args.context.tokens.now) c.args.moment)
+    (c.act_on.ensures (callers_of c.args.context.tokens.now) c.args.moment)
