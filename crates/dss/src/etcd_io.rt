@@ -1,8 +1,8 @@
 //! The connections to etcd.
 use mio::Registry;
+use pool_core::log_io::{LogIo, LogStatus};
 use pool_etcd::etcd_fault::{EndpointFault, EtcdFault};
 use pool_etcd::etcd_log::EtcdLog;
-use pool_instance::log_io::{LogIo, LogStatus};
 use std::time::Duration;
 
 // A fault of one kind at one address is printed once in this many seconds.

@@ -1,20 +1,18 @@
-//! The command `follow`: makes the calls of a pool's log over a copy of the newest file, which
+//! The command `follow`: does the acts of a pool's log over a copy of the newest file, which
 //! becomes the next file.
 use crate::cause::Cause;
 use crate::etcd_io::EtcdIo;
 use crate::etcd_waiting::EtcdWaiting;
-use crate::pool_files::{FileName, PoolFiles};
-use crate::pool_log::{LogArgs, new_poll, open_log, own_settings, with_loss};
+use crate::pool_files::{FileName, PoolFiles, beginning_of, print_name};
+use crate::pool_log::{LogArgs, new_poll, open_log, settings_of, with_loss};
 use crate::serving::served_tokens;
 use dss_args::follow_args::FollowArgs;
 use dss_command::fault::{Fault, io_fault};
-use dss_command::pool_fault::PoolFault;
 use dss_command::tokens::salt_of;
 use dss_database::pool_files::follow as follow_log;
 use entity_core::salt::Salt;
 use pool_etcd::etcd_log::EtcdLog;
 use sqlite::Start;
-use std::fs::File;
 use std::io;
 use std::io::Write;
 
@@ -22,18 +20,7 @@ use std::io::Write;
 // drop the fences of processes that found nothing to do.
 const IDLE_CHANGES: u64 = 1_000;
 
-// Locks the directory, and removes what a process left that was stopped. Returns the file that has
-// the lock, and the name of the newest file.
-fn take_folder(files: PoolFiles<'_>) -> io::Result<Option<(File, Option<FileName>)>> {
-    let Some(lock) = files.lock()? else {
-        return Ok(None);
-    };
-    files.clear()?;
-    let newest = files.newest()?;
-    Ok(Some((lock, newest)))
-}
-
-// Makes the calls of the log over the next database, and closes it. Returns the revision of the
+// Does the calls and purges of the log over the next database, and closes it. Returns the revision of the
 // last change, and the number of entries that came.
 fn make_calls<F: Start>(
     rt: &HostRuntime,
@@ -100,17 +87,6 @@ fn put_next(
     Ok(made)
 }
 
-// Prints the name of a file on a line.
-fn print_name<W: Write>(rt: &HostRuntime, name: FileName, output: &mut W) -> Result<(), Fault> {
-    let Ok(text) = name.text(rt.alloc()) else {
-        return Err(Fault::Memory);
-    };
-    match writeln!(output, "{text}") {
-        Ok(()) => Ok(()),
-        Err(_) => Err(Fault::Output),
-    }
-}
-
 /// Runs the command. After a fault, the files are those of before.
 pub(crate) fn follow<F: Start, W: Write, E: Write>(
     rt: &HostRuntime,
@@ -125,13 +101,10 @@ pub(crate) fn follow<F: Start, W: Write, E: Write>(
     }
     let (_, tokens) = served_tokens(rt, given.tokens, given.verbose, cause, error)?;
     let salt = salt_of(&tokens)?;
-    let settings = own_settings(rt, &tokens)?;
     let files = PoolFiles::new(rt, given.files);
-    let (lock, newest) = match take_folder(files) {
-        Ok(Some(taken)) => taken,
-        Ok(None) => return Err(Fault::Pool(PoolFault::FilesBusy)),
-        Err(error) => return Err(files.fault(&error, cause)),
-    };
+    let (lock, newest) = files.take(cause)?;
+    let beginning = beginning_of(newest);
+    let settings = settings_of(rt, &tokens, beginning)?;
     let log_args = LogArgs {
         endpoints: given.endpoints,
         name: given.name,
@@ -147,7 +120,12 @@ pub(crate) fn follow<F: Start, W: Write, E: Write>(
             return Err(fault);
         }
     };
-    let name = match put_next(files, newest, FileName { revision, settings }, count) {
+    let made = FileName {
+        revision,
+        settings,
+        beginning,
+    };
+    let name = match put_next(files, newest, made, count) {
         Ok(name) => name,
         Err(error) => return Err(files.fault(&error, cause)),
     };

@@ -54,8 +54,8 @@ fn read_files(rt: &HostRuntime, name: &str) -> Result<Files<Memory>, Fault>
     copied_files(rt.alloc(), &file, &log)
 }
 
-// Opens the database of that name from memory.
-fn check(rt: &HostRuntime, name: &str) -> Result<(), Fault> {
+/// Opens the database of that name from memory, without changing it.
+pub(crate) fn check(rt: &HostRuntime, name: &str) -> Result<(), Fault> {
     let files = read_files(rt, name)?;
     let _space = open_copy(rt.alloc(), files, seed(rt)?)?;
     Ok(())

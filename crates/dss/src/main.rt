@@ -3,6 +3,7 @@
 
 mod backup;
 mod backups;
+mod begin;
 mod cause;
 mod clock;
 mod connections;

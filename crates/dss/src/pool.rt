@@ -2,8 +2,8 @@
 use crate::cause::Cause;
 use crate::clock::SystemClock;
 use crate::etcd_io::EtcdIo;
-use crate::pool_files::{FileName, PoolFiles};
-use crate::pool_log::{LogArgs, new_poll, open_log, own_settings, with_loss};
+use crate::pool_files::{FileName, PoolFiles, beginning_of};
+use crate::pool_log::{LogArgs, new_poll, open_log, settings_of, with_loss};
 use crate::serving::{Ports, admin_listener, clients_of, explaining, log_of, served_tokens};
 use crate::tokens::TokenFile;
 use dss_args::pool_args::PoolArgs;
@@ -83,21 +83,22 @@ pub(crate) fn serve<F: Start, E: Write>(
         let _ = print_limits(given.max_connections, None, None, error);
     }
     let file = newest_file(rt, given.files, cause)?;
+    let newest = match file {
+        Some((_, name)) => Some(name),
+        None => None,
+    };
     let log_args = LogArgs {
         endpoints: given.endpoints,
         name: given.name,
         etcd_user: given.etcd_user,
-        file: match file {
-            Some((_, name)) => Some(name),
-            None => None,
-        },
-        agreed: own_settings(rt, &tokens)?,
+        file: newest,
+        agreed: settings_of(rt, &tokens, beginning_of(newest))?,
     };
     let log = open_log(rt, log_args, cause)?;
     let access_log = log_of(rt, given.access_log, cause)?;
     let (poll, registry) = new_poll(rt)?;
     let space = airspace_of(rt, file, start, cause)?;
-    let mut instance = new_instance(rt.alloc(), log, space, &tokens)?;
+    let mut instance = new_instance(rt.alloc(), log, space, &tokens, given.retention)?;
     let config = PoolConfig {
         tokens: &tokens,
         addresses: given.listen.as_slice(),

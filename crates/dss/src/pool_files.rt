@@ -1,13 +1,14 @@
-//! The directory of a pool's files. Each file is a database that has the calls of the log up to a
-//! revision of etcd. Its name has this revision and the number of the pool's settings, in 20 digits
-//! each. So a rename gives a database its place in the log.
+//! The directory of a pool's files. Each file is a database that has the calls and purges of the log
+//! up to a revision of etcd. Its name has this revision, the number of the pool's settings, and the number
+//! of the airspace at the beginning of the log, in 20 digits each. So a rename gives a database its
+//! place in the log.
 use crate::backup::copy_file;
 use crate::cause::Cause;
 use dss_command::fault::{Fault, io_fault};
 use dss_command::pool_fault::PoolFault;
 use std::alloc::{AllocError, Global};
 use std::fs::{File, OpenOptions, TryLockError};
-use std::io::ErrorKind;
+use std::io::{ErrorKind, Write};
 use std::{fs, io};
 
 // The name of the database that is not complete yet.
@@ -39,26 +40,59 @@ fn number_of(text: &str) -> Option<u64> {
 /// The name of a file.
 #[derive(Clone, Copy, Debug, PartialEq, Eq)]
 pub(crate) struct FileName {
-    /// The revision of the last change whose calls the file has.
+    /// The revision of the last change whose calls and purges the file has. It is 0 before the first
+    /// one.
     pub(crate) revision: u64,
     /// The number of the pool's settings.
     pub(crate) settings: u64,
+    /// The number of the airspace at the beginning of the log. That of the empty one is 0.
+    pub(crate) beginning: u64,
 }
 
 impl FileName {
     // Parses a name. Returns `None` if it is no name of a file of a pool.
     fn parse(text: &str) -> Option<FileName> {
-        let (revision, settings) = text.strip_suffix(".db")?.split_once('-')?;
+        let (revision, numbers) = text.strip_suffix(".db")?.split_once('-')?;
+        let (settings, beginning) = numbers.split_once('-')?;
         Some(FileName {
             revision: number_of(revision)?,
             settings: number_of(settings)?,
+            beginning: number_of(beginning)?,
         })
     }
 
     /// Returns the name as a text.
     pub(crate) fn text(self, alloc: Global) -> Result<String, AllocError> {
-        let FileName { revision, settings } = self;
-        format!(in alloc; "{revision:020}-{settings:020}.db")
+        let FileName {
+            revision,
+            settings,
+            beginning,
+        } = self;
+        format!(in alloc; "{revision:020}-{settings:020}-{beginning:020}.db")
+    }
+}
+
+/// Returns the number of the airspace at the beginning of the log, which the newest file tells.
+/// Without a file, it is that of the empty airspace.
+pub(crate) fn beginning_of(newest: Option<FileName>) -> u64 {
+    match newest {
+        Some(name) => name.beginning,
+        None => 0,
+    }
+}
+
+/// Prints the name of a file on a line.
+pub(crate) fn print_name<W: Write>(
+    rt: &HostRuntime,
+    name: FileName,
+    output: &mut W,
+) -> Result<(), Fault> {
+    let Ok(text) = name.text(rt.alloc()) else {
+        return Err(Fault::Memory);
+    };
+    match writeln!(output, "{text}") {
+        Ok(()) => Ok(()),
+        Err(_) => Err(Fault::Output),
     }
 }
 
@@ -132,9 +166,9 @@ impl<'a> PoolFiles<'a> {
         io_fault(error, Fault::Pool(PoolFault::Files))
     }
 
-    /// Locks the directory for a process that writes to it, until the file is dropped. Returns
-    /// `None` if another process has locked it.
-    pub(crate) fn lock(&self) -> io::Result<Option<File>> {
+    // Locks the directory for a process that writes to it, until the file is dropped. Returns
+    // `None` if another process has locked it.
+    fn lock(&self) -> io::Result<Option<File>> {
         let path = self.path(LOCK)?;
         let file = OpenOptions::new()
             .write(true)
@@ -196,6 +230,29 @@ impl<'a> PoolFiles<'a> {
     pub(crate) fn clear(&self) -> io::Result<()> {
         let next = self.next()?;
         self.remove_database(next.as_str())
+    }
+
+    // Locks the directory, and removes what a process left that was stopped. Returns the file that
+    // has the lock, and the name of the newest file. Returns `None` if another process has locked
+    // the directory.
+    fn lock_and_clear(&self) -> io::Result<Option<(File, Option<FileName>)>> {
+        let Some(lock) = self.lock()? else {
+            return Ok(None);
+        };
+        self.clear()?;
+        let newest = self.newest()?;
+        Ok(Some((lock, newest)))
+    }
+
+    /// Locks the directory for a process that writes to it, and removes what a process left that
+    /// was stopped. Returns the file that has the lock, and the name of the newest file. Returns a
+    /// fault if another process has locked the directory.
+    pub(crate) fn take(&self, cause: &mut Cause) -> Result<(File, Option<FileName>), Fault> {
+        match self.lock_and_clear() {
+            Ok(Some(taken)) => Ok(taken),
+            Ok(None) => Err(Fault::Pool(PoolFault::FilesBusy)),
+            Err(error) => Err(self.fault(&error, cause)),
+        }
     }
 
     /// Makes a copy of the file of that name, which is not complete yet.

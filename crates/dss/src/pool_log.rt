@@ -23,6 +23,7 @@ fn fault_of(loss: Loss) -> Fault {
         Loss::Deleted => PoolFault::Deleted,
         Loss::Shortened => PoolFault::Shortened,
         Loss::Settings => PoolFault::Settings,
+        Loss::Suppliers => PoolFault::Suppliers,
     })
 }
 
@@ -45,9 +46,13 @@ fn process_number(rt: &HostRuntime) -> Result<u64, Fault> {
 }
 
 /// Returns the number of the settings with which this release makes calls with the salt of a token
-/// file.
-pub(crate) fn own_settings(rt: &HostRuntime, tokens: &TokenTable) -> Result<u64, Fault> {
-    match settings_number(rt.alloc(), POLICY, tokens.salt().text()) {
+/// file, if the log begins with the airspace of that number.
+pub(crate) fn settings_of(
+    rt: &HostRuntime,
+    tokens: &TokenTable,
+    beginning: u64,
+) -> Result<u64, Fault> {
+    match settings_number(rt.alloc(), POLICY, beginning, tokens.salt().text()) {
         Ok(number) => Ok(number),
         Err(_) => Err(Fault::Memory),
     }
@@ -68,6 +73,23 @@ pub(crate) struct LogArgs<'a> {
     pub(crate) agreed: u64,
 }
 
+// Returns the number of the pool's settings, if the file tells it. Behind revision 0 the first fence
+// of the log tells it, as if there were no file: the log may have begun with another airspace.
+fn pool_settings(file: FileName) -> Option<u64> {
+    match file.revision {
+        0 => None,
+        _ => Some(file.settings),
+    }
+}
+
+// Returns true if the file is of a pool with other settings than these.
+fn is_other(file: Option<FileName>, agreed: u64) -> bool {
+    match file {
+        Some(file) => file.settings != agreed,
+        None => false,
+    }
+}
+
 // Creates a log that has received nothing.
 fn new_log(
     rt: &HostRuntime,
@@ -76,7 +98,7 @@ fn new_log(
     number: u64,
 ) -> Result<EtcdLog, AllocError> {
     let (revision, pool) = match given.file {
-        Some(file) => (file.revision, Some(file.settings)),
+        Some(file) => (file.revision, pool_settings(file)),
         None => (0, None),
     };
     let settings = EtcdSettings {
@@ -99,6 +121,9 @@ pub(crate) fn open_log(
     given: LogArgs<'_>,
     cause: &mut Cause,
 ) -> Result<EtcdLog, Fault> {
+    if is_other(given.file, given.agreed) {
+        return Err(Fault::Pool(PoolFault::Settings));
+    }
     let user = match given.etcd_user {
         Some(file) => Some(read_user(rt, file, cause)?),
         None => None,

@@ -2,7 +2,8 @@
 use crate::cause::Cause;
 use crate::loopback::{self, SelfArgs};
 use crate::run::{self, RunArgs};
-use crate::{backup, connections, follow, live, pool, purge, tokens_command};
+use crate::{backup, begin, connections, follow, live, pool, purge, tokens_command};
+use dss_args::begin_args::BeginArgs;
 use dss_args::follow_args::FollowArgs;
 use dss_args::pool_args::PoolArgs;
 use dss_args::serve_args::ServeArgs;
@@ -56,6 +57,16 @@ impl<'a, F: Start> Commands for Program<'a, F> {
     fn serve_pool<E: Write>(self, given: PoolArgs<'_>, error: &mut E) -> Result<(), Fault> {
         let Program { rt, start, cause } = self;
         pool::serve(rt, given, start, cause, error)
+    }
+
+    fn begin<W: Write, E: Write>(
+        self,
+        given: BeginArgs<'_>,
+        output: &mut W,
+        error: &mut E,
+    ) -> Result<(), Fault> {
+        let Program { rt, start, cause } = self;
+        begin::begin(rt, given, start, cause, output, error)
     }
 
     fn follow<W: Write, E: Write>(

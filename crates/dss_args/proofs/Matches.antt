@@ -15,14 +15,15 @@ use Rattle.clap.specs.declared.parser.matches.Found.{Found}
 use Rattle.clap.proofs.WalkLemmas.{one_text-rows}
 use Rattle.clap.specs.declared.error.kind.ErrorKind.{ErrorKind}
 use Rattle.clap.specs.declared.error.kind.ErrorKind.TheVariants.{DisplayHelp, DisplayVersion, OutOfMemory}
-use Rattle.dss_args.specs.CommandArgs.{Asks, AsksNothing, Explains, HasChoice, HasFollow, HasNumber, HasNumberIn, HasPool, HasServing, HasValues, asks_pool, is_set, line_of_options}
+use Rattle.dss_args.specs.CommandArgs.{Asks, AsksNothing, Explains, HasBegin, HasChoice, HasFollow, HasNumber, HasNumberIn, HasPool, HasServing, HasValues, asks_pool, is_set, line_of_options}
+use Rattle.dss_args.specs.declared.begin_args.BeginArgs.{BeginArgs}
 use Rattle.dss_args.specs.declared.follow_args.FollowArgs.{FollowArgs}
 use Rattle.dss_args.specs.declared.pool_args.PoolArgs.{PoolArgs}
 use Rattle.dss_args.specs.declared.serve_args.ServeArgs.{ServeArgs}
 use Rattle.dss_args.specs.LineFault.{IsFaultOf}
 use Rattle.dss_args.specs.declared.fault.LineFault.{LineFault}
 use Rattle.dss_args.specs.declared.fault.LineFault.TheVariants as fault
-use Rattle.dss_args.specs.declared.command_args.CommandArgs.TheVariants.{Backup, Cell, CheckTokens, Explain, Follow, Loopback, NewSalt, NewToken, Pool, Report, Run, Serve, Purge, Upgrade, Verify}
+use Rattle.dss_args.specs.declared.command_args.CommandArgs.TheVariants.{Backup, Begin, Cell, CheckTokens, Explain, Follow, Loopback, NewSalt, NewToken, Pool, Report, Run, Serve, Purge, Upgrade, Verify}
 
 -- A number that was read is that of the argument's text.
 pub number_from_text : (f : Found) (id : Text) (n : ℕ) → (one_text f id ≡ None → Some n ≡ None) → ((t : List ℕ) → one_text f id ≡ Some t → (IsNumeral 10 (without_leading_plus t) × (digits_value 10 (without_leading_plus t) < 2 ^ 64)) × (n ≡ digits_value 10 (without_leading_plus t))) → HasNumber id (rows_of f) n
@@ -54,6 +55,7 @@ pub nothing_of_run : (rows : List Row) → ((tokens : Bor (List ℕ)) (now : ℕ
 nothing_of_run rows none (Run tokens now database requests) asks = none tokens now database requests asks.1
 nothing_of_run rows none (Serve given) asks = other _ _ refl asks.0
 nothing_of_run rows none (Pool given) asks = other _ _ refl asks.0
+nothing_of_run rows none (Begin given) asks = other _ _ refl asks.0
 nothing_of_run rows none (Follow given) asks = other _ _ refl asks.0
 nothing_of_run rows none (Loopback tokens now request) asks = other _ _ refl asks.0
 nothing_of_run rows none (Cell token) asks = other _ _ refl asks.0
@@ -79,6 +81,7 @@ pub nothing_of_serve : (rows : List Row) → NoServing rows → NoPool rows → 
 nothing_of_serve rows none pool (Run tokens now database requests) asks = other _ _ refl asks.0
 nothing_of_serve rows none pool (Serve given) asks = none given asks.1
 nothing_of_serve rows none pool (Pool given) asks = pool given asks.1
+nothing_of_serve rows none pool (Begin given) asks = other _ _ refl asks.0
 nothing_of_serve rows none pool (Follow given) asks = other _ _ refl asks.0
 nothing_of_serve rows none pool (Loopback tokens now request) asks = other _ _ refl asks.0
 nothing_of_serve rows none pool (Cell token) asks = other _ _ refl asks.0
@@ -92,6 +95,25 @@ nothing_of_serve rows none pool (CheckTokens file) asks = other _ _ refl asks.0
 nothing_of_serve rows none pool (NewToken uss scopes) asks = other _ _ refl asks.0
 nothing_of_serve rows none pool NewSalt asks = other _ _ refl asks.0
 
+-- The subcommand `begin` requests nothing if no command line has the values.
+pub nothing_of_begin : (rows : List Row) → ((given : BeginArgs) → HasBegin rows given → ⊥) → AsksNothing (Some (codes "begin", rows))
+nothing_of_begin rows none (Run tokens now database requests) asks = other _ _ refl asks.0
+nothing_of_begin rows none (Serve given) asks = other _ _ refl asks.0
+nothing_of_begin rows none (Pool given) asks = other _ _ refl asks.0
+nothing_of_begin rows none (Begin given) asks = none given asks.1
+nothing_of_begin rows none (Follow given) asks = other _ _ refl asks.0
+nothing_of_begin rows none (Loopback tokens now request) asks = other _ _ refl asks.0
+nothing_of_begin rows none (Cell token) asks = other _ _ refl asks.0
+nothing_of_begin rows none (Explain method target now) asks = other _ _ refl asks.0
+nothing_of_begin rows none (Report database places) asks = other _ _ refl asks.0
+nothing_of_begin rows none (Backup database to live) asks = other _ _ refl asks.0
+nothing_of_begin rows none (Verify file) asks = other _ _ refl asks.0
+nothing_of_begin rows none (Upgrade database) asks = other _ _ refl asks.0
+nothing_of_begin rows none (Purge database until now) asks = other _ _ refl asks.0
+nothing_of_begin rows none (CheckTokens file) asks = other _ _ refl asks.0
+nothing_of_begin rows none (NewToken uss scopes) asks = other _ _ refl asks.0
+nothing_of_begin rows none NewSalt asks = other _ _ refl asks.0
+
 -- No arguments of `follow` have the values.
 abbrev pub NoFollow : List Row → Type 0
 NoFollow rows = (given : FollowArgs) → HasFollow rows given → ⊥
@@ -101,6 +123,7 @@ pub nothing_of_follow : (rows : List Row) → NoFollow rows → AsksNothing (Som
 nothing_of_follow rows none (Run tokens now database requests) asks = other _ _ refl asks.0
 nothing_of_follow rows none (Serve given) asks = other _ _ refl asks.0
 nothing_of_follow rows none (Pool given) asks = other _ _ refl asks.0
+nothing_of_follow rows none (Begin given) asks = other _ _ refl asks.0
 nothing_of_follow rows none (Follow given) asks = none given asks.1
 nothing_of_follow rows none (Loopback tokens now request) asks = other _ _ refl asks.0
 nothing_of_follow rows none (Cell token) asks = other _ _ refl asks.0
@@ -119,6 +142,7 @@ pub nothing_of_self : (rows : List Row) → ((tokens : Bor (List ℕ)) (now : �
 nothing_of_self rows none (Run tokens now database requests) asks = other _ _ refl asks.0
 nothing_of_self rows none (Serve given) asks = other _ _ refl asks.0
 nothing_of_self rows none (Pool given) asks = other _ _ refl asks.0
+nothing_of_self rows none (Begin given) asks = other _ _ refl asks.0
 nothing_of_self rows none (Follow given) asks = other _ _ refl asks.0
 nothing_of_self rows none (Loopback tokens now request) asks = none tokens now request asks.1
 nothing_of_self rows none (Cell token) asks = other _ _ refl asks.0
@@ -137,6 +161,7 @@ pub nothing_of_cell : (rows : List Row) → ((token : Bor (List ℕ)) → HasVal
 nothing_of_cell rows none (Run tokens now database requests) asks = other _ _ refl asks.0
 nothing_of_cell rows none (Serve given) asks = other _ _ refl asks.0
 nothing_of_cell rows none (Pool given) asks = other _ _ refl asks.0
+nothing_of_cell rows none (Begin given) asks = other _ _ refl asks.0
 nothing_of_cell rows none (Follow given) asks = other _ _ refl asks.0
 nothing_of_cell rows none (Loopback tokens now request) asks = other _ _ refl asks.0
 nothing_of_cell rows none (Cell token) asks = none token asks.1
@@ -155,6 +180,7 @@ pub nothing_of_explain : (rows : List Row) → ((method target : Bor (List ℕ))
 nothing_of_explain rows none (Run tokens now database requests) asks = other _ _ refl asks.0
 nothing_of_explain rows none (Serve given) asks = other _ _ refl asks.0
 nothing_of_explain rows none (Pool given) asks = other _ _ refl asks.0
+nothing_of_explain rows none (Begin given) asks = other _ _ refl asks.0
 nothing_of_explain rows none (Follow given) asks = other _ _ refl asks.0
 nothing_of_explain rows none (Loopback tokens now request) asks = other _ _ refl asks.0
 nothing_of_explain rows none (Cell token) asks = other _ _ refl asks.0
@@ -173,6 +199,7 @@ pub nothing_of_report : (rows : List Row) → ((database : Bor (List ℕ)) (plac
 nothing_of_report rows none (Run tokens now database requests) asks = other _ _ refl asks.0
 nothing_of_report rows none (Serve given) asks = other _ _ refl asks.0
 nothing_of_report rows none (Pool given) asks = other _ _ refl asks.0
+nothing_of_report rows none (Begin given) asks = other _ _ refl asks.0
 nothing_of_report rows none (Follow given) asks = other _ _ refl asks.0
 nothing_of_report rows none (Loopback tokens now request) asks = other _ _ refl asks.0
 nothing_of_report rows none (Cell token) asks = other _ _ refl asks.0
@@ -191,6 +218,7 @@ pub nothing_of_backup : (rows : List Row) → ((database to : Bor (List ℕ)) (l
 nothing_of_backup rows none (Run tokens now database requests) asks = other _ _ refl asks.0
 nothing_of_backup rows none (Serve given) asks = other _ _ refl asks.0
 nothing_of_backup rows none (Pool given) asks = other _ _ refl asks.0
+nothing_of_backup rows none (Begin given) asks = other _ _ refl asks.0
 nothing_of_backup rows none (Follow given) asks = other _ _ refl asks.0
 nothing_of_backup rows none (Loopback tokens now request) asks = other _ _ refl asks.0
 nothing_of_backup rows none (Cell token) asks = other _ _ refl asks.0
@@ -209,6 +237,7 @@ pub nothing_of_verify : (rows : List Row) → ((file : Bor (List ℕ)) → HasVa
 nothing_of_verify rows none (Run tokens now database requests) asks = other _ _ refl asks.0
 nothing_of_verify rows none (Serve given) asks = other _ _ refl asks.0
 nothing_of_verify rows none (Pool given) asks = other _ _ refl asks.0
+nothing_of_verify rows none (Begin given) asks = other _ _ refl asks.0
 nothing_of_verify rows none (Follow given) asks = other _ _ refl asks.0
 nothing_of_verify rows none (Loopback tokens now request) asks = other _ _ refl asks.0
 nothing_of_verify rows none (Cell token) asks = other _ _ refl asks.0
@@ -227,6 +256,7 @@ pub nothing_of_upgrade : (rows : List Row) → ((database : Bor (List ℕ)) → 
 nothing_of_upgrade rows none (Run tokens now database requests) asks = other _ _ refl asks.0
 nothing_of_upgrade rows none (Serve given) asks = other _ _ refl asks.0
 nothing_of_upgrade rows none (Pool given) asks = other _ _ refl asks.0
+nothing_of_upgrade rows none (Begin given) asks = other _ _ refl asks.0
 nothing_of_upgrade rows none (Follow given) asks = other _ _ refl asks.0
 nothing_of_upgrade rows none (Loopback tokens now request) asks = other _ _ refl asks.0
 nothing_of_upgrade rows none (Cell token) asks = other _ _ refl asks.0
@@ -245,6 +275,7 @@ pub nothing_of_purge : (rows : List Row) → ((database : Bor (List ℕ)) (until
 nothing_of_purge rows none (Run tokens now database requests) asks = other _ _ refl asks.0
 nothing_of_purge rows none (Serve given) asks = other _ _ refl asks.0
 nothing_of_purge rows none (Pool given) asks = other _ _ refl asks.0
+nothing_of_purge rows none (Begin given) asks = other _ _ refl asks.0
 nothing_of_purge rows none (Follow given) asks = other _ _ refl asks.0
 nothing_of_purge rows none (Loopback tokens now request) asks = other _ _ refl asks.0
 nothing_of_purge rows none (Cell token) asks = other _ _ refl asks.0
@@ -289,6 +320,7 @@ pub nothing_of_tokens : (rows : List Row) (check new scopes : Option (Bor (List 
 nothing_of_tokens rows check new scopes flag a b c d none (Run tokens now database requests) asks = other _ _ refl asks.0
 nothing_of_tokens rows check new scopes flag a b c d none (Serve given) asks = other _ _ refl asks.0
 nothing_of_tokens rows check new scopes flag a b c d none (Pool given) asks = other _ _ refl asks.0
+nothing_of_tokens rows check new scopes flag a b c d none (Begin given) asks = other _ _ refl asks.0
 nothing_of_tokens rows check new scopes flag a b c d none (Follow given) asks = other _ _ refl asks.0
 nothing_of_tokens rows check new scopes flag a b c d none (Loopback tokens now request) asks = other _ _ refl asks.0
 nothing_of_tokens rows check new scopes flag a b c d none (Cell token) asks = other _ _ refl asks.0

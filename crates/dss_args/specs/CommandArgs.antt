@@ -54,6 +54,7 @@ use Rattle.dss_args.specs.declared.command_args.TheConstants.{
 use Rattle.dss_args.specs.declared.command_args.CommandArgs.{CommandArgs}
 use Rattle.dss_args.specs.declared.command_args.CommandArgs.TheVariants.{
   Backup,
+  Begin,
   Cell,
   CheckTokens,
   Explain,
@@ -69,6 +70,7 @@ use Rattle.dss_args.specs.declared.command_args.CommandArgs.TheVariants.{
   Upgrade,
   Verify,
 }
+use Rattle.dss_args.specs.declared.begin_args.BeginArgs.{BeginArgs}
 use Rattle.dss_args.specs.declared.follow_args.FollowArgs.{FollowArgs}
 use Rattle.dss_args.specs.declared.pool_args.PoolArgs.{PoolArgs}
 use Rattle.dss_args.specs.declared.serve_args.ServeArgs.{ServeArgs}
@@ -187,8 +189,8 @@ has_pool_option rows =
 abbrev pub has_store_option : List Row → Bool
 has_store_option rows =
     is_given (codes "db") rows || is_given (codes "count") rows || is_given (codes "quota") rows
-    || is_given (codes "retention") rows || is_given (codes "response-memory") rows
-    || is_given (codes "backup-dir") rows || is_set (codes "double-sync") rows
+    || is_given (codes "response-memory") rows || is_given (codes "backup-dir") rows
+    || is_set (codes "double-sync") rows
 
 -- The parts of a text, separated by commas.
 abbrev pub parts_of : Text → List Text
@@ -225,6 +227,7 @@ pub record HasPool (rows : List Row) (given : PoolArgs) : Type 0 where
   pub name : HasName rows given.name
   pub etcd_user : HasText (codes "etcd-user") rows given.etcd_user
   pub files : HasText (codes "files") rows given.files
+  pub retention : HasChoice (codes "retention") 1 MAX_TIME rows given.retention
   pub listen : HasListen rows given.listen.items
   pub max_connections :
       HasNumberOr (codes "max-connections") 1 MAX_CONNECTIONS MAX_CONNECTIONS rows
@@ -233,6 +236,13 @@ pub record HasPool (rows : List Row) (given : PoolArgs) : Type 0 where
   pub access_log : HasText (codes "access-log") rows given.access_log
   pub no_store : has_store_option rows ≡ false
   pub explain : is_set (codes "explain") rows ≡ given.explain
+  pub verbose : is_set (codes "verbose") rows ≡ given.verbose
+
+-- Holds if the arguments of the subcommand `begin` have these values.
+pub record HasBegin (rows : List Row) (given : BeginArgs) : Type 0 where
+  pub tokens : first_of (codes "tokens") rows ≡ Some given.tokens.now
+  pub database : first_of (codes "db") rows ≡ Some given.database.now
+  pub files : first_of (codes "files") rows ≡ Some given.files.now
   pub verbose : is_set (codes "verbose") rows ≡ given.verbose
 
 -- Holds if the arguments of the subcommand `follow` have these values.
@@ -276,6 +286,7 @@ abbrev pub name_of : CommandArgs → Text
 name_of (Run tokens now database requests) = codes "run"
 name_of (Serve given) = codes "serve"
 name_of (Pool given) = codes "serve"
+name_of (Begin given) = codes "begin"
 name_of (Follow given) = codes "follow"
 name_of (Loopback tokens now request) = codes "self"
 name_of (Cell token) = codes "cell"
@@ -298,6 +309,7 @@ HasValues rows (Run tokens now database requests) =
     × (first_of (codes "requests") rows ≡ Some requests.now)
 HasValues rows (Serve given) = HasServing rows given
 HasValues rows (Pool given) = HasPool rows given
+HasValues rows (Begin given) = HasBegin rows given
 HasValues rows (Follow given) = HasFollow rows given
 HasValues rows (Loopback tokens now request) =
     (first_of (codes "tokens") rows ≡ Some tokens.now)

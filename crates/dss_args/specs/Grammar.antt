@@ -167,6 +167,14 @@ serve_app =
     (flag_rule (codes "explain")))
     (flag_rule (codes "verbose"))
 
+abbrev pub begin_app : App
+begin_app =
+    with_rule
+    (with_rule
+    (with_rule (with_rule (new_app (codes "begin")) tokens_rule) store_rule)
+    (needed_rule (codes "files")))
+    (flag_rule (codes "verbose"))
+
 abbrev pub follow_app : App
 follow_app =
     with_rule
@@ -246,8 +254,10 @@ dss_app =
     (with_subcommand
     (with_subcommand
     (with_subcommand
+    (with_subcommand
     (with_subcommand own_app run_app.top)
     serve_app.top)
+    begin_app.top)
     follow_app.top)
     self_app.top)
     cell_app.top)

@@ -48,6 +48,8 @@ ghost use Rattle.dss_args.specs.CommandArgs.{
   texts,
 };
 
+use crate::begin_args::BeginArgs;
+use crate::begin_line::begin_line;
 use crate::fault::{LineFault, fault_of};
 use crate::follow_args::FollowArgs;
 use crate::follow_line::{follow_line, follow_refusal};
@@ -105,6 +107,8 @@ pub enum CommandArgs<'a> {
     Serve(ServeArgs<'a>),
     /// Serves connections to a port of this machine, as an instance of a pool.
     Pool(PoolArgs<'a>),
+    /// Writes the first file of a pool, which begins with the airspace of a database.
+    Begin(BeginArgs<'a>),
     /// Follows the log of a pool, and writes a file from which an instance can start.
     Follow(FollowArgs<'a>),
     /// Serves one stream of requests in memory, through a loopback socket.
@@ -229,7 +233,12 @@ fn port_in(matches: &ArgMatches<'_>, name: &str) -> Option<u16>
 
 // Returns the number of an option, if it is present. Returns `None` if it is present and out of
 // range.
-fn choice_in(matches: &ArgMatches<'_>, name: &str, least: u64, greatest: u64) -> Option<Option<u64>>
+pub(crate) fn choice_in(
+    matches: &ArgMatches<'_>,
+    name: &str,
+    least: u64,
+    greatest: u64,
+) -> Option<Option<u64>>
     ensures some { IfSome result (HasChoice name.now least greatest
         (rows_of (found_of matches.now))) }
     ensures none { IfNone result ((choice : Option ℕ) → HasChoice name.now least greatest
@@ -659,6 +668,7 @@ fn line_of<'a>(
     match name {
         "run" => Ok(run_line(matches)),
         "serve" => serve_line(alloc, matches),
+        "begin" => Ok(begin_line(matches)),
         "follow" => follow_line(alloc, matches),
         "self" => Ok(loopback_line(matches)),
         "cell" => Ok(cell_line(matches)),

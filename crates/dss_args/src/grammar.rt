@@ -4,6 +4,7 @@ ghost use Rattle.clap.specs.Words.{rule_of};
 ghost use Rattle.dss_args.specs.Grammar.{
   HasGrammar,
   backup_app,
+  begin_app,
   cell_app,
   choice_rule,
   database_rule,
@@ -272,7 +273,7 @@ fn files_option<'a>(alloc: Global) -> Arg<'a>
     ensures local { result.global ≡ false }
 {
     choice(alloc, "files", "DIR").help(
-        "Start from the newest file that follow wrote to this directory; requires --pool \
+        "Start from the newest file that begin or follow wrote to this directory; requires --pool \
          [default: from the beginning of the log]",
     )
 }
@@ -310,6 +311,16 @@ fn written_option<'a>(alloc: Global) -> Arg<'a>
 {
     needed(alloc, "files", "DIR").help(
         "Directory of the files, which must exist; the two newest are kept",
+    )
+}
+
+// Returns the option for the directory to which the first file is written.
+fn first_option<'a>(alloc: Global) -> Arg<'a>
+    ensures rule { rule_of result ≡ needed_rule (codes "files") }
+    ensures local { result.global ≡ false }
+{
+    needed(alloc, "files", "DIR").help(
+        "Directory of the files, which must exist and have no file of a pool",
     )
 }
 
@@ -565,6 +576,20 @@ fn serve_command<'a>(alloc: Global) -> Result<Command<'a>, AllocError>
         .arg(verbose_flag(alloc))
 }
 
+fn begin_command<'a>(alloc: Global) -> Result<Command<'a>, AllocError>
+    ensures { IfOk result (HasGrammar begin_app) }
+{
+    Command::new(alloc, "begin")
+        .about(
+            "Write the first file of a pool, which begins with the airspace of a database, and \
+             print the name of the file",
+        )
+        .arg(tokens_option(alloc))?
+        .arg(source_option(alloc))?
+        .arg(first_option(alloc))?
+        .arg(verbose_flag(alloc))
+}
+
 fn follow_command<'a>(alloc: Global) -> Result<Command<'a>, AllocError>
     ensures { IfOk result (HasGrammar follow_app) }
 {
@@ -684,6 +709,7 @@ pub(crate) fn command<'a>(alloc: Global) -> Result<Command<'a>, AllocError>
         .subcommand_required(true)
         .subcommand(run_command(alloc)?)?
         .subcommand(serve_command(alloc)?)?
+        .subcommand(begin_command(alloc)?)?
         .subcommand(follow_command(alloc)?)?
         .subcommand(self_command(alloc)?)?
         .subcommand(cell_command(alloc)?)?

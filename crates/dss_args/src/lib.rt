@@ -2,6 +2,8 @@
 //! to print instead.
 #![tactic(auto)]
 
+pub mod begin_args;
+mod begin_line;
 pub mod command_args;
 pub mod fault;
 pub mod follow_args;

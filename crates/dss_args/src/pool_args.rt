@@ -15,6 +15,8 @@ pub struct PoolArgs<'a> {
     pub etcd_user: Option<&'a str>,
     /// The name of the directory of the pool's files, if the instance starts from the newest one.
     pub files: Option<&'a str>,
+    /// The retention of what has ended in seconds, at least 1; the instance purges nothing if `None`.
+    pub retention: Option<u64>,
     /// The addresses to listen on. Their ports are at least 1.
     pub listen: Vec<SocketAddr>,
     /// The maximum number of connections at once, from 1 to a thousand.

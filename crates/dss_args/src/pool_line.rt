@@ -31,7 +31,8 @@ ghost use Rattle.dss_args.specs.CommandArgs.{
 };
 
 use crate::command_args::{
-    CommandArgs, MAX_CONNECTIONS, address_of, admin_in, each_listen, is_set, listen_in, number_or,
+    CommandArgs, MAX_CONNECTIONS, MAX_TIME, address_of, admin_in, choice_in, each_listen, is_set,
+    listen_in, number_or,
 };
 use crate::pool_args::PoolArgs;
 use clap::ArgMatches;
@@ -79,9 +80,6 @@ fn store_option_in(matches: &ArgMatches<'_>) -> Option<&'static str>
     }
     if is_given(matches, "quota") {
         return Some("--quota");
-    }
-    if is_given(matches, "retention") {
-        return Some("--retention");
     }
     if is_given(matches, "response-memory") {
         return Some("--response-memory");
@@ -173,6 +171,7 @@ fn pool_on<'a>(
         name: name_in(matches)?,
         etcd_user: matches.get_str("etcd-user"),
         files: matches.get_str("files"),
+        retention: choice_in(matches, "retention", 1, MAX_TIME)?,
         listen,
         max_connections: number_or(
             matches,

@@ -7,7 +7,7 @@ use Rattle.server_watch.specs.declared.token_watch.TokenSource as sources
 use Rattle.server_watch.specs.declared.token_watch.TokenWatch.{TokenWatch}
 use Rattle.pool_core.specs.Serves.{ServesPool}
 use Rattle.pool_core.specs.declared.log.Log as logs
-use Rattle.pool_entry.specs.Calls.{calls_of}
+use Rattle.pool_entry.specs.Acts.{acts_of}
 use Rattle.pool_instance.specs.Parts.{log_of, space_in}
 use Rattle.pool_instance.specs.declared.instance.Instance.{Instance}
 use Rattle.pool_server.specs.Serving.{ServesAsInstance, events_in}
@@ -20,6 +20,7 @@ module _ {L S M T : Type 0} (gl : logs.Ghosts L) (gs : spaces.Ghosts S) (m : clo
   nothing_served x clock past a start = record {
     rounds = [];
     serves = tt;
+    agreed = start.after.agreed;
     logged = start.after.logged;
     watched = watch;
     read = clock;
@@ -34,7 +35,8 @@ module _ {L S M T : Type 0} (gl : logs.Ghosts L) (gs : spaces.Ghosts S) (m : clo
       let on = served past a [] start.after in
       record {
         rounds = on.rounds;
-        serves = subst (λ salt. ServesPool calls_of salt a (gl.writer (log_of old)) (events_in on.rounds)) start.salt_is (on.serves sound);
+        serves = subst (λ salt. ServesPool acts_of salt a (gl.writer (log_of old)) (events_in on.rounds)) start.salt_is (on.serves sound);
+        agreed = on.agreed;
         logged = on.logged;
         watched = on.watched;
         read = on.read;

@@ -11,6 +11,7 @@ use Rattle.dss_args.specs.declared.fault.LineFault.TheVariants as fault
 use Rattle.dss_args.specs.declared.command_args.CommandArgs.{CommandArgs}
 use Rattle.dss_args.specs.declared.command_args.CommandArgs.TheVariants.{
   Backup,
+  Begin,
   Cell,
   CheckTokens,
   Explain,
@@ -49,8 +50,8 @@ WritesCell token before after = (line : List ℕ) × IsLineOfToken token line ×
 
 module _ (does : Doing) where
   -- Holds if the requested command ran with its values. `serve` writes to the second writer,
-  -- `backup` to none, `follow` to both, and every other command to the first. If `tokens --new-token`
-  -- fails, it may write the reason to the second one.
+  -- `backup` to none, `begin` and `follow` to both, and every other command to the first. If
+  -- `tokens --new-token` fails, it may write the reason to the second one.
   abbrev pub Does : CommandArgs → (remaining output output' error error' : Option (List ℕ))
       → Result (Unit {0}) Fault → Type 0
   Does (Run tokens now database requests) remaining output output' error error' done =
@@ -59,6 +60,8 @@ module _ (does : Doing) where
       does (Serve given) None error error' done × (output' ≡ output)
   Does (Pool given) remaining output output' error error' done =
       does (Pool given) None error error' done × (output' ≡ output)
+  Does (Begin given) remaining output output' error error' done =
+      does (Begin given) None output output' done
   Does (Follow given) remaining output output' error error' done =
       does (Follow given) None output output' done
   Does (Loopback tokens now request) remaining output output' error error' done =

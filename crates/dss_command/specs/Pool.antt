@@ -16,8 +16,9 @@ use Rattle.pool_core.specs.Events.{log_events}
 use Rattle.pool_core.specs.Log.{Continues, LogEvent}
 use Rattle.pool_core.specs.Serves.{ServesPool}
 use Rattle.pool_core.specs.declared.log.Log as logs
-use Rattle.pool_entry.specs.Calls.{calls_of}
-use Rattle.pool_instance.specs.Parts.{log_of, salt_in}
+use Rattle.pool_entry.specs.Acts.{acts_of}
+use Rattle.pool_instance.specs.Parts.{log_of, retention_in, salt_in}
+use Rattle.pool_instance.specs.Purging.{AreAgreed}
 use Rattle.pool_instance.specs.State.{IsAfter}
 use Rattle.pool_instance.specs.declared.instance.Instance.{Instance}
 use Rattle.pool_server.specs.Serving.{Round, RoundsRun, events_in}
@@ -46,16 +47,18 @@ module _ {L S M T : Type 0} (gl : logs.Ghosts L) (gs : spaces.Ghosts S) (m : clo
   -- States that an instance served its clients as one of a pool, from the airspace `start`, with
   -- the salt of the token file, in the events of some rounds. Its log was used as the events say.
   -- Each received request is one of a client, with the token of its caller in the table that was
-  -- active. After the last round the clock may have failed.
+  -- active. Each purge that it offered keeps the retention by the clock, and by a call of another
+  -- instance. After the last round the clock may have failed.
   pub record ServedFrom (past : Option (List LogEvent)) (start : Airspace) (old new : Instance L S)
       (clock clock' : M) : Type 0 where
     pub rounds : List Round
-    pub serves : ServesPool calls_of (salt_of tokens) start (gl.writer (log_of old))
+    pub serves : ServesPool acts_of (salt_of tokens) start (gl.writer (log_of old))
         (events_in rounds)
+    pub agreed : AreAgreed (retention_in old) (gl.writer (log_of old)) (events_in rounds)
     pub logged : Continues past (gl.history (log_of new)) (log_events (events_in rounds))
     pub watched : TokenWatch T
     pub read : M
-    pub run : RoundsRun m t tokens rounds tokens watch watched clock read
+    pub run : RoundsRun m t tokens (retention_in old) rounds tokens watch watched clock read
     pub end : (clock' ≡ read) ⊎ (m.failures clock' ≡ one_more (m.failures read))
 
   -- Holds if an instance served its clients so, whatever airspace it started from and whatever its

@@ -1,7 +1,7 @@
 -- The texts of faults of an instance of a pool.
 use Rattle.std.specs.Prelude.{ℕ, List, codes}
 use Rattle.dss_command.specs.declared.pool_fault.PoolFault.{PoolFault}
-use Rattle.dss_command.specs.declared.pool_fault.PoolFault.TheVariants.{Compacted, Deleted, Ended, Files, FilesBusy, NoFile, NoRandom, Replaced, Settings, Shortened, Silent, UserInvalid, UserUnread}
+use Rattle.dss_command.specs.declared.pool_fault.PoolFault.TheVariants.{Compacted, Deleted, Ended, Files, FilesBusy, HasFile, NoFile, NoRandom, Replaced, Settings, Shortened, Silent, Suppliers, UserInvalid, UserUnread}
 
 -- What is wrong and what to do, as it is printed.
 abbrev pub text_of : PoolFault → List ℕ
@@ -15,11 +15,21 @@ text_of Compacted =
 text_of Deleted = codes "deleted: a key of the log was deleted; restore etcd"
 text_of Shortened = codes "shortened: etcd lost entries of the log; restore etcd"
 text_of Settings =
-    codes "settings: the pool has another salt or policy; use its salt and its version"
+    codes
+    "settings: the pool has another salt, policy or beginning; use its salt, version and files"
+text_of Suppliers =
+    codes
+    "suppliers: the list forbids a USS of an own entry; change --tokens, or add it to the list"
 text_of Silent = codes "etcd does not answer; check --pool and that a majority of its members runs"
 text_of Files =
     codes
     "files: cannot read or write the directory; check that it exists, its permissions and its disk"
-text_of NoFile = codes "files: the directory has no file of a pool; run dss follow first"
-text_of FilesBusy = codes "files: another dss follow uses the directory; wait until it ends"
+text_of NoFile =
+    codes
+    "files: the directory has no file REVISION-SETTINGS-BEGINNING.db; run dss follow or dss begin"
+text_of HasFile =
+    codes
+    "files: the directory has a file of a pool; move its files away, or give another directory"
+text_of FilesBusy =
+    codes "files: another dss follow or dss begin uses the directory; wait until it ends"
 text_of Ended = codes "ended: an entry needs more memory; free memory, and start again"

@@ -9,6 +9,7 @@ ghost use Rattle.dss_command.specs.Line.{Does, EndsLine, EndsRefused};
 use crate::explain::explain;
 use crate::fault::{Fault, print_fault, status};
 use crate::print::cell;
+use dss_args::begin_args::BeginArgs;
 use dss_args::command_args::{CommandArgs, parse};
 use dss_args::fault::LineFault;
 use dss_args::follow_args::FollowArgs;
@@ -56,6 +57,16 @@ pub trait Commands {
         ensures { does (CommandArgs.Pool given.entry) None (E.contents error.old)
             (E.contents error.new)
             result };
+
+    /// Runs the command `begin`.
+    fn begin<W: Write, E: Write>(
+        self,
+        given: BeginArgs<'_>,
+        output: &mut W,
+        error: &mut E,
+    ) -> Result<(), Fault>
+        ensures { does (CommandArgs.Begin given.entry) None
+            (W.contents output.old) (W.contents output.new) result };
 
     /// Runs the command `follow`.
     fn follow<W: Write, E: Write>(
@@ -192,6 +203,7 @@ fn perform<C: Commands + Drop, R: Read, O: Write, E: Write>(
         } => commands.run(tokens, now, database, requests, input, output),
         CommandArgs::Serve(given) => commands.serve(given, error),
         CommandArgs::Pool(given) => commands.serve_pool(given, error),
+        CommandArgs::Begin(given) => commands.begin(given, output, error),
         CommandArgs::Follow(given) => commands.follow(given, output, error),
         CommandArgs::Loopback {
             tokens,

@@ -1,7 +1,7 @@
 //! The command `serve --pool` above the operating system.
 ghost use Rattle.std.specs.Prelude.{◌≡◌, IfOk, IsSome, OnOk};
 ghost use Rattle.std.specs.IoError.{error_kind};
-ghost use Rattle.pool_instance.specs.Parts.{is_ended};
+ghost use Rattle.pool_instance.specs.Parts.{is_ended, retention_in};
 ghost use Rattle.pool_server.specs.Serving.{ServesAsInstance};
 ghost use Rattle.dss_command.specs.Pool.{EndsPool, ServesPoolFrom, StartsOver, pool_fault};
 
@@ -12,14 +12,15 @@ use crate::server_lines::Lines;
 use crate::tokens::salt_of;
 use admin_http::build::BuildInfo;
 use pool_core::log::Log;
+use pool_core::log_io::LogIo;
 use pool_instance::instance::Instance;
-use pool_instance::log_io::LogIo;
 use pool_server::limits::PoolLimits;
 use pool_server::serve::serve_pool;
 use server_base::server_log::ServerLog;
 use server_base::sockets::Sockets;
 use server_watch::token_watch::{TokenSource, TokenWatch};
 use service_calls::service::Service;
+use space_core::purge_ended::PurgeEnded;
 use space_core::space::Space;
 use space_memory::memory::MemorySpace;
 use space_snapshot::snapshot::SnapshotSource;
@@ -49,7 +50,8 @@ pub struct PoolConfig<'a> {
 }
 
 /// Creates an instance of a pool over that log, with the salt of a token file. It starts from the
-/// airspace of a space in memory. That of a new space is empty.
+/// airspace of a space in memory. That of a new space is empty. With a retention it offers purges of
+/// what ended at least so many seconds ago.
 ///
 /// The only possible fault is `Memory`.
 pub fn new_instance<G: Log + Drop>(
@@ -57,13 +59,15 @@ pub fn new_instance<G: Log + Drop>(
     log: G,
     space: MemorySpace,
     tokens: &TokenTable,
+    retention: Option<u64>,
 ) -> Result<Instance<G, MemorySpace>, Fault>
-    ensures { IfOk result (StartsOver G.Log ⟦<MemorySpace as Space>⟧ tokens.now
+    ensures starts { IfOk result (StartsOver G.Log ⟦<MemorySpace as Space>⟧ tokens.now
         (G.history log) space) }
+    ensures retention { IfOk result (λ instance. retention_in instance ≡ retention) }
 {
     let salt = salt_of(tokens)?;
     let service = Service::new(space, salt);
-    Ok(Instance::new(alloc, log, service))
+    Ok(Instance::new(alloc, log, service, retention))
 }
 
 // Returns the fault of a failed system call that ended the service.
@@ -90,7 +94,7 @@ fn end_of_pool(served: io::Result<()>, is_ended: bool) -> Result<(), Fault>
 // Answers the clients of the sockets with an instance.
 fn serve_sockets<
     G: Log + Drop,
-    S: SnapshotSource + Drop,
+    S: SnapshotSource + PurgeEnded + Drop,
     M: Moments,
     N: Sockets + Drop,
     I: LogIo<G>,

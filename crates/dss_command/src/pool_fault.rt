@@ -18,14 +18,19 @@ pub enum PoolFault {
     Deleted,
     /// The log ends before an entry that was received.
     Shortened,
-    /// The instances of the pool have other settings, or its files are of such a pool.
+    /// The instances of the pool have other settings, or its files are of such a pool. These are
+    /// its salt, its policy, and the airspace at the beginning of its log.
     Settings,
+    /// The supplier list of the pool forbids a USS of an entry that this instance wrote.
+    Suppliers,
     /// No member of etcd has said anything of the log for too long.
     Silent,
     /// The directory of the pool's files, or a file in it, cannot be read or written.
     Files,
     /// The directory of the pool's files has none.
     NoFile,
+    /// The directory for the first file of a pool has a file of a pool.
+    HasFile,
     /// Another process writes to the directory of the pool's files.
     FilesBusy,
     /// The instance cannot go on. Usually memory ran out in an entry.
@@ -53,7 +58,12 @@ impl PoolFault {
             PoolFault::Deleted => "deleted: a key of the log was deleted; restore etcd",
             PoolFault::Shortened => "shortened: etcd lost entries of the log; restore etcd",
             PoolFault::Settings => {
-                "settings: the pool has another salt or policy; use its salt and its version"
+                "settings: the pool has another salt, policy or beginning; \
+                 use its salt, version and files"
+            }
+            PoolFault::Suppliers => {
+                "suppliers: the list forbids a USS of an own entry; \
+                 change --tokens, or add it to the list"
             }
             PoolFault::Silent => {
                 "etcd does not answer; check --pool and that a majority of its members runs"
@@ -62,9 +72,16 @@ impl PoolFault {
                 "files: cannot read or write the directory; \
                  check that it exists, its permissions and its disk"
             }
-            PoolFault::NoFile => "files: the directory has no file of a pool; run dss follow first",
+            PoolFault::NoFile => {
+                "files: the directory has no file REVISION-SETTINGS-BEGINNING.db; \
+                 run dss follow or dss begin"
+            }
+            PoolFault::HasFile => {
+                "files: the directory has a file of a pool; \
+                 move its files away, or give another directory"
+            }
             PoolFault::FilesBusy => {
-                "files: another dss follow uses the directory; wait until it ends"
+                "files: another dss follow or dss begin uses the directory; wait until it ends"
             }
             PoolFault::Ended => "ended: an entry needs more memory; free memory, and start again",
         }

@@ -38,6 +38,19 @@ pub fn print_accept_failed<E: Write>(error: &mut E) -> io::Result<()>
     )
 }
 
+/// Prints one line that says that the instance of a pool may not act for a USS.
+pub fn print_unassigned<E: Write>(uss: &str, error: &mut E) -> io::Result<()>
+    ensures { OnOk result (Appends (E.contents error.old) (E.contents error.new)
+        (codes "dss: pool: suppliers: this organization may not act for USS " ++ (uss.now
+        ++ codes "; add it to the supplier list\n"))) }
+{
+    writeln!(
+        error,
+        "dss: pool: suppliers: this organization may not act for USS {uss}; \
+         add it to the supplier list"
+    )
+}
+
 /// The server log: the access log, if there is one, and a line for each fault of a client, of the
 /// token file and of the clock. If `verbose`, also a line for each change of the store's state, and
 /// for each purge that removed something, but for reset connections at most one a minute.
@@ -114,6 +127,10 @@ impl<'a, E: Write, L: LogFile> ServerLog for Lines<'a, E, L> {
 
     fn accept_failed(&mut self) {
         let _ = print_accept_failed(self.error);
+    }
+
+    fn unassigned(&mut self, uss: &str) {
+        let _ = print_unassigned(uss, self.error);
     }
 
     fn store_event(&mut self, news: StoreEvent) {

@@ -49,8 +49,8 @@ pub record FollowsLog (past now : Option (List LogEvent)) (events : List LogEven
   pub logged : Continues past now events
   pub end : ReachesEnd events (length (entries_in events))
 
--- States that a log went on by some events, and that the calls of its entries were made over a
--- space. The space has the airspace after these calls, and no other.
+-- States that a log went on by some events, and that the acts of its entries were done over a
+-- space. The space has the airspace after these acts, and no other.
 pub record FollowsSpace {S : Type 0} (tables : spaces.Ghosts S) (salt : List ℕ)
     (past now : Option (List LogEvent)) (old new : S) : Type 0 where
   pub events : List LogEvent
@@ -62,9 +62,9 @@ pub record FollowsSpace {S : Type 0} (tables : spaces.Ghosts S) (salt : List ℕ
       → (a : Airspace) → IsContent tables.holds old a
       → ∥ IsContent tables.holds new (airspace_of salt a events) ∥₁
 
--- States that a log went on by some events, and that the calls of its entries were made over the
+-- States that a log went on by some events, and that the acts of its entries were done over the
 -- airspace that the files represented. The files, also without their log, represent in format 2 the
--- airspace after these calls. This applies as long as the disk returned what was written.
+-- airspace after these acts. This applies as long as the disk returned what was written.
 pub record FollowsFiles {D : Type 0} (g : disk.Ghosts D) (image : Image) (salt : List ℕ)
     (past now : Option (List LogEvent)) (files : Files D) : Type 0 where
   pub events : List LogEvent

@@ -18,10 +18,10 @@ use dss_command::fault::Fault;
 use dss_command::pool_fault::PoolFault;
 use entity_core::salt::Salt;
 use pool_core::log::Log;
+use pool_core::log_io::LogIo;
 use pool_follow::follow::{Waiting, follow as follow_log};
 use pool_follow::follow_fault::FollowFault;
 use pool_follow::follower::Follower;
-use pool_instance::log_io::LogIo;
 use service_calls::service::Service;
 use space_core::space::Space;
 use space_memory::memory::MemorySpace;
@@ -76,8 +76,8 @@ fn followed_with_mirror<A: Alter + Drop, L: Log + Drop, I: LogIo<L>, W: Waiting>
 
 /// Follows a log with the database in the file of that name, and closes it. Returns the log.
 ///
-/// The service makes the calls of the entries that the log gives, with this salt, up to an end that
-/// the log is asked for. After a fault the database may have only some of the calls.
+/// The service does the acts of the entries that the log gives, with this salt, up to an end that
+/// the log is asked for. After a fault the database may have only some of the acts.
 pub fn follow<F: Start, L: Log + Drop, I: LogIo<L>, W: Waiting>(
     rt: &HostRuntime,
     name: &str,

@@ -15,6 +15,7 @@ returns-clause-some c =
         name = c.in_ok-name_in.ensures.some;
         etcd_user = sym (c.get_str-2.ensures ∙ first_value-rows f (codes "etcd-user"));
         files = sym (c.get_str-3.ensures ∙ first_value-rows f (codes "files"));
+        retention = c.in_ok-choice_in.ensures.some;
         listen = listen;
         max_connections = c.in_ok-number_or.ensures.some;
         admin_port = c.in_ok-admin_in.ensures.some;
@@ -49,3 +50,8 @@ pub returns-in_err-admin_in-clause-none : goal.returns-in_err-admin_in-clause-no
 returns-in_err-admin_in-clause-none c =
     let f = found_of c.args.matches.now in
     anyway _ (NoPool (rows_of f)) (λ given has. c.in_err-admin_in.ensures.none given.admin_port has.admin_port)
+
+pub returns-in_err-choice_in-clause-none : goal.returns-in_err-choice_in-clause-none
+returns-in_err-choice_in-clause-none c =
+    let f = found_of c.args.matches.now in
+    anyway _ (NoPool (rows_of f)) (λ given has. c.in_err-choice_in.ensures.none given.retention has.retention)
