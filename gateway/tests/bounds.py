@@ -277,9 +277,10 @@ def connections_beyond_the_bound_wait(files, program):
         time.sleep(2)
         sockets = [os.readlink(it) for it in pathlib.Path(f"/proc/{place.gateway.process.pid}/fd").iterdir() if it.is_symlink()]
         assert sum(it.startswith("socket:") for it in sockets) <= 22, sockets
+        began, token = time.time(), files.token("uss-a", STRATEGIC)
         threading.Timer(1.5, lambda: [it.close() for it in silent]).start()
-        spent = seconds_of(lambda: expect(place.gateway.ask(files.token("uss-a", STRATEGIC), "GET", PATH), 200))
-        assert 1 < spent < 20, spent
+        expect(place.gateway.ask(token, "GET", PATH), 200)
+        assert 1 < time.time() - began < 20, time.time() - began
     # If few connections are left, silent ones get less time.
     with over_tables(files, program, "--connections", "100") as place:
         began = time.time()
@@ -293,9 +294,13 @@ def descriptors_that_are_used_up(files, program):
     """1,100 connections to a gateway with at most 256 descriptors: it lives, idles, and answers when they are closed."""
     with over_tables(files, program, prepare=lambda: resource.setrlimit(resource.RLIMIT_NOFILE, (256, 256))) as place:
         silent = [open_to(place.gateway) for _ in range(1_100)]
-        before = processor_seconds(place.gateway)
-        time.sleep(2)
-        assert processor_seconds(place.gateway) - before < 0.5
+        # A busy machine may still take the connections.
+        spent = []
+        while len(spent) < 5 and (not spent or spent[-1] >= 0.5):
+            before = processor_seconds(place.gateway)
+            time.sleep(2)
+            spent.append(processor_seconds(place.gateway) - before)
+        assert spent[-1] < 0.5, spent
         [it.close() for it in silent]
         expect(place.gateway.ask(files.token("uss-a", STRATEGIC), "GET", PATH), 200)
 

@@ -130,8 +130,9 @@ class Gateway:
         return alive and self.process.returncode == 0
 
     def lines(self):
-        self.log.seek(0)
-        return self.log.read()
+        """Returns its log. The gateway writes where the file stands, so this reads without a seek."""
+        log = self.log.fileno()
+        return os.pread(log, os.fstat(log).st_size, 0).decode(errors="replace")
 
     def ask(self, token, method, path, body=None, headers=None):
         connection = http.client.HTTPConnection("127.0.0.1", self.port, timeout=300)

@@ -151,8 +151,9 @@ def bounds_are_kept(gateway):
         seconds = [sum(first <= it < first + 1 for it in proxy.times) for first in proxy.times]
         # Requests that arrive slightly late fall into the next second.
         assert max(seconds) <= 70, max(seconds)
+        # As above, a run makes more than 150 requests. A busy machine may take seconds before the first check.
         began = time.monotonic()
-        held, proxy = place.over(None, "--seconds", "1", rate="30")
+        held, proxy = place.over(None, "--seconds", "5", rate="30")
         assert held.status == 1 and "the limit of --seconds is reached" in held.text and time.monotonic() - began < 60, held
         assert place.left() == []
 

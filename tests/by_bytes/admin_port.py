@@ -10,7 +10,7 @@ import time
 import wire
 from failing_files import Failing
 from many_clients import reset
-from client_timeouts import FIRST, stored_intents
+from client_timeouts import FIRST, SENDING, stored_intents
 from lateness import again, exceeded
 from ports import free_port
 from program import BUILT, SECONDS, TOP, run
@@ -417,6 +417,7 @@ def many():
             # It accepts them all at once, so that none has been idle for long before the last one comes.
             with started.paused():
                 held = [stack.enter_context(started.operator()) for _ in range(MOST)]
+            connected = time.monotonic()
             started.until_read(held[-1])
             time.sleep(IDLE)
             for at, connection in enumerate(held):
@@ -430,7 +431,11 @@ def many():
             found += difference("the first one", until_closed(held[0]), b"")
             held[1].sendall(HEALTH)
             found += difference("the second one", until_closed(held[1]), said(200, SERVING))
+        # The service closes those that send nothing for this long.
+        if late := exceeded(time.monotonic() - connected, FIRST - 1, "those that were silent"):
+            return late
         with contextlib.ExitStack() as stack:
+            connected = time.monotonic()
             held = begun(started, stack, MOST)
             with started.operator() as late:
                 late.sendall(HEALTH)
@@ -439,7 +444,8 @@ def many():
             for at, connection in enumerate(held):
                 connection.sendall(HEALTH[9:])
                 found += difference(f"operator {at}", until_closed(connection), said(200, SERVING))
-    return found
+        # The service also closes those that take this long for a request.
+        return exceeded(time.monotonic() - connected, SENDING - 1, "those that had begun") or found
 
 
 def without_port():
@@ -580,7 +586,7 @@ CASES = {
     "admin-port-last-responses": again(closes_after_its_stop),
     "admin-port-ends-it-in-time": again(ends_with_others),
     "admin-port-of-a-broken-service": broken,
-    "admin-port-with-many": many,
+    "admin-port-with-many": again(many),
     "admin-port-in-use": without_port,
     "another-address": elsewhere,
     "ipv6-address": over_ipv6,

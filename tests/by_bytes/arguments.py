@@ -102,6 +102,7 @@ def followed(endpoints, name):
 
 
 FOLLOWING = followed("127.0.0.1:1", "a")
+BEGINNING = ["begin", "--tokens", "t", "--db", "d", "--files", "f"]
 
 
 COMMAND_LINES = (
@@ -175,18 +176,19 @@ COMMAND_LINES = (
     # An instance of a pool.
     *((pooled(endpoints, "a"), 1, "dss: tokens: cannot read") for endpoints in ENDPOINTS),
     *((pooled("127.0.0.1:1", name), 1, "dss: tokens: cannot read") for name in INSTANCES),
-    *(([*IN_POOL, *it], 1, "dss: tokens: cannot read") for it in (["--etcd-user", "f"], ["--files", "f"], ["--explain", "--verbose"], ["--admin-port=2", "--access-log=l"], ["--max-connections=1", "--listen=::1"])),
+    *(([*IN_POOL, *it], 1, "dss: tokens: cannot read") for it in (["--etcd-user", "f"], ["--files", "f"], ["--retention", "1"], ["--retention=253402300799"], ["--explain", "--verbose"], ["--admin-port=2", "--access-log=l"], ["--max-connections=1", "--listen=::1"])),
     *((pooled(text, "a"), 2, f'error: --pool {text}: "{part}" is no IP address with a port') for text, part in NO_ENDPOINTS),
     *((pooled("127.0.0.1:1", text), 2, f"error: --as {text}: no name of an instance") for text in NO_INSTANCES),
     *(
         ([*IN_POOL, *it], 2, f"error: {it[0]} cannot be used with --pool")
-        for it in (["--db", "d"], ["--count", "1"], ["--quota", "1"], ["--retention", "1"], ["--response-memory", "1"], ["--backup-dir", "f"], ["--double-sync"])
+        for it in (["--db", "d"], ["--count", "1"], ["--quota", "1"], ["--response-memory", "1"], ["--backup-dir", "f"], ["--double-sync"])
     ),
     *(([*serving("1", "1"), *it], 2, f"error: {it[0]} without --pool") for it in (["--as", "a"], ["--etcd-user", "f"], ["--files", "f"])),
     (["serve", "--tokens", "t", "--port", "1", "--as", "a"], 2, "error: --as without --pool"),
     (["serve", "--tokens", "t", "--port", "1", "--pool", "127.0.0.1:1"], 2, "error: --as is missing"),
     (["serve", "--tokens", "t", "--pool", "127.0.0.1:1", "--as", "a"], 2, "error: --port is missing"),
     (["serve", "--pool", "127.0.0.1:1", "--as", "a", "--port", "1"], 2, "--tokens <FILE>"),
+    *(([*IN_POOL, "--retention", keep], 2, "") for keep in ("0", "253402300800", "", "30d")),
     ([*IN_POOL, "--listen", "l"], 2, "error: --listen l: no IP address"),
     ([*IN_POOL, "--admin-port", "0"], 2, "error: --admin-port 0: no port"),
     *(([*IN_POOL, *it], 2, "") for it in (["--pool", "127.0.0.1:1"], ["--as", "b"], ["--etcd-user"], ["--etcd-user", "f", "--etcd-user", "g"], ["--files"], ["--files", "f", "--files", "g"])),
@@ -206,6 +208,14 @@ COMMAND_LINES = (
     (FOLLOWING[:-1], 2, "--as <NAME>"),
     *(([*FOLLOWING, *it], 2, "") for it in (["--pool", "127.0.0.1:1"], ["--as", "b"], ["--files", "g"], ["--tokens", "u"], ["--etcd-user"], ["f"])),
     *(([*FOLLOWING, *it], 2, it[0]) for it in (["--db", "d"], ["--port", "1"], ["--now", "0"], ["--explain"])),
+    # The command with which a pool begins.
+    *(([*BEGINNING, *it], 1, "dss: tokens: cannot read") for it in ([], ["--verbose"])),
+    (["begin"], 2, "--tokens <FILE>"),
+    (["begin", *BEGINNING[3:]], 2, "--tokens <FILE>"),
+    ([*BEGINNING[:3], *BEGINNING[5:]], 2, "--db <FILE>"),
+    (BEGINNING[:-2], 2, "--files <DIR>"),
+    *(([*BEGINNING, *it], 2, "") for it in (["--tokens", "u"], ["--db", "e"], ["--files", "g"], ["--files"], ["--verbose", "--verbose"], ["--verbose=true"], ["f"])),
+    *(([*BEGINNING, *it], 2, it[0]) for it in (["--pool", "127.0.0.1:1"], ["--as", "a"], ["--etcd-user", "u"], ["--port", "1"], ["--now", "0"])),
     (["self", *RUN[1:], "0", "-"], 0, ""),
     (["self", *RUN[1:], "253402300799", "-"], 0, ""),
     *((["self", *RUN[1:], now, "-"], 2, "") for now in ("253402300800", "-1", "")),

@@ -11,7 +11,7 @@ from serving import words
 from sockets import difference
 
 # The intents in the database, each with a subscription, and how many megabytes a start gets: too few for all rows.
-STORED, MEGABYTES = 10_000, 40
+STORED, MEGABYTES = 10_000, 42
 AHEAD = 4_000_000_000
 CELL = ("89c25904", 288901920, 288901920)
 ID = "{:08x}-0000-4000-8000-000000000000".format

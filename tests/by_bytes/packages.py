@@ -34,7 +34,7 @@ PATHS = {
 # Names in pages that the package does not contain: files of the repository and of other projects.
 ELSEWHERE = re.compile(r"(\.\./)?(qualify|release|crates|tests|gateway/|bench/)|test$|tests/|[\w./]*\.(rattle|c|go)$")
 OF_OTHERS = {"usr/bin/dss-gateway", "usr/share/man/man1/dss-gateway.1.gz", "usr/lib/dss"}
-COMMANDS = "run", "serve", "follow", "report", "purge", "backup", "verify", "upgrade", "tokens"
+COMMANDS = "run", "serve", "begin", "follow", "report", "purge", "backup", "verify", "upgrade", "tokens"
 # Starts that fail after so many seconds must stop trying: for a small database, and for one whose cells fill the memory of
 # the unit, at 600 bytes and 15 microseconds each.
 SLOW_STARTS = 12, 15e-6 * (4 << 30) / 600
@@ -93,7 +93,7 @@ def options(root):
     said, found, seen = {}, [], 0
     for place, text in texts:
         for line in re.findall(r"(?m)^(?:    |ExecStart=|CMD |\./).*$", text.replace('", "', " ").replace('["', "/dss ")):
-            for command, words in re.findall(r"\bdss (run|serve|report|purge|upgrade|backup|verify|self|tokens) ([^|>&]*)", line):
+            for command, words in re.findall(r"\bdss (run|serve|begin|follow|report|purge|upgrade|backup|verify|self|tokens) ([^|>&]*)", line):
                 if command not in said:
                     said[command] = run([str(root / "usr/bin/dss"), command, "--help"])[1].decode()
                 asked = re.findall(r"(?<!\S)\[?(--[\w-]+)", words)

@@ -144,7 +144,7 @@ def once_a_minute():
         found = difference("at the start", started.wait(first)[PURGED], f"{first}")
         purged = time.monotonic()
         now = int(time.time())
-        puts = [put_intent(ID(7_000 + it), "tok-a", 100 + 10 * it, [(now - 10, now + (3 if it < 3 else 900))]) for it in range(4)]
+        puts = [put_intent(ID(7_000 + it), "tok-a", 100 + 10 * it, [(now - 10, now + (15 if it < 3 else 900))]) for it in range(4)]
         puts = [wire.request(method, target, f"Bearer {token}", wire.compact(body).encode()) for method, target, token, body in puts]
         found += difference("creations", {it[:12] for it in started.ask(puts)}, {b"HTTP/1.1 201"})
         reading = wire.request("GET", f"{wire.INTENTS}/{ID(7_000)}", "Bearer tok-a")

@@ -11,12 +11,15 @@ import urllib.request
 import drawn_calls
 import wire
 from client import AHEAD, Client
-from doors import Exchange, Pool
+from doors import LATE, LIMIT, SOONEST, Exchange, Pool, answer, create, until
 from ports import free_port
 from real_etcd import Cluster
 
 TOKENS = drawn_calls.ALL_TOKENS
+SETTINGS = "dss: pool: settings: the pool has another salt, policy or beginning; use its salt, version and files"
 READ = ("GET", f"{wire.AVAILABILITY}/uss-n", "Bearer tok-v", None)
+# A few calls of a healthy pool may have no response, if its machine stands still for seconds: one of so many.
+FEW = 20
 
 
 def intent_body(index):
@@ -39,6 +42,8 @@ class Judge:
 
     def __init__(self, pool, seed):
         self.pool, self.client, self.random = pool, Client(seed), random.Random(seed)
+        # The calls without a response that did not wait for the log.
+        self.hasty = 0
 
     def calls(self, count, doors=None):
         """Makes calls. Returns how many had a response."""
@@ -46,18 +51,17 @@ class Judge:
         for it in range(count):
             door = self.random.choice(doors or self.pool.doors)
             call = drawn_calls.Drawn(self.client.draw, self.client.airspace, AHEAD).call()
-            answered += bool(self.client.ask(door.connect, call))
+            began = time.monotonic()
+            if self.client.ask(door.connect, call):
+                answered += 1
+            else:
+                self.hasty += time.monotonic() - began < SOONEST
         return answered
 
     def mark_all(self):
         """Reads at each door; each must know all that was acknowledged."""
         for door in self.pool.doors:
-            for _ in range(20):
-                if self.client.ask(door.connect, READ):
-                    break
-                time.sleep(0.5)
-            else:
-                raise AssertionError(f"{door.name} does not answer: {door.lines[-5:]}")
+            until(lambda: self.client.ask(door.connect, READ), lambda: f"{door.name} does not answer: {door.lines[-5:]}")
 
 
 def with_pool(case, members=3):
@@ -78,10 +82,9 @@ def with_pool(case, members=3):
 def one_service(pool):
     """1,500 drawn calls over all doors have exactly the responses of one service."""
     judge = Judge(pool, 7)
-    answered = judge.calls(1_500)
+    lacking = 1_500 - judge.calls(1_500)
     judge.mark_all()
-    if answered < 1_500:
-        raise AssertionError(f"{1_500 - answered} calls without a response: {judge.client.answers}")
+    assert not judge.hasty and lacking * FEW <= 1_500, (lacking, judge.hasty, judge.client.answers)
 
 
 def killed_instance(pool):
@@ -118,17 +121,17 @@ def killed_in_flight(pool):
     for it in writers:
         it.start()
     time.sleep(2)
+    until(lambda: len(acknowledged) > 20 or errors, lambda: f"{len(acknowledged)} are acknowledged")
     pool.doors[0].kill()
     stop.set()
     for it in writers:
         it.join()
     assert not errors, errors[:3]
-    assert len(acknowledged) > 20, len(acknowledged)
     pool.doors[0].start()
     pool.ready()
     for door in pool.doors:
         way = Exchange(door)
-        lost = [it for it in acknowledged if way.ask(get(it))[0] != 200]
+        lost = [it for it in acknowledged if answer(door, get(it), way)[0] != 200]
         assert not lost, f"{door.name} lost {len(lost)} of {len(acknowledged)}"
 
 
@@ -140,11 +143,9 @@ def clients_of_one_uss(pool):
         way = Exchange(pool.doors[0])
         for index in range(first, first + 20):
             try:
-                status, body = way.ask(put(index))
-            except OSError as error:
-                status, body = "no response", error
-            if status != 201:
-                errors.append((index, status, body))
+                create(pool.doors[0], put(index), way)
+            except (OSError, AssertionError) as error:
+                errors.append((index, error))
                 break
         way.close()
     writers = [threading.Thread(target=writer, args=(2_000_000 + 100 * it,)) for it in range(64)]
@@ -178,16 +179,14 @@ def frozen_instance(pool):
         frozen = pool.doors[it]
         frozen.freeze()
         judge.calls(60, [door for door in pool.doors if door is not frozen])
-        waiting = frozen.connect()
-        waiting.sendall(wire.request(*READ))
-        judge.client.mark(pool.doors[(it + 1) % 3].connect)
-        wanted = judge.client.airspace.ask(*READ)
+        waiting = Exchange(frozen)
+        waiting.send(READ)
+        judge.client.reached([pool.doors[(it + 1) % 3].connect], LIMIT)
+        wanted = [(200, one.airspace.ask(*READ).body.encode()) for one in judge.client.candidates]
         frozen.go_on()
-        came = b""
-        while wanted.body.encode() not in came:
-            piece = waiting.recv(1 << 16)
-            assert piece, (came, wanted.body)
-            came += piece
+        got = waiting.receive()
+        assert got in wanted or got in LATE, (got, wanted)
+        assert answer(frozen, READ, waiting) in wanted, wanted
         waiting.close()
         judge.mark_all()
 
@@ -198,26 +197,26 @@ def without_majority(pool):
     judge.calls(30)
     for it in (0, 1):
         pool.cluster.stop(it)
-    time.sleep(0.2)
     door = pool.doors[2]
     began = time.monotonic()
     got = Exchange(door).ask(READ)
     took = time.monotonic() - began
-    assert got == (503, b'{"message":"unreachable"}'), got
-    assert took < 5, took
+    assert got == wire.UNREACHABLE, got
+    assert took < 9, took
     denied = Exchange(door).ask(("GET", f"{wire.AVAILABILITY}/uss-n", "Bearer nobody", None))
     assert denied[0] == 401, denied
     began = time.monotonic()
     got = Exchange(door).ask(put(77))
     took = time.monotonic() - began
-    assert got[0] == 503 and took < 14, (got, took)
+    assert got in LATE and took < 20, (got, took)
     for it in (0, 1):
         pool.cluster.go_on(it)
     pool.cluster.await_leader()
     pool.ready()
-    # what was sent may have been done, at any time until now
-    found = {Exchange(it).ask(get(77))[0] for it in pool.doors}
-    assert len(found) == 1, found
+    # what was sent may be done at any time until the next change of the instance is
+    create(door, put(76))
+    found = {answer(it, get(77))[0] for it in pool.doors}
+    assert len(found) == 1 and (got == wire.UNKNOWN or found == {404}), (got, found)
 
 
 def second_process(pool):
@@ -225,21 +224,21 @@ def second_process(pool):
     first = pool.doors[0]
     second = pool.add(first.name, TOKENS, file="second")
     pool.ready()
-    assert Exchange(second).ask(put(78))[0] == 201
+    create(second, put(78))
     got = Exchange(first).ask(put(79))
     assert got[0] == 503, got
     ended = first.end()
     assert ended == (1, "dss: pool: replaced: another process writes under this name; stop one of them"), ended
-    assert Exchange(second).ask(get(79))[0] == 404
+    assert answer(second, get(79))[0] == 404
 
 
 def other_salt(pool):
     """An instance with another salt than the pool's ends, and the pool goes on."""
-    assert Exchange(pool.doors[0]).ask(put(80))[0] == 201
+    create(pool.doors[0], put(80))
     stranger = pool.add("i9", TOKENS, salt="another")
     ended = stranger.end()
-    assert ended == (1, "dss: pool: settings: the pool has another salt or policy; use its salt and its version"), ended
-    assert Exchange(pool.doors[1]).ask(get(80))[0] == 200
+    assert ended == (1, SETTINGS), ended
+    assert answer(pool.doors[1], get(80))[0] == 200
 
 
 def token_reload(pool):
@@ -254,12 +253,12 @@ def token_reload(pool):
     write({**TOKENS, "tok-new": ("uss-new", {wire.STRATEGIC})})
     until(lambda: Exchange(door).ask(call)[0] == 200, "the token is not loaded")
     assert Exchange(pool.doors[1]).ask(call)[0] == 401
-    assert Exchange(door).ask(put(81, "tok-new"))[0] == 201
-    assert Exchange(pool.doors[1]).ask(get(81))[0] == 200
+    create(door, put(81, "tok-new"))
+    assert answer(pool.doors[1], get(81))[0] == 200
     write(TOKENS, "another")
     line = "dss: tokens: not reloaded: the salt changed; restart to apply it"
     until(lambda: line in door.lines, "the other salt is not reported")
-    assert Exchange(door).ask(call)[0] == 200
+    assert answer(door, call)[0] == 200
 
 
 def access_log(pool):
@@ -269,8 +268,12 @@ def access_log(pool):
     pool.ready([door])
     way, wanted = Exchange(door), []
     for call, status in ((put(82), 201), (put(82), 409), (get(82), 200), (get(82, "nobody"), 401), (get(83), 404)):
-        assert way.ask(call)[0] == status, (call, status)
-        wanted.append(status)
+        # etcd may not answer in time: then the call is repeated, and a change may have been made already
+        for _ in range(10):
+            wanted.append(way.patient(call)[0])
+            if wanted[-1] != 503:
+                break
+        assert wanted[-1] in (status, 409 if 503 in wanted else status), (call, status, wanted)
     for it in (0, 1):
         pool.cluster.stop(it)
     got = way.ask(READ)
@@ -280,11 +283,11 @@ def access_log(pool):
         pool.cluster.go_on(it)
 
     def statuses():
-        """Returns the statuses in the lines of the last connection."""
-        lines = [re.search(r" connection=(\d+) .* status=(\d+) ", it) for it in log.read_text().splitlines()]
+        """Returns the statuses in the whole lines of the last connection."""
+        lines = [re.search(r" connection=(\d+) .* status=(\d+) ", it) for it in log.read_text().split("\n")[:-1]]
         last = max(int(it[1]) for it in lines)
         return [int(it[2]) for it in lines if int(it[1]) == last]
-    until(lambda: len(statuses()) >= len(wanted), f"lines are missing: {log.read_text()}")
+    until(lambda: len(statuses()) >= len(wanted), lambda: f"lines are missing: {log.read_text()}")
     assert statuses() == wanted, statuses()
 
 
@@ -294,10 +297,21 @@ def admin(port, path, method="GET"):
     if method == "POST":
         request.add_header("X-Dss-Admin", "1")
     try:
-        with urllib.request.urlopen(request, timeout=30) as answer:
-            return answer.status, answer.read().decode()
+        with urllib.request.urlopen(request, timeout=LIMIT) as got:
+            return got.status, got.read().decode()
     except urllib.error.HTTPError as error:
         return error.code, error.read().decode()
+
+
+def metric(port, name):
+    status, body = admin(port, "/metrics")
+    assert status == 200, body
+    return next(float(it.split()[1]) for it in body.splitlines() if it.startswith(f"{name} "))
+
+
+def until_serving(port):
+    """Waits until an instance has read the log up to its own start. It may answer a read before."""
+    until(lambda: admin(port, "/health") == (200, "serving\n"), lambda: admin(port, "/health"))
 
 
 def admin_port(pool):
@@ -305,9 +319,9 @@ def admin_port(pool):
     port = free_port()
     door = pool.add("operated", TOKENS, options=("--admin-port", port))
     pool.ready([door])
-    assert admin(port, "/health") == (200, "serving\n"), admin(port, "/health")
-    assert Exchange(pool.doors[0]).ask(put(84))[0] == 201
-    assert Exchange(door).ask(get(84))[0] == 200
+    until_serving(port)
+    create(pool.doors[0], put(84))
+    assert answer(door, get(84))[0] == 200
     page = json.loads(admin(port, "/airspace")[1])
     ids = [it["operational_intent_reference"]["id"] for it in page["entities"]]
     assert ids == ["00000000-0000-4000-8000-000000000054"], page
@@ -323,9 +337,8 @@ def stopped(pool):
     for it in (0, 1):
         pool.cluster.stop(it)
     way = Exchange(door)
-    way.connection, way.left = door.connect(), 1
-    way.connection.sendall(wire.request(*put(85)))
-    time.sleep(0.5)
+    way.send(put(85))
+    until(lambda: metric(port, "dss_pool_requests_waiting") == 1, "the request does not wait")
     began = time.monotonic()
     assert admin(port, "/stop", "POST") == (200, "stopping\n")
     got = way.receive()
@@ -349,7 +362,7 @@ def user(pool):
     file.write_text("one:secret:1\n")
     one = pool.add("one", TOKENS, options=("--etcd-user", file))
     pool.ready([one])
-    assert Exchange(one).ask(put(86))[0] == 201
+    create(one, put(86))
     without = pool.add("two", TOKENS)
     until(lambda: any(re.fullmatch(r"dss: etcd: [0-9.:]+: status 4[0-9]+; trying the next address", it) for it in without.lines), "no fault of etcd is printed")
     for text, why in (("one\n", "its file is not one line NAME:PASSWORD"), ("one:a\ntwo:b\n", "its file is not one line NAME:PASSWORD")):
@@ -359,14 +372,6 @@ def user(pool):
     file.unlink()
     status, lines = pool.fails("three", TOKENS, options=("--etcd-user", file))
     assert (status, lines) == (1, ["dss: pool: etcd user: cannot read its file"]), (status, lines)
-
-
-def until(holds, why, limit=60):
-    end = time.monotonic() + limit
-    while not holds():
-        if time.monotonic() > end:
-            raise AssertionError(why)
-        time.sleep(0.05)
 
 
 CASES = {

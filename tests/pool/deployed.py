@@ -9,13 +9,13 @@ import pathlib
 import shlex
 import shutil
 import signal
-import socket
 import ssl
 import subprocess
 import tempfile
 import time
 import traceback
 
+import drawn_calls
 import history
 import wire
 from cases import get, put
@@ -78,6 +78,7 @@ def users(sites):
     asked = lambda key, who: status_of(site, "/v3/kv/put", {"key": code(key), "value": code("no entry")}, who)
     same([200, 403, 403, 403, 400], [asked("in/a2", token), asked("in/a", token), asked("in/", token), asked("x", token), asked("in/a2", None)],
          "who may write")
+    same([403, 403], [asked("in/@suppliers", token), status_of(site, "/v3/kv/deleterange", {"key": code("in/@suppliers")}, token)], "who may write the list")
     read = lambda first, end, who: status_of(site, "/v3/kv/range", {"key": code(first), "range_end": code(end)}, who)
     same([200, 403, 403, 400], [read("in/", "in0", token), read("in/", "io", token), read("a", "b", token), read("in/", "in0", None)],
          "who may read")
@@ -87,6 +88,29 @@ def users(sites):
     same(True, speaks_tls(other, site.address, other.own), "members speak")
     same(False, speaks_tls(other, site.address), "a stranger speaks to a member")
     same("0o600", oct((sites.room / "users" / "a.user").stat().st_mode & 0o777), "the mode of the user's file")
+
+
+def listed(sites):
+    """The script puts the supplier list as root, and shows it to an instance's user. The organizations of the list serve its USSs."""
+    site, folder = sites.sites[0], sites.room / "users"
+    if not (site.own / f"{SECOND}.user").exists():
+        later_users(sites)
+    words = ["nsenter", "-t", site.network.pid, "-n", "env", "-C", folder]
+    file, tokens = folder / "suppliers.txt", drawn_calls.ALL_TOKENS
+    file.write_text("".join(f"{it.name} {uss}\n" for it in sites.sites for uss in sorted({uss for uss, _ in tokens.values()})))
+    said = command(*words, DEPLOY / "suppliers", file)
+    same(sorted(f"added: {it}" for it in file.read_text().splitlines()), sorted(said.splitlines()), "what the script added")
+    same(file.read_text(), command(*words, f"ETCD_USER={site.own / SECOND}.user", DEPLOY / "suppliers", "--show"), "the list in force")
+    (folder / "others.txt").write_text("a uss-x\n")
+    for given in ("others.txt",), ("--everyone",):
+        with contextlib.suppress(OSError):
+            command(*words, f"ETCD_USER={site.own / SECOND}.user", DEPLOY / "suppliers", *given)
+            raise Failed(f"suppliers {given} succeeded as {SECOND}")
+    for it in sites.sites:
+        until(lambda: asks(it, put(2_900 + NAMES.index(it.name)))[0] == 201, "a change with the list", BACK)
+    all_read(sites.sites, 2_900)
+    command(*words, DEPLOY / "suppliers", "--everyone")
+    same("", command(*words, DEPLOY / "suppliers", "--show"), "the empty list")
 
 
 def later_users(sites):
@@ -676,7 +700,7 @@ def planted(_sites):
         raise AssertionError("accepted: a call twice")
 
 
-ALONE, OVER_SITES = (planted, alerts, unit), (metrics, later_users, users, stopped, proxy, proxy_by_read, replaced_member, restored_log, lost_majority, files, restored_files, left)
+ALONE, OVER_SITES = (planted, alerts, unit), (metrics, later_users, users, listed, stopped, proxy, proxy_by_read, replaced_member, restored_log, lost_majority, files, restored_files, left)
 
 
 def run(only=()):

@@ -1,6 +1,7 @@
 """Instances of a pool over members of etcd on this machine: `dss serve --pool`."""
 import os
 import pathlib
+import re
 import signal
 import socket
 import subprocess
@@ -10,10 +11,16 @@ import time
 import wire
 from freezing import freeze
 from ports import free_port
-from program import BUILT, DSS
+from program import BUILT, DSS, SECONDS
 
 PROGRAM = os.environ.get("TEST_POOL_DSS") or BUILT
-LIMIT = 60
+# A limit for what happens soon. It is far above what a busy machine takes.
+LIMIT = SECONDS
+LATE = (wire.UNKNOWN, wire.UNREACHABLE)
+# An instance waits 2 seconds for etcd before one of these. A response that comes sooner than this is wrong.
+SOONEST = 1
+# What a process prints if an address of etcd is late, or its cluster has no leader for a moment.
+FAULT_OF_ETCD = re.compile(r"dss: etcd: [0-9.:]+: (time limit|watch behind|watch ended|status 5[0-9][0-9]); trying the next address\n")
 
 
 def lacking():
@@ -27,17 +34,22 @@ def lacking():
 class Door:
     """An instance, which listens on a port."""
 
-    def __init__(self, room, addresses, name, tokens, salt=wire.SALT, file=None, options=()):
+    def __init__(self, room, addresses, name, tokens, salt=wire.SALT, file=None, options=(), environment=None):
         self.addresses, self.name, self.options, self.port = addresses, name, options, free_port()
+        self.environment = {**os.environ, **(environment or {})}
         self.file, self.lines = pathlib.Path(room) / f"{file or name}.toml", []
         self.file.write_text(wire.token_file(tokens, salt))
         self.start()
 
+    def words(self):
+        """Returns how it serves, without its tokens, its port and its options."""
+        return ["--pool", self.addresses, "--as", self.name]
+
     def start(self):
-        words = [PROGRAM, "serve", "--tokens", self.file, "--pool", self.addresses, "--as", self.name, "--port", self.port]
+        words = [PROGRAM, "serve", "--tokens", self.file, *self.words(), "--port", self.port]
         words = [*map(str, words), *map(str, self.options)]
         self.process = subprocess.Popen(
-            words, stdin=subprocess.DEVNULL, stdout=subprocess.DEVNULL, stderr=subprocess.PIPE, text=True
+            words, stdin=subprocess.DEVNULL, stdout=subprocess.DEVNULL, stderr=subprocess.PIPE, text=True, env=self.environment
         )
         for line in self.process.stderr:
             self.lines.append(line.rstrip("\n"))
@@ -72,20 +84,53 @@ class Door:
         self.process.send_signal(signal.SIGCONT)
 
 
+class Single(Door):
+    """A service of its own, over a database."""
+
+    def __init__(self, room, database, tokens, **more):
+        self.database = database
+        super().__init__(room, None, "single", tokens, **more)
+
+    def words(self):
+        return ["--db", self.database]
+
+
+def begin(room, database, folder, tokens, salt=wire.SALT, options=(), **more):
+    """Runs `dss begin`, with whose file a pool begins. Returns its status and what it printed."""
+    file = pathlib.Path(room) / "begin.toml"
+    file.write_text(wire.token_file(tokens, salt))
+    words = [PROGRAM, "begin", "--tokens", file, "--db", database, "--files", folder, *options]
+    done = subprocess.run(
+        list(map(str, words)), stdin=subprocess.DEVNULL, capture_output=True, text=True, timeout=LIMIT, **more
+    )
+    return done.returncode, done.stdout, done.stderr
+
+
 class Exchange:
     """A kept connection to a door."""
 
     def __init__(self, door, limit=LIMIT):
         self.door, self.limit, self.connection, self.left = door, limit, None, 0
 
-    def ask(self, call):
-        """Returns the status and the body of a response."""
+    def send(self, call):
         if self.connection is None or not self.left:
             self.close()
             self.connection, self.left = self.door.connect(self.limit), wire.MAX_REQUESTS
         self.left -= 1
         self.connection.sendall(wire.request(*call))
+
+    def ask(self, call):
+        """Returns the status and the body of a response."""
+        self.send(call)
         return self.receive()
+
+    def patient(self, call):
+        """Returns the status and the body of a response. If it is one of `LATE`, the instance has waited for etcd."""
+        began = time.monotonic()
+        got = self.ask(call)
+        took = time.monotonic() - began
+        assert got not in LATE or took >= SOONEST, (self.door.name, call, got, took)
+        return got
 
     def receive(self):
         """Returns the status and the body of the next response."""
@@ -109,16 +154,50 @@ class Exchange:
         self.connection = None
 
 
+def until(holds, why, limit=LIMIT):
+    """Waits until a function returns a true value. `why` returns what is wrong otherwise, or is that."""
+    end = time.monotonic() + limit
+    while not holds():
+        if time.monotonic() > end:
+            raise AssertionError(why() if callable(why) else why)
+        time.sleep(0.05)
+
+
+def answer(door, call, way=None):
+    """Returns the status and the body of the response to a read, which is repeated while etcd does not answer in time."""
+    kept, end = way or Exchange(door), time.monotonic() + LIMIT
+    while (got := kept.patient(call)) in LATE:
+        assert time.monotonic() < end, (door.name, call, got, door.lines[-5:])
+    if not way:
+        kept.close()
+    return got
+
+
+def create(door, call, way=None):
+    """Makes a call that creates something, again while etcd does not answer in time. Raises an error if nothing is created.
+
+    A try of unknown outcome may have created it. Then the next one is refused."""
+    kept, end, status = way or Exchange(door), time.monotonic() + LIMIT, 503
+    refused = 201
+    while status == 503:
+        status, body = kept.patient(call)
+        assert status in (201, refused) or (status, body) in LATE, (door.name, call, status, body)
+        assert time.monotonic() < end, (door.name, call, status, body, door.lines[-5:])
+        refused = 409 if (status, body) == wire.UNKNOWN else refused
+    if not way:
+        kept.close()
+
+
 class Pool:
     """Three instances, each with the members of etcd in another order."""
 
-    def __init__(self, room, cluster, tokens, count=3):
+    def __init__(self, room, cluster, tokens, count=3, named="i{}".format, **more):
         self.room, self.cluster, all_addresses = room, cluster, cluster.addresses().split(",")
         self.doors = []
         for it in range(count):
             turn = it % len(all_addresses)
             own = ",".join(all_addresses[turn:] + all_addresses[:turn])
-            self.doors.append(Door(room, own, f"i{it}", tokens))
+            self.doors.append(Door(room, own, named(it), tokens, **{name: of(it) for name, of in more.items()}))
 
     def add(self, name, tokens, **more):
         """Starts another instance."""
@@ -145,13 +224,13 @@ class Pool:
         return subprocess.Popen(list(map(str, words)), text=True, **pipes, **more)
 
     def follow(self, folder, tokens, **more):
-        """Runs `dss follow`. Returns its status and what it printed."""
+        """Runs `dss follow`. Returns its status and what it printed, without the lines about addresses that were late."""
         process = self.start_follow(folder, tokens, **more)
         try:
             printed, errors = process.communicate(timeout=LIMIT)
         finally:
             process.kill()
-        return process.returncode, printed, errors
+        return process.returncode, printed, FAULT_OF_ETCD.sub("", errors)
 
     def close(self):
         for it in self.doors:

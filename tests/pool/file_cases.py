@@ -1,5 +1,6 @@
 """Cases of the files of a pool: `dss follow` writes them, and an instance starts from the newest one."""
 import base64
+import concurrent.futures
 import contextlib
 import fcntl
 import json
@@ -12,16 +13,15 @@ import signal
 import subprocess
 import time
 
-from cases import TOKENS, Judge, admin, get, put, until, with_pool
-from doors import Exchange
+from cases import SETTINGS, TOKENS, Judge, admin, get, put, with_pool
+from doors import answer, create, until
 from ports import free_port
 
-NAME = re.compile(r"\d{20}-\d{20}\.db")
+NAME = re.compile(r"\d{20}-\d{20}-\d{20}\.db")
 COMPACTED = "dss: pool: compacted: etcd no longer has the entries behind the start; use --files with a newer file"
-SETTINGS = "dss: pool: settings: the pool has another salt or policy; use its salt and its version"
-NO_FILE = "dss: pool: files: the directory has no file of a pool; run dss follow first"
+NO_FILE = "dss: pool: files: the directory has no file REVISION-SETTINGS-BEGINNING.db; run dss follow or dss begin"
 UNUSABLE = "dss: pool: files: cannot read or write the directory; check that it exists, its permissions and its disk"
-BUSY = "dss: pool: files: another dss follow uses the directory; wait until it ends"
+BUSY = "dss: pool: files: another dss follow or dss begin uses the directory; wait until it ends"
 SILENT = "dss: pool: etcd does not answer; check --pool and that a majority of its members runs"
 
 
@@ -66,6 +66,27 @@ def pages(port):
         after = f"?after={found[-1]['next']}"
 
 
+def same_pages(ports):
+    """Waits until two instances hold the same airspace. A call of unknown outcome may be made late."""
+    until(lambda: pages(ports[0]) == pages(ports[1]), "the airspaces differ")
+
+
+class Killer:
+    """Kills processes at any time of their run, some of them before they end."""
+
+    def __init__(self, seed, took):
+        self.draw, self.took, self.killed = random.Random(seed), took, 0
+
+    def kill(self, process):
+        """Kills a process at a drawn time. After one that has ended before, the times are shorter."""
+        with contextlib.suppress(subprocess.TimeoutExpired):
+            process.wait(self.draw.uniform(0, self.took))
+        process.kill()
+        process.communicate()
+        self.killed += process.returncode < 0
+        self.took *= 1 if process.returncode < 0 else 0.9
+
+
 def written(pool):
     """The revision of the newest file grows with the changes, the two newest are kept, and an instance goes on from there."""
     judge, folder = Judge(pool, 23), folder_of(pool)
@@ -92,17 +113,28 @@ def written(pool):
 def idle(pool):
     """Changes without an entry make a new file once they are 1,000, so that etcd can drop them."""
     folder = folder_of(pool)
-    assert Exchange(pool.doors[0]).ask(put(95))[0] == 201
+    create(pool.doors[0], put(95))
     first = followed(pool, folder)
     key, value = (base64.b64encode(it).decode() for it in (b"in/other", b"no entry"))
-    fill = lambda count: [pool.cluster.ask(0, "/v3/kv/put", {"key": key, "value": value}) for _ in range(count)]
+    revisions = [int(first[:20])]
+
+    def change(_):
+        """Makes a change without an entry, if etcd answers."""
+        with contextlib.suppress(OSError):
+            made = pool.cluster.ask(0, "/v3/kv/put", {"key": key, "value": value}, 60)
+            revisions.append(int(made["header"]["revision"]))
+
+    def fill(count):
+        """Makes changes until there are so many since the first file. Several at once share a sync of etcd's disk."""
+        with concurrent.futures.ThreadPoolExecutor(16) as threads:
+            until(lambda: list(threads.map(change, range(16))) and max(revisions) - revisions[0] >= count, "etcd makes no changes")
     fill(900)
     assert followed(pool, folder) == first
-    fill(100)
+    fill(1_000)
     second = followed(pool, folder)
     assert names(folder) == [first, second] and int(second[:20]) - int(first[:20]) >= 1_000, (first, second)
     door = started(pool, "late", folder)
-    assert Exchange(door).ask(get(95))[0] == 200
+    assert answer(door, get(95))[0] == 200
 
 
 def same_airspace(pool):
@@ -116,7 +148,7 @@ def same_airspace(pool):
     pool.add("from-file", TOKENS, options=("--admin-port", ports[1], "--files", folder))
     pool.ready()
     judge.mark_all()
-    assert pages(ports[0]) == pages(ports[1])
+    same_pages(ports)
 
 
 def compacted(pool):
@@ -126,6 +158,7 @@ def compacted(pool):
     first = followed(pool, folder)
     judge.calls(50)
     second = followed(pool, folder)
+    judge.mark_all()
     pool.cluster.control("compaction", str(int(first[:20])))
     judge.calls(50)
     started(pool, "late", folder)
@@ -139,6 +172,7 @@ def compacted(pool):
     judge.mark_all()
     third = followed(pool, folder)
     assert names(folder) == [second, third]
+    judge.mark_all()
     pool.cluster.control("compaction", str(int(third[:20])))
     assert pool.add("too-late", TOKENS, options=("--files", old)).end() == (1, COMPACTED)
     pool.doors.pop()
@@ -162,9 +196,9 @@ def refused(pool):
     status, _, errors = pool.follow(none, TOKENS, options=("--verbose",))
     assert status == 1 and errors.splitlines()[-2] == UNUSABLE, errors
     assert errors.splitlines()[-1].startswith(f"dss: cause: {none}: "), errors
-    assert Exchange(pool.doors[0]).ask(put(90))[0] == 201
+    create(pool.doors[0], put(90))
     first = followed(pool, folder)
-    assert Exchange(pool.doors[0]).ask(put(91))[0] == 201
+    create(pool.doors[0], put(91))
     second = followed(pool, folder)
     # the files are of a pool with another salt
     assert serve(folder, salt="another") == (1, [SETTINGS])
@@ -177,7 +211,7 @@ def refused(pool):
     # what a stopped process left, and files of others
     for name in "next.db", "next.db-wal", "next.db.begun", "other.db", f"{first}.copy":
         (folder / name).write_bytes(b"x" * 9_000)
-    assert Exchange(pool.doors[0]).ask(put(92))[0] == 201
+    create(pool.doors[0], put(92))
     status, printed, errors = pool.follow(folder, TOKENS)
     third = printed.removesuffix("\n")
     assert (status, errors) == (0, "") and names(folder) == [second, third] and third > second, (status, printed, errors)
@@ -190,7 +224,7 @@ def refused(pool):
     assert status == 1 and re.fullmatch(r"dss: db: fault \d+ \w+", lines[-1]), (status, lines)
     (folder / third).unlink()
     door = started(pool, "late", folder)
-    assert [Exchange(door).ask(get(it))[0] for it in (90, 91, 92)] == [200] * 3
+    assert [answer(door, get(it))[0] for it in (90, 91, 92)] == [200] * 3
 
 
 def limited(bytes_per_file):
@@ -224,25 +258,20 @@ def full_disk(pool):
 
 def killed(pool):
     """`follow` is killed at any time. The newest files stay, and the next run goes on."""
-    judge, folder, draw = Judge(pool, 41), folder_of(pool), random.Random(43)
+    judge, folder = Judge(pool, 41), folder_of(pool)
     judge.calls(300)
     followed(pool, folder)
     judge.calls(10)
     began = time.monotonic()
     newest = followed(pool, folder)
-    took, ended = time.monotonic() - began, 0
+    killer = Killer(43, time.monotonic() - began)
     for _ in range(30):
         before = names(folder)
         judge.calls(10)
-        process = pool.start_follow(folder, TOKENS)
-        with contextlib.suppress(subprocess.TimeoutExpired):
-            process.wait(draw.uniform(0, took))
-        process.kill()
-        process.communicate()
-        ended += process.returncode == 0
+        killer.kill(pool.start_follow(folder, TOKENS))
         after = names(folder)
         assert before[-1] in after, (before, after)
-    assert ended < 30, "none was killed"
+    assert killer.killed, "none was killed"
     assert followed(pool, folder) > newest
     started(pool, "late", folder)
     judge.calls(100)
@@ -252,7 +281,7 @@ def killed(pool):
 def silent_log(pool):
     """Without a majority of etcd, `follow` ends within a minute, and the files stay."""
     folder = folder_of(pool)
-    assert Exchange(pool.doors[0]).ask(put(93))[0] == 201
+    create(pool.doors[0], put(93))
     first = followed(pool, folder)
     for it in (0, 1):
         pool.cluster.stop(it)
@@ -260,13 +289,13 @@ def silent_log(pool):
     status, printed, errors = pool.follow(folder, TOKENS)
     took = time.monotonic() - began
     assert (status, printed, errors.splitlines()[-1]) == (1, "", SILENT), (status, printed, errors)
-    assert 25 < took < 45, took
+    assert 25 < took < 60, took
     assert {it.name for it in folder.iterdir()} == {"lock", first}
     for it in (0, 1):
         pool.cluster.go_on(it)
     pool.cluster.await_leader()
     pool.ready()
-    assert Exchange(pool.doors[0]).ask(put(94))[0] == 201
+    create(pool.doors[0], put(94))
     assert followed(pool, folder) > first
 
 

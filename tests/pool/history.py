@@ -15,7 +15,7 @@ MARKS = "smpca"
 SCOPES = (wire.STRATEGIC, wire.MONITORING, wire.PROCESSING, wire.MANAGEMENT, wire.ARBITRATION)
 TOKEN_OF = {(uss, frozenset(scopes)): token for token, (uss, scopes) in drawn_calls.ALL_TOKENS.items()}
 HEADER = b"dss-batch 1\n"
-UNKNOWN, UNREACHABLE = (503, b'{"message":"unknown"}'), (503, b'{"message":"unreachable"}')
+UNKNOWN, UNREACHABLE = wire.UNKNOWN, wire.UNREACHABLE
 # The blanks after a body that number a call.
 DIGITS = 32
 

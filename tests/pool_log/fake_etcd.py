@@ -1,12 +1,13 @@
 """An etcd that breaks off, delays, repeats and answers wrongly on demand.
 
-It serves the JSON gateway of etcd 3.4 as far as a log uses it: put under a condition, range, watch, authenticate and compaction. Its
-faults are planned for the next request of a kind, or drawn."""
+It serves the JSON gateway of etcd 3.4 as far as a log uses it: put under a condition, range, also at a revision, watch, authenticate and
+compaction. Its faults are planned for the next request of a kind, or drawn."""
 import base64
 import json
 import socket
 import threading
 import time
+import urllib.request
 
 PATHS = {"/v3/kv/txn": "put", "/v3/kv/range": "range", "/v3/watch": "watch", "/v3/auth/authenticate": "token"}
 PATHS["/v3/kv/compaction"] = "compact"
@@ -17,8 +18,20 @@ REQUEST_FAULTS = (
     "short", "no http", "plus", "cut in answer",
 )
 WATCH_FAULTS = ("cut", "cut in line", "repeat", "stall", "no json", "no revision", "cancel", "error", "end", "bytes", "join", "chunks")
-# Longer than the client's limit for a request.
-LATE = 2.6
+# Longer than the client's limit for a request, also if the client stands still for some seconds: 2 seconds.
+LATE = 6
+# What etcd says of a range at a revision that it does not have.
+COMPACTED = "etcdserver: mvcc: required revision has been compacted"
+FUTURE = "etcdserver: mvcc: required revision is a future revision"
+OUT_OF_RANGE = 11
+
+
+class Refused(Exception):
+    """A request that etcd answers with status 400."""
+
+    def body(self):
+        why, code = self.args
+        return json.dumps({"error": why, "message": why, "code": code}, separators=(",", ":"))
 
 
 def number(value):
@@ -52,10 +65,13 @@ class Fake:
         self.lock = threading.Condition()
         self.revision, self.compacted = 1, 0
         self.keys, self.changes = {}, []
-        self.plans = {"put": [], "range": [], "token": [], "compact": [], "watch": []}
+        # "past" is a range at a revision.
+        self.plans = {"put": [], "range": [], "past": [], "token": [], "compact": [], "watch": []}
         self.draw, self.rate = draw, rate
         self.users, self.tokens = users or {}, set()
         self.requests, self.closed = [], False
+        # A request with the fault "held" has come, may be answered, and was answered.
+        self.held, self.released, self.answered = threading.Event(), threading.Event(), threading.Event()
         self.listeners = []
         for _ in range(members):
             listener = socket.create_server(("127.0.0.1", 0))
@@ -65,8 +81,16 @@ class Fake:
     def addresses(self):
         return ",".join(f"127.0.0.1:{it.getsockname()[1]}" for it in self.listeners)
 
+    def ask(self, it, path, body, limit=5):
+        """Makes a request to a member, as a client that is not a log."""
+        host, port = self.listeners[it].getsockname()
+        request = urllib.request.Request(f"http://{host}:{port}{path}", json.dumps(body).encode())
+        with urllib.request.urlopen(request, timeout=limit) as answer:
+            return json.load(answer)
+
     def close(self):
         self.closed = True
+        self.released.set()
         for it in self.listeners:
             it.close()
         with self.lock:
@@ -134,10 +158,29 @@ class Fake:
                 result["succeeded"] = True
             return {**result, "responses": answers}
 
+    def keys_at(self, revision):
+        """Returns the keys as they were at a revision, or as they are if it is 0."""
+        if not revision:
+            return self.keys
+        if revision > self.revision:
+            raise Refused(FUTURE, OUT_OF_RANGE)
+        if revision < self.compacted:
+            raise Refused(COMPACTED, OUT_OF_RANGE)
+        found = {}
+        for kind, key in self.changes:
+            if key.changed > revision:
+                break
+            if kind == "PUT":
+                found[key.name] = key
+            else:
+                del found[key.name]
+        return found
+
     def range(self, body, with_header=True):
         with self.lock:
             first, end = plain(body["key"]), plain(body.get("range_end", ""))
-            found = [it for name, it in self.keys.items() if name == first or end and first <= name < end]
+            keys = self.keys_at(int(body.get("revision", 0)))
+            found = [it for name, it in keys.items() if name == first or end and first <= name < end]
             found.sort(key=lambda it: it.changed, reverse=body.get("sort_order") == "DESCEND")
             limit = int(body.get("limit", 0)) or len(found)
             header = self.header() if with_header else {"revision": number(self.revision)}
@@ -163,7 +206,7 @@ class Fake:
             return {"header": self.header()}
         assert kind == "token"
         if self.users.get(body["name"]) != body["password"]:
-            return None
+            raise Refused("etcdserver: authentication failed, invalid user ID or password", 3)
         with self.lock:
             token = f"token.{len(self.tokens)}"
             self.tokens.add(token)
@@ -213,7 +256,7 @@ class Fake:
         if kind == "watch":
             self.watch(conn, body["create_request"])
             return False
-        fault = self.fault(kind)
+        fault = self.fault("past" if "revision" in body else kind) if kind == "range" else self.fault(kind)
         if fault in ("cut before", "503 before", "no http"):
             if fault == "503 before":
                 self.send(conn, 503, '{"error":"etcdserver: request timed out","message":"..","code":14}')
@@ -222,10 +265,16 @@ class Fake:
             return fault == "503 before"
         if fault == "late before":
             time.sleep(LATE)
-        answer = self.answer(kind, body)
-        if answer is None:
-            self.send(conn, 400, '{"error":"etcdserver: authentication failed","message":"..","code":3}')
+        if fault == "held":
+            self.held.set()
+            self.released.wait()
+        try:
+            answer = self.answer(kind, body)
+        except Refused as error:
+            self.send(conn, 400, error.body())
             return True
+        if fault == "held":
+            self.answered.set()
         return self.send_answer(conn, answer, fault)
 
     def send_answer(self, conn, answer, fault):

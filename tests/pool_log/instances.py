@@ -3,19 +3,25 @@ import hashlib
 import itertools
 import os
 import pathlib
+import re
 import subprocess
 import threading
 import time
 
 TOP = pathlib.Path(__file__).resolve().parents[2]
 BUILT = os.environ.get("TEST_POOL_ETCD") or str(TOP / "crates" / "test_pool_etcd" / "out" / "test_pool_etcd")
-LIMIT = 60
+# A limit for what happens soon, in seconds. It is far above what a busy machine takes.
+LIMIT = 120
+# Faults of a machine that stands still for seconds.
+SLOW = ("time limit", "watch behind")
+# A call of a batch, which an entry has in a line of its own.
+CALL = re.compile(r"(\d+) \d+:[\w.-]+ [smpca-]{5} ")
 numbers = itertools.count(int.from_bytes(os.urandom(4), "big") << 16)
 
 
 def settings_number(policy, salt):
     """The number of settings: the first 8 bytes of a digest."""
-    digest = hashlib.sha256(f"dss-settings 1\n{policy}\n{salt}".encode()).digest()
+    digest = hashlib.sha256(f"dss-settings 2\n{policy} 0\n{salt}".encode()).digest()
     return int.from_bytes(digest[:8], "big")
 
 
@@ -73,9 +79,9 @@ class Instance:
         self.told += 1
         self.say(line)
 
-    def settle(self, milliseconds=30_000):
+    def settle(self):
         """Goes on until no batch and no question is open."""
-        said = self.after(f"settle {milliseconds}")
+        said = self.after(f"settle {1000 * LIMIT}", 2 * LIMIT)
         if not said.startswith("done open 0"):
             raise AssertionError(f"{self.name} is not settled: {said}; {self.faults()}")
         return said
@@ -88,6 +94,10 @@ class Instance:
 
     def texts(self):
         return [text for _, text in self.entries()]
+
+    def moments(self):
+        """The moments of the calls of the entries."""
+        return [int(found[1]) for it in list(self.lines) if (found := CALL.match(it))]
 
     def fence(self):
         """The value that it puts before its first entry."""
@@ -104,15 +114,38 @@ class Instance:
     def faults(self):
         return [it[6:] for it in list(self.lines) if it.startswith("fault ")]
 
+    def real_faults(self):
+        """Returns the faults that no machine causes which is only slow."""
+        return [it for it in self.faults() if it not in SLOW]
+
     def lost(self):
         return next((it[5:] for it in list(self.lines) if it.startswith("lost ")), None)
 
-    def until(self, count, milliseconds=30_000):
+    def go_on(self, holds):
+        """Goes on until a function returns a true value, or the process has ended, as it does once the log is lost."""
+        end = time.monotonic() + LIMIT
+        while not holds() and time.monotonic() < end and not self.wait(50).startswith("ended"):
+            pass
+
+    def until(self, count):
         """Goes on until so many entries have come."""
-        end = time.monotonic() + milliseconds / 1000
-        while len(self.entries()) < count and time.monotonic() < end and not self.lost():
-            self.wait(50)
+        self.go_on(lambda: len(self.entries()) >= count)
         return self.entries()
+
+    def until_lost(self):
+        """Goes on until the log is lost. Returns why it is, or None."""
+        self.go_on(lambda: False)
+        return self.lost()
+
+    def until_fault(self, fault):
+        """Goes on until a fault is reported. Returns whether it is."""
+        self.go_on(lambda: fault in self.faults())
+        return fault in self.faults()
+
+    def until_fenced(self):
+        """Goes on until the log has the fence of the instance, or another one before it."""
+        self.say("end")
+        self.settle()
 
     def close(self):
         self.say("quit")

@@ -1,9 +1,8 @@
 """Logs over a fake etcd, which breaks off, delays, repeats and answers wrongly."""
 import random
-import time
 
-from fake_etcd import REQUEST_FAULTS, WATCH_FAULTS, Fake
-from instances import Instance
+from fake_etcd import REQUEST_FAULTS, WATCH_FAULTS, Fake, plain
+from instances import LIMIT, Instance
 
 
 def same(wanted, got, what):
@@ -28,7 +27,7 @@ def batches_in_order():
     fake = Fake()
     one = Instance(fake.addresses(), "a")
     offer_all(one, fake, 20)
-    same([], one.faults(), "faults")
+    same([], one.real_faults(), "faults")
     same(one.fence(), fake.entries()[0], "the fence")
     one.close()
 
@@ -45,6 +44,8 @@ def bodies_of_requests():
     key = "aW4vYQ=="
     put = {"key": key, "value": "%s"}
     bodies = {kind: body for kind, body in fake.requests}
+    # a machine that stands still makes it begin a watch again
+    bodies["watch"] = next(body for kind, body in fake.requests if kind == "watch")
     condition = {"key": key, "target": "MOD", "result": "EQUAL", "mod_revision": "2"}
     value = bodies["put"]["success"][0]["request_put"]["value"]
     put = {"compare": [condition], "success": [{"request_put": {"key": key, "value": value}}]}
@@ -106,16 +107,18 @@ def puts_that_come_late():
     fake = Fake()
     one = Instance(fake.addresses(), "a")
     offer_all(one, fake, 1, "old")
-    fake.plan("put", "late before")
+    fake.plan("put", "held")
     one.offer("late")
     one.begin("wait 1000")
-    time.sleep(0.5)
+    assert fake.held.wait(LIMIT), "the put does not come"
     one.kill()
     two = Instance(fake.addresses(), "a")
     two.offer("new")
     two.settle()
-    two.wait(4_000)
-    same(["old0", "new"], two.texts(), "entries")
+    fake.released.set()
+    assert fake.answered.wait(LIMIT), "the put is not answered"
+    two.wait(500)
+    same(["old0", "new"], two.until(2) and two.texts(), "entries")
     two.close()
 
 
@@ -127,8 +130,7 @@ def two_processes_of_one_name():
     two.offer("y")
     two.settle()
     one.offer("z")
-    one.wait(3_000)
-    same("replaced", one.lost(), "the first process")
+    same("replaced", one.until_lost(), "the first process")
     same("ended 3", one.lines[-1], "its status")
     two.offer("w")
     two.settle()
@@ -220,8 +222,7 @@ def other_settings():
         other = Instance(fake.addresses(), name, **settings)
         other.offer("never")
         other.say("end")
-        other.wait(10_000)
-        same("settings", other.lost(), f"the log of {name}")
+        same("settings", other.until_lost(), f"the log of {name}")
         same("ended 3", other.lines[-1], "its status")
         same([], [it for it in other.lines if it.startswith(("entry ", "end "))], f"what {name} was given")
     alike = Instance(fake.addresses(), "f")
@@ -250,7 +251,7 @@ def settings_of_the_first_fence():
             it.say("end")
             it.begin("wait 2000")
         same(["x", "y"], [it[1] for it in one.until(2)], "entries")
-        other.wait(5_000)
+        other.until_lost()
         same([None, "settings"], [it.lost() for it in instances], "losses")
         same([], [it for it in other.lines if it.startswith(("entry ", "end "))], "what the other one was given")
         one.close()
@@ -263,9 +264,9 @@ def settings_behind_a_revision():
     offer_all(one, fake, 1)
     revision = one.wait(100).split()[4]
     other = Instance(fake.addresses(), "b", revision=revision, count=1, salt="another")
-    other.wait(1_000)
+    other.until_fenced()
     alike = Instance(fake.addresses(), "c", revision=revision, count=1)
-    alike.wait(1_000)
+    alike.until_lost()
     same([None, None, "settings"], [it.lost() for it in (one, other, alike)], "losses")
     one.close()
     other.close()
@@ -278,13 +279,12 @@ def known_settings():
     offer_all(one, fake, 1)
     revision = one.wait(100).split()[4]
     stranger = Instance(fake.addresses(), "b", revision=revision, count=1, salt="another")
-    stranger.wait(1_000)
+    stranger.until_fenced()
     fences = len(fake.entries())
     other = Instance(fake.addresses(), "c", revision=revision, count=1, salt="another", pool=one.agreed)
     other.offer("never")
     other.say("end")
-    other.wait(1_000)
-    same("settings", other.lost(), "the log with other settings")
+    same("settings", other.until_lost(), "the log with other settings")
     same([], [it for it in other.lines if it.startswith(("entry ", "end "))], "what it was given")
     same(fences, len(fake.entries()), "what it wrote")
     alike = Instance(fake.addresses(), "d", revision=revision, count=1, pool=one.agreed)
@@ -302,8 +302,7 @@ def deleted_keys():
     one = Instance(fake.addresses(), "a")
     offer_all(one, fake, 1)
     fake.delete(b"in/a")
-    one.wait(3_000)
-    same("deleted", one.lost(), "the log")
+    same("deleted", one.until_lost(), "the log")
 
 
 def nothing_after_a_loss():
@@ -317,8 +316,7 @@ def nothing_after_a_loss():
         fake.put_from_outside(b"in/z", it)
     fake.plan("watch", "join", "join")
     one.say("end")
-    one.wait(3_000)
-    same("deleted", one.lost(), "the log")
+    same("deleted", one.until_lost(), "the log")
     same([], [it for it in one.lines if it.startswith("end ")], "ends")
 
 
@@ -349,8 +347,7 @@ def removed_beginnings():
     one.close()
     fake.compact(4)
     two = Instance(fake.addresses(), "b")
-    two.wait(2_000)
-    same("compacted", two.lost(), "the log")
+    same("compacted", two.until_lost(), "the log")
 
 
 def shortened_logs():
@@ -361,15 +358,156 @@ def shortened_logs():
     with fake.lock:
         fake.keys.clear()
     one.say("end")
-    one.wait(3_000)
-    same("shortened", one.lost(), "the log")
+    same("shortened", one.until_lost(), "the log")
+
+
+LIST = b"in/@suppliers"
+
+
+def entry(moment, *suppliers, number=5):
+    """A value of the log: a batch with a call of each of these USSs, all with this moment."""
+    calls = "".join(f"{moment} {len(it)}:{it} s---- 3:GET 1:/ 0:\n" for it in suppliers)
+    return f"{number}\ndss-batch 1\n{calls}".encode()
+
+
+def put_all(put, pairs):
+    """Puts values under keys, in order. Returns the moments of those that count, each once for each of its calls."""
+    moments = []
+    for at, (key, suppliers, counts) in enumerate(pairs, 100):
+        put(key, entry(at, *suppliers))
+        moments += [at] * len(suppliers) if counts else []
+    return moments
+
+
+# Entries before a list, and those behind it. The list gives uss-x and uss-y to the organization z, and uss-y to b.
+BEFORE = ((b"in/z1", ["uss-w"], True), (b"in/b", ["uss-x", "uss-w"], True))
+GIVEN = b"z uss-x\nz uss-y\nb uss-y\n"
+BEHIND = (
+    (b"in/z1", ["uss-x"], True), (b"in/z22", ["uss-y", "uss-x"], True), (b"in/z", ["uss-y"], True), (b"in/b", ["uss-y"], True),
+    (b"in/z1", ["uss-w"], False), (b"in/z1", ["uss-x", "uss-w"], False), (b"in/z1", ["uss-w", "uss-x"], False),
+    (b"in/b", ["uss-x"], False), (b"in/b", ["uss-y", "uss-x", "uss-y"], False), (b"in/zz", ["uss-x"], False),
+    (b"in/z.", ["uss-x"], False), (b"in/c", ["uss-x"], False), (b"in/7", ["uss-y"], False), (b"in/b", ["uss-"], False),
+    (b"in/b", ["uss-y.b"], False), (b"in/z", ["uss-x", "uss-x"], True),
+)
+
+
+def past_lists(fake):
+    """Returns the revisions at which the list was read."""
+    return [str(body["revision"]) for kind, body in fake.requests if kind == "range" and "revision" in body and plain(body["key"]) == LIST]
+
+
+def supplier_lists():
+    """An entry that names a USS which the list at its place does not give to its writer is given to nobody, and is not counted."""
+    fake = Fake()
+    one = Instance(fake.addresses(), "a")
+    offer_all(one, fake, 1)
+    wanted = put_all(fake.put_from_outside, BEFORE)
+    fake.put_from_outside(LIST, GIVEN)
+    wanted += put_all(fake.put_from_outside, BEHIND)
+    # a purge names no USS, and neither do bytes that are no entry
+    for it in (b"5\ndss-purge 1\n1790000000\n", b"5\nx"):
+        fake.put_from_outside(b"in/c", it)
+    fake.put_from_outside(LIST, b"")
+    wanted += put_all(fake.put_from_outside, BEFORE)
+    one.say("end")
+    one.settle()
+    two = Instance(fake.addresses(), "d")
+    two.say("end")
+    two.settle()
+    for it in (one, two):
+        same(wanted, it.moments(), f"calls that {it.name} was given")
+        same(12, len(it.entries()), f"entries that {it.name} was given")
+        same(["end 1 12"], [line for line in it.lines if line.startswith("end ")], "ends")
+        same([], it.real_faults(), "faults")
+        it.close()
+    same([], past_lists(fake), "revisions at which the list was read")
+
+
+def behind_a_list(fake):
+    """A log with a list, a revision behind it, and a later list. Returns an instance, the revision and what counts behind it."""
+    one = Instance(fake.addresses(), "a")
+    offer_all(one, fake, 1)
+    fake.put_from_outside(LIST, b"q uss-q\n")
+    fake.put_from_outside(LIST, GIVEN)
+    fake.put_from_outside(b"in/b", b"5\nx")
+    one.until(2)
+    revision = one.wait(100).split()[4]
+    same(fake.revision, int(revision), "the revision")
+    wanted = put_all(fake.put_from_outside, BEHIND)
+    fake.put_from_outside(LIST, b"c uss-x\n")
+    for key, moment in ((b"in/c", 300), (b"in/z1", 301)):
+        fake.put_from_outside(key, entry(moment, "uss-x"))
+    return one, revision, [*wanted, 300]
+
+
+def lists_behind_a_revision():
+    """An instance that starts behind a revision reads the list there, also after a compaction up to it."""
+    fake = Fake()
+    one, revision, wanted = behind_a_list(fake)
+    for compacted in (0, int(revision)):
+        fake.compact(compacted)
+        two = Instance(fake.addresses(), f"d{compacted}", revision=revision, count=2, pool=one.agreed)
+        two.say("end")
+        two.settle()
+        same(wanted, two.moments(), "calls behind the revision")
+        same(["end 1 8"], [it for it in two.lines if it.startswith("end ")], "ends")
+        same([], two.real_faults(), "faults")
+        two.close()
+    same({revision}, set(past_lists(fake)), "revisions at which the list was read")
+    one.close()
+
+
+def each_fault_of_a_list(fault):
+    """A list that was not read is asked again. Meanwhile no entry is given."""
+    fake = Fake()
+    one, revision, wanted = behind_a_list(fake)
+    fake.plan("past", fault, fault)
+    two = Instance(fake.addresses(), "d", revision=revision, count=2, pool=one.agreed)
+    two.say("end")
+    two.settle()
+    same(wanted, two.moments(), "calls behind the revision")
+    one.close()
+    two.close()
+
+
+def lists_that_are_gone():
+    """A list before the beginning of the history, or behind its end, ends an instance that starts there."""
+    fake = Fake()
+    one, revision, _ = behind_a_list(fake)
+    fake.compact(int(revision) + 1)
+    early = Instance(fake.addresses(), "d", revision=revision, count=2, pool=one.agreed)
+    same("compacted", early.until_lost(), "the log of one that begins too early")
+    late = Instance(fake.addresses(), "e", revision=str(fake.revision + 1_000), count=2, pool=one.agreed)
+    same("shortened", late.until_lost(), "the log of one that begins too late")
+    for it in (early, late):
+        same([], [line for line in it.lines if line.startswith(("entry ", "end "))], "what it was given")
+    one.close()
+
+
+def own_entries_that_do_not_count():
+    """An instance whose own entry names a USS that the list does not give to it ends. The next one of its name goes on."""
+    fake = Fake()
+    one = Instance(fake.addresses(), "a1")
+    offer_all(one, fake, 1)
+    fake.put_from_outside(LIST, GIVEN)
+    fake.put_from_outside(b"in/a1", entry(400, "uss-x", number=one.number))
+    one.say("end")
+    same("suppliers", one.until_lost(), "the log")
+    same("ended 3", one.lines[-1], "its status")
+    same([], one.moments(), "calls that it was given")
+    two = Instance(fake.addresses(), "a1")
+    two.offer("next")
+    two.settle()
+    same(["t0", "next"], [it[1] for it in two.until(2)], "entries")
+    same(None, two.lost(), "the log of the next one")
+    two.close()
 
 
 def tokens():
     fake = Fake(users={"dss": "a \"word\" \u00e9"})
     one = Instance(fake.addresses(), "a", user=("dss", "a \"word\" \u00e9"))
     offer_all(one, fake, 3)
-    same([], one.faults(), "faults")
+    same([], one.real_faults(), "faults")
     with fake.lock:
         fake.tokens.clear()
     one.offer("again")
@@ -428,8 +566,8 @@ def drawn_faults(seed):
     with fake.lock:
         fake.rate = 0
     for it in all_of_them:
-        it.settle(60_000)
-    seen = [it.until(24, 60_000) for it in all_of_them]
+        it.settle()
+    seen = [it.until(24) for it in all_of_them]
     same([seen[0]] * 3, seen, f"orders with seed {seed}")
     for it in all_of_them:
         same(it.offered, it.own(), f"entries of {it.name} with seed {seed}")
@@ -441,11 +579,12 @@ def cases(seeds=6):
     found = {it.__name__: it for it in (
         batches_in_order, bodies_of_requests, fences_that_are_lost, puts_that_come_late, two_processes_of_one_name, several_names,
         ends_after_entries, other_keys, numbers_of_others, other_settings, settings_of_the_first_fence, settings_behind_a_revision, known_settings, deleted_keys, nothing_after_a_loss, starts_in_the_middle, removed_beginnings, shortened_logs, tokens,
-        endpoints_in_turn, long_batches,
+        endpoints_in_turn, long_batches, supplier_lists, lists_behind_a_revision, lists_that_are_gone, own_entries_that_do_not_count,
     )}
     for fault in REQUEST_FAULTS:
         found[f"put: {fault}"] = lambda fault=fault: each_fault_of_a_put(fault)
         found[f"end: {fault}"] = lambda fault=fault: each_fault_of_an_end(fault)
+        found[f"list: {fault}"] = lambda fault=fault: each_fault_of_a_list(fault)
     for fault in WATCH_FAULTS:
         found[f"watch: {fault}"] = lambda fault=fault: each_fault_of_a_watch(fault)
     for shape in (None, "join", "chunks"):

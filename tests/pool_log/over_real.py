@@ -1,10 +1,13 @@
 """Logs over real members of etcd."""
+import json
 import os
 import random
 import time
+import urllib.error
 
-from instances import Instance
-from over_fake import same, texts
+from fake_etcd import Fake, coded
+from instances import LIMIT, Instance
+from over_fake import BEFORE, BEHIND, GIVEN, LIST, entry, put_all, same, texts
 from real_etcd import Cluster
 
 
@@ -24,7 +27,7 @@ def one_member(room):
     two.say("end")
     two.settle()
     same(["end 1 20"], [it for it in two.lines if it.startswith("end ")], "ends")
-    same([], one.faults() + two.faults(), "faults")
+    same([], one.real_faults() + two.real_faults(), "faults")
     one.close()
     two.close()
     cluster.close()
@@ -46,8 +49,7 @@ def restarts(room):
     two.offer("z")
     two.settle()
     one.offer("w")
-    one.wait(3_000)
-    same("replaced", one.lost(), "the first process")
+    same("replaced", one.until_lost(), "the first process")
     same(["x", "y", "z"], [it[1] for it in two.until(3)], "entries")
     two.close()
     cluster.close()
@@ -63,14 +65,12 @@ def compaction_and_deletion(room):
     revision = one.wait(100).split()[4]
     cluster.control("compaction", revision)
     late, on_time = Instance(cluster.addresses(), "b"), Instance(cluster.addresses(), "c", revision, 5)
-    late.wait(3_000)
-    same("compacted", late.lost(), "the log of one that begins too early")
+    same("compacted", late.until_lost(), "the log of one that begins too early")
     on_time.offer("y")
     on_time.settle()
     same(["y"], [it[1] for it in on_time.until(1)], "entries behind the compaction")
     cluster.control("del", "in/a")
-    on_time.wait(3_000)
-    same("deleted", on_time.lost(), "the log")
+    same("deleted", on_time.until_lost(), "the log")
     one.close()
     cluster.close()
 
@@ -88,15 +88,13 @@ def users(room):
     one.offer("x")
     one.settle()
     same(["x"], [it[1] for it in one.until(1)], "entries")
-    same([], one.faults(), "faults")
+    same([], one.real_faults(), "faults")
     other = Instance(cluster.addresses(), "b", user=("a", "secret"))
     other.offer("y")
-    other.wait(2_000)
-    assert "status 403" in other.faults(), f"another's key: {other.faults()}"
+    assert other.until_fault("status 403"), f"another's key: {other.faults()}"
     without = Instance(cluster.addresses(), "a")
     without.offer("z")
-    without.wait(2_000)
-    assert "status 400" in without.faults(), f"no user: {without.faults()}"
+    assert without.until_fault("status 400"), f"no user: {without.faults()}"
     same(["x"], one.texts(), "entries")
     for it in (one, other, without):
         it.close()
@@ -111,6 +109,13 @@ def other_settings(room):
         it.offer(f"x {it.name}")
         it.say("end")
         it.begin("wait 1500")
+    # the first fence is of one of them: the other one ends, and this one goes on
+    end = time.monotonic() + LIMIT
+    while not (one.lost() or two.lost()) and time.monotonic() < end:
+        for it in (one, two):
+            it.begin("wait 50")
+        for it in (one, two):
+            it.wait(50)
     for it in (one, two):
         it.wait(1_500)
     losses = [it.lost() for it in (one, two)]
@@ -130,6 +135,65 @@ def other_settings(room):
     same([None, None], [first.lost(), third.lost()], "losses")
     first.close()
     third.close()
+    cluster.close()
+
+
+def supplier_lists(room):
+    """A list counts from its place on, for one that reads the log from its beginning and for one that starts behind a revision."""
+    cluster = Cluster(room)
+    put = lambda key, value: cluster.ask(0, "/v3/kv/put", {"key": coded(key), "value": coded(value)})
+    one = Instance(cluster.addresses(), "a")
+    one.offer("x")
+    one.settle()
+    wanted = put_all(put, BEFORE)
+    put(LIST, GIVEN)
+    put(b"in/c", b"5\ny")
+    one.until(4)
+    revision = one.wait(100).split()[4]
+    later = put_all(put, BEHIND)
+    put(LIST, b"")
+    put(b"in/c", entry(300, "uss-x"))
+    later.append(300)
+    two = Instance(cluster.addresses(), "b")
+    cases = ((one, wanted + later, "end 1 10"), (two, wanted + later, "end 1 10"))
+    for it, moments, end in cases:
+        it.say("end")
+        it.settle()
+        same(moments, it.moments(), f"calls that {it.name} was given")
+        same([end], [line for line in it.lines if line.startswith("end ")], "ends")
+    cluster.control("compaction", revision)
+    three = Instance(cluster.addresses(), "c", revision=revision, count=4, pool=one.agreed)
+    three.say("end")
+    three.settle()
+    same(later, three.moments(), "calls behind the revision")
+    same([], [fault for it in (one, two, three) for fault in it.real_faults()], "faults")
+    for it in (one, two, three):
+        it.close()
+    cluster.close()
+
+
+def ranges_of_the_fake(room):
+    """The fake answers ranges at a revision as etcd does."""
+    cluster, fake = Cluster(room), Fake()
+    for key, value in ((LIST, b"a uss-a\n"), (b"in/a", b"5\nx"), (LIST, b""), (LIST, GIVEN), (b"in/a", b"5\ny")):
+        cluster.ask(0, "/v3/kv/put", {"key": coded(key), "value": coded(value)})
+        fake.put_from_outside(key, value)
+
+    def said(ask, body):
+        try:
+            answer = ask(0, "/v3/kv/range", body)
+        except urllib.error.HTTPError as error:
+            return error.code, json.load(error)
+        return 200, {name: it for name, it in answer.items() if name != "header"}
+
+    for compacted in (0, 4):
+        if compacted:
+            cluster.control("compaction", str(compacted))
+            fake.compact(compacted)
+        for revision in range(9):
+            body = {"key": coded(LIST), "revision": str(revision)}
+            same(said(cluster.ask, body), said(fake.ask, body), f"a range at {revision}, compacted to {compacted}")
+    fake.close()
     cluster.close()
 
 
@@ -153,8 +217,8 @@ def leaders_that_fail(room):
         time.sleep(draw.random())
         mend(leader)
     for it in all_of_them:
-        it.settle(60_000)
-    seen = [it.until(3 * count, 60_000) for it in all_of_them]
+        it.settle()
+    seen = [it.until(3 * count) for it in all_of_them]
     same([seen[0]] * 3, seen, "orders")
     for it in all_of_them:
         same(it.offered, it.own(), f"entries of {it.name}")
@@ -171,4 +235,6 @@ def leaders_that_fail(room):
 
 def cases():
     """All cases, by name. Each is given a folder of its own."""
-    return {f"etcd: {it.__name__}": it for it in (one_member, restarts, compaction_and_deletion, users, other_settings, leaders_that_fail)}
+    return {f"etcd: {it.__name__}": it for it in (
+        one_member, restarts, compaction_and_deletion, users, other_settings, supplier_lists, ranges_of_the_fake, leaders_that_fail,
+    )}

@@ -14,7 +14,10 @@ sys.path.insert(1, str(pathlib.Path(__file__).resolve().parents[1] / "shared"))
 
 from freezing import freeze
 from ports import free_port
+from program import SECONDS
 
+# Options with which etcdctl waits for a slow etcd, also for a token.
+PATIENT = ("--command-timeout", f"{SECONDS}s", "--dial-timeout", f"{SECONDS}s")
 WITH_US = ["setpriv", "--pdeathsig", "KILL", "--"] if shutil.which("setpriv") else []
 
 
@@ -65,7 +68,7 @@ class Cluster:
         log = open(self.room / f"m{it}.log", "ab")
         self.processes[it] = subprocess.Popen([*WITH_US, *map(str, words)], stdin=subprocess.DEVNULL, stdout=log, stderr=log)
 
-    def ask(self, it, path, body, limit=5):
+    def ask(self, it, path, body, limit=30):
         request = urllib.request.Request(self.client(it) + path, json.dumps(body).encode())
         with urllib.request.urlopen(request, timeout=limit) as answer:
             return json.load(answer)
@@ -74,14 +77,14 @@ class Cluster:
         """Returns the index of the leader, or None."""
         for it in range(len(self.hosts)):
             try:
-                said = self.ask(it, "/v3/maintenance/status", {}, 1)
+                said = self.ask(it, "/v3/maintenance/status", {}, 3)
             except (OSError, urllib.error.URLError, ValueError):
                 continue
             if said.get("leader") == said["header"]["member_id"]:
                 return it
         return None
 
-    def await_leader(self, limit=60):
+    def await_leader(self, limit=SECONDS):
         end = time.monotonic() + limit
         while (it := self.leader()) is None:
             if time.monotonic() > end:
@@ -100,8 +103,9 @@ class Cluster:
         self.processes[it].send_signal(signal.SIGCONT)
 
     def control(self, *words):
-        command = ["etcdctl", "--endpoints", self.addresses(), *words]
-        done = subprocess.run(command, env={"ETCDCTL_API": "3", "PATH": "/usr/bin:/bin"}, capture_output=True, text=True, timeout=60)
+        command = ["etcdctl", *PATIENT, "--endpoints", self.addresses(), *words]
+        environment = {"ETCDCTL_API": "3", "PATH": "/usr/bin:/bin"}
+        done = subprocess.run(command, env=environment, capture_output=True, text=True, timeout=2 * SECONDS)
         if done.returncode:
             raise AssertionError(f"{' '.join(command)}: {done.stderr}")
         return done.stdout

@@ -45,6 +45,9 @@ REASONS = {
 # A connection closes after this many requests.
 MAX_REQUESTS = 100
 
+# The responses of an instance of a pool that etcd did not answer in time. The call may be made, also later; it is never made.
+UNKNOWN, UNREACHABLE = (503, b'{"message":"unknown"}'), (503, b'{"message":"unreachable"}')
+
 
 def token_file(tokens=None, salt=SALT):
     """Returns the text of a token file."""

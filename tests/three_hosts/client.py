@@ -109,7 +109,7 @@ class Client:
         if not got or got[0] in (500, 502, 503, 504):
             self.answers["not reached" if got is None else "lost" if not got else str(got[0])] += 1
             # A fault changed nothing. A response of HAProxy or of a stopped service leaves the outcome open.
-            is_open = got is not None and not (got and got[0] == 500)
+            is_open = got is not None and not (got and (got[0] == 500 or got == wire.UNREACHABLE))
             self.open_up(before, serials) if is_open else self.keep(before)
             return False
         found = [
