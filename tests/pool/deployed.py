@@ -23,7 +23,7 @@ from doors import PROGRAM, Exchange
 from file_cases import COMPACTED
 from machines import Failed, command, connect, until
 from program import TOP
-from sites import ADMIN_PORT, BACK, DEPLOY, ETCD_PORT, NAMES, PORT, READ, Sites, code, kill
+from sites import ADMIN_PORT, BACK, DEPLOY, ETCD_PORT, NAMES, PORT, READ, Sites, code, kill, stop
 
 SECOND, SECOND_PORT, SECOND_ADMIN = "a2", 8180, 8178
 UNREACHABLE, UNKNOWN = ((503, f'{{"message":"{it}"}}') for it in ("unreachable", "unknown"))
@@ -355,60 +355,197 @@ def replaced_member(sites):
     all_read(sites.sites, 3_003)
 
 
+def revision_of(site):
+    """Returns the revision up to which an instance has read the log."""
+    return next(int(it.split()[1]) for it in asked(site, ADMIN_PORT, "/metrics").splitlines() if it.startswith("dss_pool_revision "))
+
+
+def block_of(words):
+    """Returns the commands behind these words of docs/POOL_OPERATE.md."""
+    lines, indent = [], 7 * " "
+    for line in (TOP / "docs" / "POOL_OPERATE.md").read_text().partition(words)[2].splitlines()[1:]:
+        if line.startswith(indent):
+            lines.append(line.removeprefix(indent))
+        elif lines:
+            break
+    return "\n".join(lines)
+
+
+def runs(site, folder, script):
+    """Runs commands in an organization and a directory. Returns the status and what they printed."""
+    return within(site, {}, "bash", "-c", f"cd {shlex.quote(str(folder))} && {script}")
+
+
+def stop_instances(sites):
+    """Stops all instances. Keeps the airspace of the one that had read most of the log, as the page says."""
+    newest = max(sites.sites, key=revision_of)
+    given = block_of("**Keep what the instances know.**")
+    same((0, f"dss_pool_revision {revision_of(newest)}\n", ""), runs(newest, sites.room, given), "what the instance knows")
+    same(newest.pages(), [json.loads(it) for it in (sites.room / "before.json").read_text().splitlines()], "the kept airspace")
+    for it in sites.sites:
+        stop(it.instance)
+
+
+def lost_since(sites):
+    """Returns the numbers of the intents that were lost since an airspace was kept, as the page says."""
+    given = block_of("**Keep what the instances know.**").replace("before.json", "after.json")
+    same(0, runs(sites.sites[0], sites.room, given)[0], "what the instance knows")
+    status, printed, errors = runs(sites.sites[0], sites.room, block_of("what differs is older now:"))
+    same((1, ""), (status, errors), "the difference")
+    found = [it for it in printed.splitlines() if '"id": ' in it]
+    same([], [it for it in found if not it.startswith("< ")], "what is new")
+    return {int(it.split('"')[3][-12:], 16) for it in found}
+
+
+def same_members(sites):
+    """Waits until all members have the same content."""
+    revision = sites.end_of_log()
+
+    def hashes():
+        words = "endpoint", "hashkv", "--rev", str(revision), "-w", "json"
+        return {json.loads(controls(sites, *words, at=it))[0]["HashKV"]["hash"] for it in sites.sites}
+
+    until(lambda: len(hashes()) == 1, "the members have one content", BACK)
+
+
 def restored_log(sites):
-    """All members are restored from the backup of one, while no instance runs. Later changes are gone."""
+    """All members are restored from the backup of one, while no instance runs. Later changes are gone, and the airspaces show which."""
     backup = sites.room / "log.db"
     until(lambda: asks(sites.sites[0], put(3_009))[0] == 201, "a change before the backup", BACK)
     control(sites, "snapshot", "save", backup)
     same("0o600", oct(backup.stat().st_mode & 0o777), "the mode of the backup")
     until(lambda: asks(sites.sites[0], put(3_010))[0] == 201, "a change after the backup", BACK)
+    all_read(sites.sites, 3_010)
+    stop_instances(sites)
     restore_members(sites, backup)
+    same_members(sites)
     for it in sites.sites:
         it.start_instance()
     all_read(sites.sites, 3_009)
     all_read(sites.sites, 3_010, 404)
+    same({3_010}, lost_since(sites), "what is lost")
     until(lambda: asks(sites.sites[1], put(3_011))[0] == 201, "a change after the restart", BACK)
     all_read(sites.sites, 3_011)
 
 
-def restore_members(sites, backup):
-    """Kills all instances, and restores all members."""
+def restore_members(sites, log, *more):
+    """Stops all members, and restores each of them from the same file. No instance runs meanwhile."""
     for it in sites.sites:
-        kill(it.instance)
-    for it in sites.sites:
-        kill(it.member)
-        shutil.rmtree(it.own / "dss")
+        stop(it.member)
+        shutil.rmtree(it.own / "dss", ignore_errors=True)
         settings = it.settings()
         words = ["--name", it.name, "--initial-cluster", settings["ETCD_INITIAL_CLUSTER"], "--data-dir", settings["ETCD_DATA_DIR"]]
         words += ["--initial-advertise-peer-urls", settings["ETCD_INITIAL_ADVERTISE_PEER_URLS"]]
         words += ["--initial-cluster-token", settings["ETCD_INITIAL_CLUSTER_TOKEN"]]
-        command("env", "ETCDCTL_API=3", "etcdctl", "snapshot", "restore", backup, *words)
+        command("env", "ETCDCTL_API=3", "etcdctl", "snapshot", "restore", log, *words, *more)
     for it in sites.sites:
         it.start_member()
 
 
-def lost_majority(sites):
-    """Two members lose their data. The third one goes on alone, and the others join it. The instances run meanwhile."""
+def database_of(site, room, revision):
+    """Returns a copy of the database of a member that was killed. It starts alone until it has made what is in its write-ahead log."""
+    log = room / "log-of-one.db"
+
+    def has_all():
+        site.start_member()
+        until(lambda: is_up(site, ETCD_PORT) or reaches(site, site.address, 2380), "the member starts", BACK)
+        stop(site.member)
+        shutil.copy(site.own / "dss" / "member" / "snap" / "db", log)
+        return json.loads(command("env", "ETCDCTL_API=3", "etcdctl", "snapshot", "status", log, "-w", "json"))["revision"] >= revision
+
+    until(has_all, "the database has the revision", BACK)
+    return log
+
+
+def without_two(sites, number):
+    """Two members lose their data with a change that the third one has not received. Returns the database of the third one, which was
+    killed before."""
     third, others = sites.sites[2], sites.sites[:2]
-    until(lambda: asks(third, put(3_012))[0] == 201, "a change before", BACK)
+    until(lambda: asks(third, put(number))[0] == 201, "a change before", BACK)
+    all_read(sites.sites, number)
+    same_members(sites)
+    revision = sites.end_of_log()
+    kill(third.member)
+    until(lambda: asks(others[0], put(number + 1))[0] == 201, "a change without the third one", BACK)
+    all_read(others, number + 1)
     for it in others:
         kill(it.member)
         shutil.rmtree(it.own / "dss")
-    third.member.terminate()
-    third.member.wait(BACK)
-    third.start_member(ETCD_FORCE_NEW_CLUSTER="true")
-    until(lambda: asks(third, get(3_012))[0] == 200, "a read over one member", BACK)
-    third.member.terminate()
-    third.member.wait(BACK)
-    third.start_member()
-    cluster = f"{third.name}=https://{third.address}:2380"
-    for it in others:
-        controls(sites, "member", "add", it.name, f"--peer-urls=https://{it.address}:2380", at=third)
-        cluster += f",{it.name}=https://{it.address}:2380"
-        it.start_member(ETCD_INITIAL_CLUSTER_STATE="existing", ETCD_INITIAL_CLUSTER=cluster)
-        until(lambda: asks(it, get(3_012))[0] == 200, f"{it.name} reads over its member", BACK)
+    return revision
+
+
+def lost_majority(sites):
+    """Two members lose their data. All are restored from the database of the third one, while no instance runs."""
+    revision = without_two(sites, 3_012)
+    same(True, revision_of(sites.sites[0]) > revision, "the first instance has a later change")
+    stop_instances(sites)
+    restore_members(sites, database_of(sites.sites[2], sites.room, revision), "--skip-hash-check=true")
+    same_members(sites)
+    words = "get", "in/", "--prefix", "--keys-only", "--sort-by=MODIFY", "--order=DESCEND", "--limit=1", "-w", "fields"
+    same([f'"ModRevision" : {revision}'], [it for it in control(sites, *words).splitlines() if "ModRevision" in it], "the end of the log")
+    for it in sites.sites:
+        it.start_instance()
+    all_read(sites.sites, 3_012)
+    all_read(sites.sites, 3_013, 404)
+    same({3_013}, lost_since(sites), "what is lost")
     until(lambda: asks(sites.sites[0], put(3_013))[0] == 201, "a change after", BACK)
     all_read(sites.sites, 3_013)
+
+
+def forked(sites):
+    """An instance that keeps running over a log without its last changes, which became longer, ends with a loss of its own."""
+    if b"diverged" not in pathlib.Path(PROGRAM).read_bytes():
+        print("the program does not know the loss diverged, so forks are not tested")
+        return
+    first, second, third = sites.sites
+    revision = without_two(sites, 3_100)
+    for it in second, third:
+        stop(it.instance)
+    restore_members(sites, database_of(third, sites.room, revision), "--skip-hash-check=true")
+    third.start_instance()
+    for number in range(3_110, 3_122):
+        until(lambda: asks(third, put(number))[0] == 201, "a change over the restored log", BACK)
+    if not first.instance.wait(BACK):
+        raise Failed("the instance ended with status 0")
+    losses = [it for it in first.said(20) if it.startswith(("dss: pool: diverged: ", "dss: pool: shortened: "))]
+    same(1, len(losses), f"what the instance said: {first.said(20)}")
+    for it in first, second:
+        it.start_instance()
+    all_read(sites.sites, 3_121)
+    all_read(sites.sites, 3_101, 404)
+
+
+def lost_etcd(sites):
+    """All members lose their data. A new log begins with the newest file. Later changes are gone, and the airspaces show which."""
+    site = sites.sites[0]
+    if not (site.own / "files").exists():
+        files(sites)
+    until(lambda: asks(site, put(3_015))[0] == 201, "a change in the file", BACK)
+    newest = site.own / "files" / marks(sites, site)[-1]
+    until(lambda: asks(site, put(3_016))[0] == 201, "a change behind the file", BACK)
+    all_read(sites.sites, 3_016)
+    stop_instances(sites)
+    for it in sites.sites:
+        stop(it.member)
+        shutil.rmtree(it.own / "dss")
+        (it.own / "files").rename(it.own / "files.old")
+        (it.own / "files").mkdir()
+    for it in sites.sites:
+        it.start_member(ETCD_INITIAL_CLUSTER_TOKEN="dss-pool-2")
+    sites.await_leader()
+    sites.make_users("users-2", (*NAMES, *(f"{it}-file" for it in NAMES)))
+    words = ["--tokens", site.own / "tokens.toml", "--db", site.own / "files.old" / newest.name, "--files", site.own / "files"]
+    first = command(PROGRAM, "begin", *words).strip()
+    for it in sites.sites:
+        if it is not site:
+            shutil.copy(site.own / "files" / first, it.own / "files")
+        it.start_instance("--files", it.own / "files")
+    all_read(sites.sites, 3_015)
+    all_read(sites.sites, 3_016, 404)
+    same({3_016}, lost_since(sites), "what is lost")
+    until(lambda: asks(sites.sites[1], put(3_016))[0] == 201, "a change after", BACK)
+    all_read(sites.sites, 3_016)
+    marks(sites, site)
 
 
 # ---- files
@@ -439,10 +576,10 @@ def marks(sites, site):
     return found
 
 
-def compacts(site):
+def compacts(site, *words):
     """Runs `compact` of an organization."""
     name = f"{site.name}-file"
-    return within(site, {"ETCD_USER": site.own / f"{name}.user"}, DEPLOY / "compact", name)
+    return within(site, {"ETCD_USER": site.own / f"{name}.user"}, DEPLOY / "compact", name, *words)
 
 
 def starts_from(site, folder):
@@ -453,6 +590,13 @@ def starts_from(site, folder):
         until(lambda: answers(site, SECOND_PORT), "the instance has read the log", BACK)
     finally:
         kill(second)
+
+
+def takes_newest(site, other):
+    """An organization whose files are too old removes them, and takes the newest one of another organization."""
+    for old in (site.own / "files").glob("*-*.db"):
+        old.unlink()
+    shutil.copy(max((other.own / "files").glob("*-*.db")), site.own / "files")
 
 
 def files(sites):
@@ -486,24 +630,31 @@ def files(sites):
     copied.mkdir()
     shutil.copy(max((other.own / "files").glob("*-*.db")), copied)
     starts_from(site, copied)
-    # marks that are old, or beyond the log
-    control(sites, "put", "mark/b-file", f"1 {int(time.time()) - 13 * 3_600 - 60}")
-    until(lambda: asks(site, put(6_010))[0] == 201, "a change", BACK)
-    marks(sites, site), marks(sites, sites.sites[2])
+    # values that are no marks
+    wrong = {"nonsense": "nonsense is no mark", "1": "1 is no mark", "900000000 1": "etcd has not reached revision 900000000"}
+    for number, (text, why) in enumerate(wrong.items(), 6_010):
+        control(sites, "put", "mark/b-file", text)
+        until(lambda: asks(site, put(number))[0] == 201, "a change", BACK)
+        marks(sites, site), marks(sites, sites.sites[2])
+        least = min(mark_of(sites, it) for it in sites.sites if it is not other)
+        same((0, f"compact: the log begins behind revision {least}\n", f"compact: mark/b-file does not count: {why}\n"), compacts(site), text)
+    # an organization without which the log is compacted
+    takes_newest(other, site)
+    until(lambda: asks(site, put(6_040))[0] == 201, "a change", BACK)
+    late = marks(sites, other)[0]
+    for number in 6_041, 6_042:
+        until(lambda: asks(site, put(number))[0] == 201, "a change", BACK)
+        marks(sites, site), marks(sites, sites.sites[2])
+    same((0, f"compact: the log begins behind revision {int(late[:20])}\n", ""), compacts(site), "with an organization that is late")
     least = min(mark_of(sites, it) for it in sites.sites if it is not other)
-    same((0, f"compact: the log begins behind revision {least}\n", "compact: mark/b-file does not count: it is 13 hours old\n"), compacts(site), "an old mark")
-    control(sites, "put", "mark/a-file", f"1 {int(time.time()) - 99 * 3_600}")
-    control(sites, "put", "mark/c-file", f"1 {int(time.time()) - 99 * 3_600}")
-    status, printed, errors = compacts(site)
-    same((1, "", "compact: no mark counts"), (status, printed, errors.splitlines()[-1]), "only old marks")
-    marks(sites, site), marks(sites, other)
-    for text, why in ("nonsense", "mark/c-file: nonsense is no mark"), ("1", "mark/c-file: 1 is no mark"):
-        control(sites, "put", "mark/c-file", text)
-        same((1, "", f"compact: {why}\n"), compacts(site), "a wrong mark")
+    same((0, f"compact: the log begins behind revision {least}\n", ""), compacts(site, "--without", "b-file"), "without it")
+    gone = f"compact: mark/b-file does not count: the log begins behind revision {int(late[:20])}\n"
+    same((0, f"compact: the log begins behind revision {least}\n", gone), compacts(site), "after that")
     for it in sites.sites:
-        control(sites, "put", f"mark/{it.name}-file", f"900000000 {int(time.time())}")
-    status, _, errors = compacts(site)
-    same((1, True), (status, errors.startswith("compact: the least mark, 900000000, is beyond the newest change, ")), errors)
+        control(sites, "put", f"mark/{it.name}-file", "nonsense")
+    status, printed, errors = compacts(site)
+    same((1, "", "compact: no mark counts"), (status, printed, errors.splitlines()[-1]), "no mark")
+    takes_newest(other, site)
     for it in sites.sites:
         until(lambda: asks(site, put(6_020 + NAMES.index(it.name)))[0] == 201, "a change", BACK)
         marks(sites, it)
@@ -522,6 +673,7 @@ def restored_files(sites):
     until(lambda: asks(site, put(6_031))[0] == 201, "a change after the backup", BACK)
     late = marks(sites, site)[-1]
     shutil.copy(site.own / "files" / late, sites.room)
+    stop_instances(sites)
     restore_members(sites, backup)
     for it in sites.sites:
         for old in (it.own / "files").iterdir():
@@ -700,7 +852,11 @@ def planted(_sites):
         raise AssertionError("accepted: a call twice")
 
 
-ALONE, OVER_SITES = (planted, alerts, unit), (metrics, later_users, users, listed, stopped, proxy, proxy_by_read, replaced_member, restored_log, lost_majority, files, restored_files, left)
+ALONE = planted, alerts, unit
+OVER_SITES = (
+    metrics, later_users, users, listed, stopped, proxy, proxy_by_read, replaced_member, restored_log, lost_majority, forked, files, restored_files,
+    lost_etcd, left,
+)
 
 
 def run(only=()):

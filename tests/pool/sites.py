@@ -201,6 +201,11 @@ def kill(process):
     process.wait()
 
 
+def stop(process):
+    process.terminate()
+    process.wait(BACK)
+
+
 class Sites:
     """The organizations, on one switch, with certificates and users made as docs/POOL_OPERATE.md says."""
 
@@ -244,13 +249,15 @@ class Sites:
                 shutil.copy(keeper / name, it.own / given)
             (it.own / f"{it.name}.key").rename(it.own / "member.key")
 
-    def make_users(self):
-        folder = self.room / "users"
+    def make_users(self, name="users", names=NAMES):
+        folder = self.room / name
         folder.mkdir()
-        words = ["nsenter", "-t", self.sites[0].network.pid, "-n", "env", "-C", folder, DEPLOY / "make-users", *NAMES]
+        words = ["nsenter", "-t", self.sites[0].network.pid, "-n", "env", "-C", folder, DEPLOY / "make-users", *names]
         command(*words)
         for it in self.sites:
-            shutil.copy(folder / f"{it.name}.user", it.own)
+            for made in names:
+                if made.split("-")[0] == it.name:
+                    shutil.copy(folder / f"{made}.user", it.own)
         self.root = (folder / "root.user").read_text().strip().split(":")
 
     def __exit__(self, *_):

@@ -3,20 +3,27 @@ import concurrent.futures
 import contextlib
 import io
 import multiprocessing
+import os
 import time
 
 SLOWEST = 10
 
 
+def processor_time():
+    """Returns the processor time of this process and of its ended children, in seconds."""
+    return sum(os.times()[:4])
+
+
 def result_of(case):
-    """Runs a case. Returns what it found wrong, what it printed, and the seconds that it took."""
-    began, printed = time.monotonic(), io.StringIO()
+    """Runs a case. Returns what it found wrong, what it printed, and the seconds that it took: by the clock, and of the
+    processors."""
+    began, used, printed = time.monotonic(), processor_time(), io.StringIO()
     try:
         with contextlib.redirect_stdout(printed):
             found = case()
     except Exception as error:
         found = [f"{type(error).__name__}: {error}"]
-    return found, printed.getvalue(), time.monotonic() - began
+    return found, printed.getvalue(), time.monotonic() - began, processor_time() - used
 
 
 class Pool:
@@ -28,20 +35,22 @@ class Pool:
         self.times = []
 
     def note(self, name, result):
-        found, printed, took = result
-        self.times.append((took, name))
+        found, printed, took, used = result
+        self.times.append((took, used, name))
         self.passed, self.failed = self.passed + (not found), self.failed + bool(found)
-        print(f"{'FAILED' if found else 'ok'} {name} ({took:.1f} s)", flush=True)
+        print(f"{'FAILED' if found else 'ok'} {name} ({took:.1f} s, processor {used:.1f} s)", flush=True)
         for it in found:
             print(f"FAILED {name}: {it}", flush=True)
         if found and printed:
             print(printed, end="", flush=True)
 
-    def run(self, names):
-        """Runs the cases of these names in that many processes, those that come first first."""
+    def run(self, names, waiting=()):
+        """Runs the cases of these names in that many processes, those that come first first. Those that only wait have a
+        process more each."""
         started = multiprocessing.get_context("fork")
-        with concurrent.futures.ProcessPoolExecutor(self.jobs, mp_context=started, max_tasks_per_child=None) as pool:
-            running = {pool.submit(_run, name): name for name in names}
+        jobs = self.jobs + len(waiting)
+        with concurrent.futures.ProcessPoolExecutor(jobs, mp_context=started, max_tasks_per_child=None) as pool:
+            running = {pool.submit(_run, name): name for name in (*waiting, *names)}
             for done in concurrent.futures.as_completed(running):
                 self.note(running[done], done.result())
 
@@ -51,8 +60,9 @@ class Pool:
             self.note(name, result_of(self.cases[name]))
 
     def print_slowest(self):
-        slowest = sorted(self.times, reverse=True)[:SLOWEST]
-        print("slowest: " + ", ".join(f"{name} {took:.0f} s" for took, name in slowest))
+        for what, key in ("slowest", 0), ("most of the processors", 1):
+            first = sorted(self.times, key=lambda it: it[key], reverse=True)[:SLOWEST]
+            print(f"{what}: " + ", ".join(f"{it[-1]} {it[key]:.0f} s" for it in first))
 
 
 # set before the processes start, which inherit it: cases are functions that cannot be sent
