@@ -1,7 +1,13 @@
-"""`serve --double-sync` syncs each change of one client twice instead of once. Responses and stored rows are the same."""
+"""`serve --double-sync` syncs each change of one client twice instead of once. Responses and stored rows are the same.
+
+What each way to commit survives is as docs/OPERATE.md says and bench/power_cuts measured."""
 import pathlib
+import re
 import tempfile
 
+import lengths
+import power_cuts
+import seeds
 import wire
 from program import TOP, run
 from serving import Service
@@ -67,4 +73,48 @@ def one_file():
     return []
 
 
-CASES = {"double-sync-syncs-twice": syncs, "double-sync-or-not-over-one-file": one_file}
+# Simulated cuts for each row and way to commit.
+CUTS = lengths.of(12, 100)
+# By the word in docs/OPERATE.md: whether cuts lost changes, by bench/README.md.
+LOSSES = {"keeps all": False, "kept all, by a checksum": False, "can lose the last change": True}
+
+
+def rows_of(document, heading):
+    """Returns the rows of the table about power cuts in a section, by their first cells."""
+    section = (TOP / document).read_text().partition(f"\n{heading}\n")[2].partition("\n#")[0]
+    rows = [[it.strip() for it in line.strip("|").split("|")] for line in re.findall(r"^\|.*\|$", section, re.MULTILINE)]
+    return {it[0]: it[1:] for it in rows if it[0] in power_cuts.MODELS}
+
+
+def documented():
+    """docs/OPERATE.md says of each row and way to commit what bench/README.md has measured."""
+    said, measured = rows_of("docs/OPERATE.md", "### Disk and double sync"), rows_of("bench/README.md", "## Power cuts")
+    names = list(power_cuts.MODELS)
+    found = difference("rows of OPERATE", list(said), names) + difference("rows of bench", list(measured), names)
+    for name in said.keys() & measured.keys():
+        for way, word, cuts in zip(power_cuts.WAYS, said[name], measured[name], strict=True):
+            if LOSSES.get(word) != (not cuts.startswith("0 of ")):
+                found.append(f"{name}, {way}: {word!r}, and measured {cuts!r}")
+    return found
+
+
+def cuts():
+    """Simulated power cuts lose no acknowledged change in the rows of which docs/OPERATE.md says that all is kept."""
+    found, (seed,) = [], seeds.new("power-cuts", 1)
+    said = rows_of("docs/OPERATE.md", "### Disk and double sync")
+    for at, options in enumerate(power_cuts.WAYS.values()):
+        with tempfile.TemporaryDirectory() as room:
+            made = power_cuts.Run(options, room)
+            found += difference("serials", [it["meta"][0][2] for it in made.states.values()], list(made.states))
+            for name in [it for it in power_cuts.MODELS if said[it][at] == "keeps all"]:
+                counted, lost = made.measure(name, CUTS, seed)
+                found += [] if set(counted) == {"found"} else [f"{options}, {name}, seed {seed}: {counted}, {lost} lost"]
+    return found
+
+
+CASES = {
+    "double-sync-syncs-twice": syncs,
+    "double-sync-or-not-over-one-file": one_file,
+    "power-cuts-in-documents": documented,
+    "power-cuts": cuts,
+}
