@@ -2,9 +2,13 @@
 import itertools
 import pathlib
 
+import lengths
+import seeds
 import tables
 from databases import NOT_A_DSS, ROWS, VERSION, Room
 
+# One of so many choices of tables is tried.
+STEP = lengths.of(8, 1)
 # Statements for a filled database, run without checks and references, and the expected fault, or None if the file is
 # accepted. SQLite itself reports rows that break a rule of their own table (a check, a reference): the file then holds
 # no airspace. These statements concern tables that both formats have, and so run on both.
@@ -222,6 +226,16 @@ def done_to_it():
     return found
 
 
+def some_of(name, names):
+    """Yields choices of some but not all tables. The short form yields those of one and of all but one, and of the others
+    one of so many, with new ones in each run."""
+    (first,) = seeds.new(name, 1)
+    for count in range(1, len(names)):
+        for number, some in enumerate(itertools.combinations(names, count), first):
+            if count in (1, len(names) - 1) or number % STEP == 0:
+                yield some
+
+
 def lacking_tables():
     """A database with some but not all tables of its format is rejected, whichever they are. So is one of format 1 with
     some or all of the later tables. A file without any of them becomes a new database."""
@@ -230,9 +244,8 @@ def lacking_tables():
         names = tables.tables_of(tables.FORMATS[number])
         with Filled(number) as room:
             found += room.opened_after([], None)
-            for count in range(1, len(names)):
-                for gone in itertools.combinations(names, count):
-                    found += room.opened_after([f"DROP TABLE {it}" for it in gone], NOT_A_DSS)
+            for gone in some_of(f"format {number}", names):
+                found += room.opened_after([f"DROP TABLE {it}" for it in gone], NOT_A_DSS)
             room.again()
             with tables.unguarded(room.database) as database:
                 for name in names:

@@ -19,7 +19,7 @@ from program import run
 STOPPED = 99
 KEPT = ("all", "synced", "half")
 # One of so many stops is tried, with new ones in each run.
-STEP = lengths.of(3, 1)
+STEP = lengths.of(9, 1)
 # Changes that are also tried over a database that SQLite's `VACUUM` made.
 AFTER_VACUUM = "a creation that names and notifies", "a deletion of a subscription"
 # Ids that nothing has yet.
@@ -78,7 +78,7 @@ def changes():
 
 
 def stops(name, calls):
-    """Yields stops at each call, with what the disk keeps. The short form tries one thing that it keeps at each call."""
+    """Yields stops at each call, with each thing that the disk keeps. The short form tries one stop of so many."""
     (first,) = seeds.new(name, 1)
     for number, kept in enumerate(KEPT):
         for at in range(1, calls + 1):

@@ -6,6 +6,7 @@ import random
 import re
 import shutil
 import socket
+import string
 import time
 
 import seeds
@@ -13,7 +14,7 @@ import wire
 from devices import SIZES, WRITES, Page, library
 from explanations import ANY, INTENT, QUERY, ROWS, SETTING, SUBSCRIPTION, area, drawn_request, explained, sub, volume
 from lengths import of
-from program import run
+from program import TOP, run
 from scenes import ID, NOT_FOUND, OVN, V1, put
 from serving import Service, until_closed
 from wire import AVAILABILITY, CONSTRAINTS, INTENTS, SUBSCRIPTIONS
@@ -228,6 +229,42 @@ def field():
     return found + difference("answers", len(answers), len(IGNORED))
 
 
+# Characters that are written as they are with and without quotes, and others with what stands for them.
+BARE, QUOTED = string.ascii_letters + string.digits + "_-{}", " .,;:'/~"
+ESCAPED = {'"': '\\"', "\\": "\\\\", "\0": "\\0", "\t": "\\t", "\n": "\\n", "\r": "\\r"}
+ESCAPED |= {it: f"\\u{{{ord(it):x}}}" for it in "\x01\x1f\x7f\x80\x9f\xa0\xad\u0301\u200b\u2028\ue000\ufffe\U000f0000\U0010ffff"}
+ESCAPED |= dict.fromkeys("é☃ß\U0001f600", "?")
+MAX_NAME, NAMES = 64, of(200, 2_000)
+
+
+def written(name):
+    """Returns a name as docs/CLIENTS.md says that the field has it."""
+    if len(name.encode()) > MAX_NAME:
+        return f"(a name of {len(name.encode())} bytes)"
+    if name and set(name) <= set(BARE):
+        return name
+    return '"' + "".join(ESCAPED.get(it, it) for it in name) + '"'
+
+
+def names_written():
+    """The field has the names in the table of docs/CLIENTS.md as the page says, and drawn names by the rules above it."""
+    page = (TOP / "docs" / "CLIENTS.md").read_text().partition("| name in JSON | in the header |\n|---|---|\n")[2].partition("\n\n")[0]
+    rows = [(json.loads(name), shown) for name, shown in re.findall(r"(?m)^\| `(.*)` \| `(.*)` \|$", page)]
+    found = [] if len(rows) >= 7 else [f"the table of docs/CLIENTS.md has {len(rows)} rows that can be read"]
+    found += [f"docs/CLIENTS.md: {name!r} is {shown!r} by its table, and {written(name)!r} by its rules" for name, shown in rows if written(name) != shown]
+    (seed,) = seeds.new("names of members", 1)
+    draw = random.Random(seed)
+    signs = BARE, BARE[:4] + QUOTED + "".join(ESCAPED)
+    names = [name for name, _ in rows] + ["a" * MAX_NAME, "é" * (MAX_NAME // 2), "é" * (MAX_NAME // 2 + 1)]
+    names += ["".join(draw.choices(draw.choice(signs), k=draw.choice((1, 5, 30, 70)))) for _ in range(NAMES)]
+    requests = [(*QUERY, area('{"cells":["89c3"]}')[:-1] + members([it]) + "}") for it in names]
+    with Explaining(ANY) as service:
+        answers = asked(service, requests)
+    for name, got in zip(names, answers):
+        found += difference(f"seed {seed}: {name!r}", ignored(got), written(name))
+    return found + difference("answers", len(answers), len(names))
+
+
 def as_long_as_it_may_be():
     """A body of a mebibyte of unknown members, and one of mistakes: the additions stay short."""
     names, length = [], 200
@@ -437,6 +474,7 @@ CASES = {
     "explained-by-no-other-rule": others,
     "explained-drawn-requests": drawn,
     "explained-ignored-members": field,
+    "explained-names-of-members": names_written,
     "explained-long-bodies": as_long_as_it_may_be,
     "explained-beside-others": of_others,
     "explained-in-a-pipeline": pipelined,

@@ -2,8 +2,10 @@
 
 A change beyond the quota gets a fault and changes nothing. Other USSs are not affected."""
 import json
+import re
 
 import wire
+from program import TOP
 from serving import Service
 
 FAR = 4_000_000_000
@@ -92,6 +94,22 @@ def counted_cells():
         return it.found
 
 
+def counted_rows():
+    """A cell counts each time that a volume lists it. The rows of the table in docs/OPERATE.md are true."""
+    page = (TOP / "docs" / "OPERATE.md").read_text()
+    rows = [tuple(map(int, re.findall(r"\d+", it))) for it in re.findall(r"(?m)^  (\|(?: \d+ \|){5})$", page)]
+    found = [] if {it[-1] for it in rows} == {201, FAULT} else [f"docs/OPERATE.md: the table of cells that count has the rows {rows}"]
+    for volumes, each, different, counted, status in rows:
+        listed = [cells(different)[at % different] for at in range(each)]
+        body = {"extents": [volume(1, 1) | {"cells": listed}] * volumes, "state": "Accepted", "key": [], "uss_base_url": "https://a.example"}
+        found += [] if volumes * each == counted else [f"docs/OPERATE.md: {volumes} volumes with {each} cells each are not {counted}"]
+        with Service(quota=1) as service:
+            it = Asking(service)
+            it.ask(f"{(volumes, each, different)}", status, "PUT", f"{wire.INTENTS}/{id_of(1)}", "Bearer tok-a", json.dumps(body).encode())
+            found += it.found
+    return found
+
+
 def counted_at_start():
     """Rows that a start finds count: a USS above its quota may only delete, or update without growing."""
     with Service() as service:
@@ -140,6 +158,7 @@ def unbounded():
 CASES = {
     "quota-counted-together": counted_together,
     "quota-counted-cells": counted_cells,
+    "quota-counted-rows": counted_rows,
     "quota-counted-at-start": counted_at_start,
     "quota-without-availabilities": availabilities,
     "quota-without-the-option": unbounded,

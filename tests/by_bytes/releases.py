@@ -423,11 +423,12 @@ def kit_of_the_readme():
 
 
 def one_version():
-    """The version is the same in the changelog, the program and the document of the interface."""
+    """The version is the same in the changelog, the program, the document of the interface and the client in Python."""
     places = {
         "CHANGELOG.md": r"(?m)^## ([\d.]+)",
         "crates/dss_args/src/version.rt": r'VERSION: &str = "([\d.]+)"',
         "docs/openapi.yaml": r"(?m)^  version: ([\d.]+)$",
+        "clients/python/pyproject.toml": r'(?m)^version = "([\d.]+)"$',
     }
     found = {path: re.findall(pattern, (TOP / path).read_text())[:1] for path, pattern in places.items()}
     return [] if len(set(map(str, found.values()))) == 1 and all(found.values()) else [f"the versions are {found}"]
@@ -435,7 +436,9 @@ def one_version():
 
 def another_version():
     """A release of other sources has another version: scripts/release refuses one under the version of the last
-    release."""
+    release. Without git nobody makes a release."""
+    if not shutil.which("git"):
+        return []
     with Checkout(SOME) as it:
         def git(*words):
             name = "-c", "user.name=a", "-c", "user.email=a@example.org"

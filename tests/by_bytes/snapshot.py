@@ -4,6 +4,7 @@ import errno
 import json
 import os
 import pathlib
+import shutil
 import tempfile
 
 import drawn_calls
@@ -236,12 +237,13 @@ def cut_by_cells():
         return found + difference("all of it", whole(pages), airspace_in(started.folder / "dss.db"))
 
 
-def started_without(device, mark, at):
-    """Returns the output of a service that gets no memory at that allocation: why it does not listen, or its airspace
-    and a response to a client."""
+def started_without(device, mark, at, filled):
+    """Returns the output of a service over a copy of a directory that gets no memory at that allocation: why it does not
+    listen, or its airspace and a response to a client."""
     mark.unlink(missing_ok=True)
     service = SnapshotService(drawn_calls.ALL_TOKENS)
-    service.fill(SEEDS[0])
+    for it in filled.glob("dss.db*"):
+        shutil.copy(it, service.folder)
     service.environment = {**os.environ, "LD_PRELOAD": device, "REFUSE_AT": f"{at}", "REFUSED": f"{mark}"}
     try:
         with service as started:
@@ -257,21 +259,24 @@ def without_mirror():
     met = 0
     with tempfile.TemporaryDirectory() as room:
         device, mark = library("refuse_memory", room), pathlib.Path(room, "refused")
+        before = SnapshotService(drawn_calls.ALL_TOKENS)
+        before.fill(SEEDS[0])
 
         # The last allocation of a start. Those of the mirror come before those of the port, which are the last.
         low, high = 1, 40_000
         while high - low > 1:
             middle = (low + high) // 2
-            started_without(device, mark, middle)
+            started_without(device, mark, middle, before.folder)
             low, high = (middle, high) if mark.exists() else (low, middle)
         for at in range(low, max(low - LAST, 0), -STEP):
-            came, known = started_without(device, mark, at)
+            came, known = started_without(device, mark, at, before.folder)
             if came == NO_MEMORY:
                 met += 1
                 if not known.startswith(b"HTTP/1.1 200"):
                     return [f"allocation {at} refused: {known!r}"]
             elif met:
                 break
+    print(f"without a mirror: {met} times")
     return [] if met else ["no memory allocation was one for the mirror"]
 
 
