@@ -346,11 +346,12 @@ module _ {S M T : Type 0} (g : spaces.Ghosts S) (k : commits.Ghosts S) (m : mome
       since_runs old s0 s1 clock m0 m1 c1 c2 (watched (unwrap_or newer' first) w1) past h0 h1 shown runs
 
   -- The rest of an iteration: a purge, late clients, and the admin port.
-  pub since_ends : (old s0 s1 s2 : Service S) (clock m0 m1 : M) (c0 c1 c2 c3 c4 : Clients) (active : WatchedTable T) (past h0 h1 : Option (List HistoryEvent))
-      → ServesSince old clock s0 m0 c0 active past h0 → c1 ≡ c0 → MayPurge g k m keep s0 s1 m0 m1 → c2 ≡ c1 → SetChanges c2 c3 h0 h1
-      → ((h : Option (List HistoryEvent)) → SetChanges c3 c4 h h) → s2 ≡ s1
-      → ServesSince old clock s2 m1 c4 active past h1
-  since_ends old s0 s1 s2 clock m0 m1 c0 c1 c2 c3 c4 active past h0 h1 p flushed purged same q shown stays =
+  pub since_ends : (old s0 s1 s2 : Service S) (clock m0 m1 : M) (c0 c1 c2 c3 c4 c5 : Clients) (active : WatchedTable T) (past h0 h1 h2 : Option (List HistoryEvent))
+      → ServesSince old clock s0 m0 c0 active past h0 → c1 ≡ c0 → MayPurge g k m keep s0 s1 m0 m1 → c2 ≡ c1 → c3 ≡ c2 → h1 ≡ h0 → SetChanges c3 c4 h1 h2
+      → ((h : Option (List HistoryEvent)) → SetChanges c4 c5 h h) → s2 ≡ s1
+      → ServesSince old clock s2 m1 c5 active past h2
+  since_ends old s0 s1 s2 clock m0 m1 c0 c1 c2 c3 c4 c5 active past h0 h1 h2 p flushed purged same stored unseen q shown stays =
       let after = since_purges old s0 s1 clock m0 m1 c1 active past h0 (since_same old s0 clock m0 c0 c1 active past h0 h0 p flushed refl) purged in
-      let looked = since_changes old s1 clock m1 c2 c3 active past h0 h1 (since_same old s1 clock m1 c1 c2 active past h0 h0 after same refl) q in
-      subst (λ (s : Service S). ServesSince old clock s m1 c4 active past h1) (sym stays) (since_changes old s1 clock m1 c3 c4 active past h1 h1 looked (shown h1))
+      let kept = since_same old s1 clock m1 c1 c2 active past h0 h0 after same refl in
+      let looked = since_changes old s1 clock m1 c3 c4 active past h1 h2 (since_same old s1 clock m1 c2 c3 active past h0 h1 kept stored unseen) q in
+      subst (λ (s : Service S). ServesSince old clock s m1 c5 active past h2) (sym stays) (since_changes old s1 clock m1 c4 c5 active past h2 h2 looked (shown h2))

@@ -9,7 +9,6 @@ ghost use Rattle.dss_server.specs.Serve.{ServesBy, ServesSoFar};
 ghost use Rattle.dss_server.specs.ServiceEvents.{CommitsBatch, MayCommitBatch, ServiceBatches};
 ghost use Rattle.dss_server.specs.ServiceEvents.{ServiceRuns, served_clients};
 
-use crate::acceptance::Acceptance;
 use crate::client_set::ClientSet;
 use crate::response_record::record_response;
 use admin_http::build::BuildInfo;
@@ -18,6 +17,7 @@ use admin_http::store_metrics::StoreMetrics;
 use admin_http::tokens::TokenMetrics;
 use server_admin::admin_connections::AdminConnections;
 use server_admin::admin_context::AdminContext;
+use server_base::acceptance::Acceptance;
 use server_base::backups::MakeBackups;
 use server_base::limits::{LOOKS, LOOKS_SOON, Limits, MAX_CONNECTIONS, STOPPING};
 use server_base::response_info::ResponseInfo;
@@ -32,6 +32,7 @@ use server_watch::purger::Purger;
 use server_watch::store_watch::{
     CommitOutcome, StoreWatch, outcome_of_batch, outcome_of_change, outcome_of_purge,
 };
+use server_watch::time_record::TimeRecord;
 use service_calls::service::Service;
 use space_core::group_commit::GroupCommit;
 use space_core::purge_ended::PurgeEnded;
@@ -52,11 +53,12 @@ pub(crate) struct EventLoop<N: Sockets, B> {
     acceptance: Acceptance,
     // When late clients were last looked for.
     looked: Duration,
-    // The metrics, the store watch, the purger, the admin port, and the deadline of a requested
-    // stop.
+    // The metrics, the store watch, the purger, the stored time, the admin port, and the deadline
+    // of a requested stop.
     metrics: ServiceMetrics,
     store: StoreWatch,
     purger: Purger,
+    record: TimeRecord,
     operators: AdminConnections<N, B>,
     // The time until which the metrics of the process count as current.
     measured_until: Duration,
@@ -72,6 +74,7 @@ impl<N: Sockets + Drop, B: MakeBackups + Drop> EventLoop<N, B> {
         is_operated: bool,
         backups: Option<B>,
         watch: ClockWatch,
+        record: TimeRecord,
     ) -> Result<EventLoop<N, B>, AllocError>
         ensures { IfOk result
             (λ event_loop. clients_of N.Client.name event_loop.clients ≡ no_clients) }
@@ -87,6 +90,7 @@ impl<N: Sockets + Drop, B: MakeBackups + Drop> EventLoop<N, B> {
             metrics: ServiceMetrics::new(alloc),
             store: StoreWatch::new(),
             purger: Purger::new(watch),
+            record,
             operators,
             measured_until: Duration::from_millis(0),
             stopping: None,
@@ -637,6 +641,32 @@ impl<N: Sockets + Drop, B: MakeBackups + Drop> EventLoop<N, B> {
             Err(_) => self.metrics.purged.note_fault(),
         }
         self.record_commit(outcome_of_purge(purged), now, journal);
+    }
+
+    /// Stores the last trusted time of the clock, if it is due, so that the next start finds it. A
+    /// failure is logged, and ends nothing.
+    pub(crate) fn store_time<J: ServerLog>(
+        &mut self,
+        sockets: &mut N,
+        now: Duration,
+        journal: &mut J,
+    )
+        ensures clients { KeepsClients N.Client.name self.old.clients self.new.clients }
+        ensures history { N.history sockets.new ≡ N.history sockets.old }
+    {
+        let Some(time) = self.purger.trusted_time() else {
+            return;
+        };
+        if !self.record.is_due(time, now) {
+            return;
+        }
+        match sockets.store_time(time) {
+            Ok(()) => self.record.keep(time),
+            Err(_) => {
+                journal.time_not_stored();
+                self.record.fail(now);
+            }
+        }
     }
 
     // Ends a client whose timeout has passed.

@@ -2,7 +2,6 @@
 //! thread.
 #![tactic(auto)]
 
-mod acceptance;
 mod client_set;
 mod deferred_clients;
 mod event_loop;

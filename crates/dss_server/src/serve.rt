@@ -9,8 +9,10 @@ use server_base::backups::MakeBackups;
 use server_base::limits::Limits;
 use server_base::server_log::ServerLog;
 use server_base::sockets::Sockets;
+use server_base::trusted_time::LastTime;
 use server_client::request_context::RequestContext;
 use server_watch::clock_watch::ClockWatch;
+use server_watch::time_record::TimeRecord;
 use server_watch::token_watch::{TokenSource, TokenWatch, in_force};
 use service_calls::service::Service;
 use space_core::purge_ended::PurgeEnded;
@@ -47,9 +49,9 @@ use wire_route::routes::Routes;
 /// retention nothing is purged.
 ///
 /// With a retention or an admin port the clock is read each second. Nothing is purged while it has
-/// jumped against the monotonic clock, nor after a start that is later than the retention and a day
-/// after `changed`, the last change of the database. This ends when the clock returns or an operator
-/// confirms it.
+/// jumped against the monotonic clock, nor after a start at which it contradicts `last`, the last
+/// known time. This ends when the clock returns or an operator confirms it. Times that are trusted
+/// are stored through the sockets for the next start.
 ///
 /// With a build there is an admin port, whose connections are answered in the same iterations. An
 /// admin request is no call of the service. It reads the service by `&`, so the service is the same
@@ -81,7 +83,7 @@ pub fn serve_clients<
     limits: Limits,
     explaining: Explaining,
     keep: Option<u64>,
-    changed: Option<u64>,
+    last: Option<LastTime>,
     operated: Option<BuildInfo<'_>>,
     journal: &mut J,
 ) -> io::Result<()>
@@ -94,8 +96,17 @@ pub fn serve_clients<
 {
     let mut newer = None;
     let is_counted = limits.count.is_some();
-    let clock = ClockWatch::new(keep, changed, keep.is_some() || operated.is_some());
-    let mut event_loop = EventLoop::<N, B>::new(alloc, limits, operated.is_some(), backups, clock)?;
+    let clock = ClockWatch::new(keep, last, keep.is_some() || operated.is_some());
+    let record = TimeRecord::new(last);
+    let is_operated = operated.is_some();
+    let mut event_loop = EventLoop::<N, B>::new(
+        alloc,
+        limits,
+        is_operated,
+        backups,
+        clock,
+        record,
+    )?;
     let mut now = sockets.monotonic_time()?;
     for _ in 0..u64::MAX {
         if is_counted && event_loop.is_done() {
@@ -115,6 +126,7 @@ pub fn serve_clients<
         event_loop.run_once(sockets, context, service, moments, now, journal);
         event_loop.flush_log(journal);
         event_loop.purge(keep, service, moments, now, journal);
+        event_loop.store_time(sockets, now, journal);
         event_loop.end_all_late(sockets, now, journal);
         if event_loop.serve_operators(sockets, operated, service, now) {
             return Ok(());

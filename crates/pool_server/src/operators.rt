@@ -1,36 +1,19 @@
 //! The admin port of an instance.
 ghost use Rattle.std.specs.Prelude.{◌≡◌};
 
-use admin_http::backup::BackupResult;
 use admin_http::build::BuildInfo;
 use admin_http::service_metrics::ServiceMetrics;
 use admin_http::store_metrics::StoreMetrics;
 use server_admin::admin_connections::AdminConnections;
 use server_admin::admin_context::AdminContext;
-use server_base::backups::{MakeBackups, Progress};
+use server_base::backups::NoBackups;
 use server_base::limits::LOOKS_SOON;
 use server_base::sockets::{SocketEvent, Sockets};
 use space_snapshot::snapshot::{NoMirror, Snapshot};
 use std::alloc::{AllocError, Global};
 use std::time::Duration;
 
-/// An instance makes no backups: the log has all changes.
-#[derive(Clone, Copy, Debug)]
-struct NoBackups;
-
-impl MakeBackups for NoBackups {
-    fn begin(&mut self, _name: &str) -> Progress {
-        Progress::Ended(BackupResult::WriteFailed)
-    }
-
-    fn go_on(&mut self) -> Progress {
-        Progress::Ended(BackupResult::WriteFailed)
-    }
-
-    fn abort(&mut self) {}
-}
-
-/// The connections to the admin port.
+/// The connections to the admin port. An instance makes no backups: the log has all changes.
 #[derive(Drop)]
 pub(crate) struct Operators<N: Sockets> {
     alloc: Global,

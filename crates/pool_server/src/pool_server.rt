@@ -19,7 +19,8 @@ use admin_http::service_metrics::ServiceMetrics;
 use pool_core::log::Log;
 use pool_instance::instance::Instance;
 use pool_instance::purge_totals::PurgeTotals;
-use server_base::limits::{ACCEPT_SILENCE, FULL, LOOKS, LOOKS_SOON, MAX_CONNECTIONS};
+use server_base::acceptance::Acceptance;
+use server_base::limits::{LOOKS, LOOKS_SOON, MAX_CONNECTIONS};
 use server_base::response_info::ResponseInfo;
 use server_base::server_log::ServerLog;
 use server_base::service_record::{failure_of, record_answer};
@@ -51,12 +52,7 @@ pub(crate) struct PoolServer<T> {
     is_freed: bool,
     // The number of free large buffers.
     large_buffers: usize,
-    // How many clients were accepted, whether one may wait, until when the system has no room for
-    // one, and until when that is not logged again.
-    accepted: u64,
-    may_come: bool,
-    full_until: Duration,
-    silent_until: Duration,
+    acceptance: Acceptance,
     // Until when requests of USSs for which the instance may not act are not logged, and whether one
     // may be among those that wait.
     unassigned_until: Duration,
@@ -88,10 +84,7 @@ impl<T: ClientSocket> PoolServer<T> {
             held: VecDeque::with_capacity(alloc, most)?,
             is_freed: false,
             large_buffers: limits.large_buffers,
-            accepted: 0,
-            may_come: true,
-            full_until: Duration::ZERO,
-            silent_until: Duration::ZERO,
+            acceptance: Acceptance::new(None),
             unassigned_until: Duration::ZERO,
             unchecked: false,
             looked: Duration::ZERO,
@@ -111,8 +104,8 @@ impl<T: ClientSocket> PoolServer<T> {
         if !self.next.is_empty() || (self.is_freed && !self.held.is_empty()) {
             return Duration::ZERO;
         }
-        if self.may_come && self.has_room() {
-            return self.full_until.saturating_sub(now);
+        if self.acceptance.may_come() && self.has_room() {
+            return self.acceptance.pause(now);
         }
         let is_soon = self.ending || self.stopping.is_some() || self.waiting.len() > 0;
         Duration::from_millis(if is_soon { LOOKS_SOON } else { LOOKS })
@@ -127,7 +120,7 @@ impl<T: ClientSocket> PoolServer<T> {
         ensures { KeepsClients T.name self.old self.new }
     {
         match told.which {
-            EventSource::Port => self.may_come = true,
+            EventSource::Port => self.acceptance.set_waiting(true),
             EventSource::Client(key) => {
                 if let Some(client) = self.clients.get_mut(key) {
                     client.note(told);
@@ -160,11 +153,11 @@ impl<T: ClientSocket> PoolServer<T> {
     }
 
     // Adds a client, which is queued. Closes it if memory runs out.
-    fn insert(&mut self, socket: T, now: Duration)
+    fn insert(&mut self, socket: T, number: u64, now: Duration)
         ensures { MayAccept (T.name socket) (clients_of T.name self.old.clients)
             (clients_of T.name self.new.clients) }
     {
-        let client = PoolClient::new(self.alloc, socket, self.accepted, now);
+        let client = PoolClient::new(self.alloc, socket, number, now);
         let Ok(key) = self.clients.insert(client) else {
             self.metrics.connections.refuse();
             return;
@@ -178,14 +171,14 @@ impl<T: ClientSocket> PoolServer<T> {
             (clients_of T.name self.new.clients) }
         ensures history { N.history sockets.new ≡ N.history sockets.old }
     {
-        self.accepted = self.accepted.saturating_add(1);
+        let number = self.acceptance.count();
         self.metrics.connections.accept();
         let key = self.clients.vacant_key();
         if sockets.watch(&mut socket, key).is_err() {
             self.metrics.connections.refuse();
             return;
         }
-        self.insert(socket, now);
+        self.insert(socket, number, now);
     }
 
     // Accepts the next connection, if one waits.
@@ -204,12 +197,12 @@ impl<T: ClientSocket> PoolServer<T> {
                 Ok(())
             }
             Err(AcceptFault::NoneWaits) => {
-                self.may_come = false;
+                self.acceptance.set_waiting(false);
                 Ok(())
             }
             Err(AcceptFault::Gone) => Ok(()),
             Err(AcceptFault::Full) => {
-                self.full_until = now.saturating_add(Duration::from_millis(FULL));
+                self.acceptance.begin_pause(now);
                 self.fail_accept(now, journal);
                 Ok(())
             }
@@ -233,7 +226,7 @@ impl<T: ClientSocket> PoolServer<T> {
             self.fail_accept(now, journal);
         }
         for _ in 0..MAX_CONNECTIONS {
-            if !self.may_come || !self.has_room() || now < self.full_until {
+            if !self.acceptance.may_come() || !self.has_room() || self.acceptance.is_paused(now) {
                 return Ok(());
             }
             self.accept_next(sockets, now, journal)?;
@@ -246,8 +239,7 @@ impl<T: ClientSocket> PoolServer<T> {
         ensures { KeepsClients T.name self.old self.new }
     {
         self.metrics.connections.note_failed_accept();
-        if now >= self.silent_until {
-            self.silent_until = now.saturating_add(Duration::from_millis(ACCEPT_SILENCE));
+        if self.acceptance.is_reported(now) {
             journal.accept_failed();
         }
     }

@@ -23,3 +23,19 @@ pub trait MakeBackups {
     /// Aborts the backup in progress and removes its partial file.
     fn abort(&mut self);
 }
+
+/// Makes no backups: each ends at once, since there is no directory for it.
+#[derive(Clone, Copy, Debug)]
+pub struct NoBackups;
+
+impl MakeBackups for NoBackups {
+    fn begin(&mut self, _name: &str) -> Progress {
+        Progress::Ended(BackupResult::NoDirectory)
+    }
+
+    fn go_on(&mut self) -> Progress {
+        Progress::Ended(BackupResult::NoDirectory)
+    }
+
+    fn abort(&mut self) {}
+}

@@ -36,10 +36,15 @@ pub enum ClockEvent {
     JumpedForward(u64),
     /// It jumped backward by so many seconds.
     JumpedBackward(u64),
-    /// At the start, the database was last changed so many seconds ago, longer than the retention
+    /// At the start, it was so many seconds after the last known time, longer than the retention
     /// and a day.
     StartedLate(u64),
-    /// It agrees with the monotonic clock again.
+    /// At the start, it had not returned from a jump: it was so many seconds after the last trusted
+    /// time.
+    StartedAhead(u64),
+    /// At the start, it was so many seconds before the last trusted time.
+    StartedBehind(u64),
+    /// It agrees with the monotonic clock, or with the last known time, again.
     Returned,
     /// An operator confirmed it.
     Confirmed,
@@ -99,6 +104,9 @@ pub trait ServerLog {
 
     /// Logs a change of what is known of the clock. The default logs nothing.
     fn clock_event(&mut self, _news: ClockEvent) {}
+
+    /// Logs that a trusted time could not be stored. The default logs nothing.
+    fn time_not_stored(&mut self) {}
 
     /// Logs that a purge removed so many items. The default logs nothing.
     fn purged(&mut self, _count: usize) {}

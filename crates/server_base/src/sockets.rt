@@ -1,4 +1,5 @@
 //! What the service requires of the system: non-blocking sockets, and their events.
+use crate::trusted_time::TrustedTime;
 use admin_http::machine::MachineMetrics;
 use std::io;
 use std::net::SocketAddr;
@@ -140,6 +141,14 @@ pub trait Sockets {
     /// Returns the metrics that the system has of the process. The default has none.
     fn machine(&self) -> MachineMetrics {
         MachineMetrics::unknown()
+    }
+
+    /// Stores a time that the service trusted, so that the next start finds it. The default stores
+    /// nothing.
+    fn store_time(&mut self, _time: TrustedTime) -> io::Result<()>
+        ensures { history self.new ≡ history self.old }
+    {
+        Ok(())
     }
 
     /// Returns the time since some fixed start. It never decreases.

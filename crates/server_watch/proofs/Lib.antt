@@ -1,3 +1,4 @@
+mod Restarts
 mod Salts
 mod Verdicts
 mod Watches

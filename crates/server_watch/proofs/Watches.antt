@@ -10,7 +10,7 @@ use Rattle.server_watch.specs.declared.clock_watch.ClockWatch.{ClockWatch}
 
 -- A reading is wrong or plausible.
 pub learns : (known known' : ClockState) (moment : ℕ) (now : Duration) (held : Bool) (watch : ClockWatch) → is_held_in watch ≡ held → ((is_held_in watch ≡ true) ↔ IsWrong known moment now)
-    → (is_held_in watch ≡ false → IsPlausible known moment now) → (IsWrong known moment now → known' ≡ held_after known) → (IsPlausible known moment now → known' ≡ state.Right moment now)
+    → (is_held_in watch ≡ false → IsPlausible known moment now) → (IsWrong known moment now → known' ≡ held_after known moment) → (IsPlausible known moment now → known' ≡ state.Right moment now)
     → Learns known moment now known'
 learns known known' moment now true watch is wrong free after_wrong after_right = inl (wrong.0 is, after_wrong (wrong.0 is))
 learns known known' moment now false watch is wrong free after_wrong after_right = inr (free is, after_right (free is))
@@ -24,7 +24,7 @@ is_news known moment now event false watch is wrong free if_wrong if_right = inr
 
 -- The watch records a reading.
 pub records : (old new : ClockWatch) (moment : ℕ) (now : Duration) (event : Option ClockEvent) → ((is_held_in new ≡ true) ↔ IsWrong (state_of old) moment now)
-    → (is_held_in new ≡ false → IsPlausible (state_of old) moment now) → (IsWrong (state_of old) moment now → state_of new ≡ held_after (state_of old))
+    → (is_held_in new ≡ false → IsPlausible (state_of old) moment now) → (IsWrong (state_of old) moment now → state_of new ≡ held_after (state_of old) moment)
     → (IsPlausible (state_of old) moment now → state_of new ≡ state.Right moment now) → (IsWrong (state_of old) moment now → ReportsWrong (state_of old) moment now event)
     → (IsPlausible (state_of old) moment now → event ≡ news_of_right (state_of old)) → jumps_of new ≡ jumps_after event (jumps_of old) → looked_of new ≡ Some now → is_watched_in new ≡ is_watched_in old
     → Records moment now old new event

@@ -1,19 +1,19 @@
 -- Jumps of the clock, against the monotonic clock.
-use Rattle.std.specs.Prelude.{◌≡◌, ◌+◌, ◌-◌, ◌/◌, ◌^◌, ◌<◌, ◌≤◌, ◌⊎◌, ℕ, Bool, true, false, Option, Some, None, ⊤, min}
+use Rattle.std.specs.Prelude.{◌≡◌, ◌+◌, ◌-◌, ◌/◌, ◌<◌, ◌≤◌, ◌⊎◌, ℕ, Bool, true, false, Option, Some, None, ⊤}
 use Rattle.std.specs.Duration.{as_nanos}
 use Rattle.std.specs.declared.time.Duration.{Duration}
 use Rattle.server_base.specs.declared.server_log.ClockEvent.{ClockEvent}
 use Rattle.server_base.specs.declared.server_log.ClockEvent.TheVariants as news
+use Rattle.server_base.specs.declared.trusted_time.LastTime.{LastTime}
+use Rattle.server_base.specs.declared.trusted_time.TrustedTime.{TrustedTime}
 use Rattle.server_watch.specs.declared.clock_watch.ClockState.{ClockState}
 use Rattle.server_watch.specs.declared.clock_watch.ClockState.TheVariants as state
 use Rattle.server_watch.specs.declared.clock_watch.ClockWatch.{ClockWatch}
 use Rattle.server_watch.specs.declared.clock_watch.Drift.{Drift}
 use Rattle.server_watch.specs.declared.clock_watch.Drift.TheVariants as drift
-use Rattle.server_watch.specs.declared.clock_watch.LastChange.{LastChange}
-
--- Adds two numbers, saturating at the maximum of `u64`.
-abbrev pub add : (a b : ℕ) → ℕ
-add a b = min (a + b) (2 ^ 64 - 1)
+use Rattle.server_watch.specs.declared.reference.Reference.{Reference}
+use Rattle.server_watch.specs.Reference.{IsDoubt, IsDoubtful, time_of}
+use Rattle.server_watch.specs.Saturating.{add}
 
 -- Returns the time in seconds that the clock should return `now`, if it returned `last` at that time
 -- of the monotonic clock.
@@ -43,65 +43,66 @@ IsJump moment expected (news.JumpedForward by) =
 IsJump moment expected (news.JumpedBackward by) =
     (moment + 5 < expected) × (expected ≡ moment + by)
 IsJump moment expected (news.StartedLate by) = ⊥
+IsJump moment expected (news.StartedAhead by) = ⊥
+IsJump moment expected (news.StartedBehind by) = ⊥
 IsJump moment expected news.Returned = ⊥
 IsJump moment expected news.Confirmed = ⊥
 
--- Returns what is known before the first reading: the last change of the database, and the retention
--- and a day after it. Without a retention, or without a known change, nothing is known.
-abbrev pub last_change : (keep changed : Option ℕ) → Option LastChange
-last_change None changed = None
-last_change (Some keep) None = None
-last_change (Some keep) (Some changed) =
-    Some (record { changed = changed; limit = add (add changed keep) 86_400 })
+-- Returns what is known before the first reading, if anything: the last known time, and the
+-- retention.
+abbrev pub reference : (keep : Option ℕ) → Option LastTime → Option Reference
+reference keep None = None
+reference keep (Some last) = Some (record { keep = keep; last = last })
 
--- Holds if a reading contradicts what is known of the clock: at the start, that it is not later than
--- the limit after the last change; afterwards, that it advances with the monotonic clock.
+-- Holds if a reading contradicts what is known of the clock: at the start, the last known time;
+-- afterwards, that it advances with the monotonic clock.
 abbrev pub IsWrong : ClockState → (moment : ℕ) → (now : Duration) → Type 0
 IsWrong (state.Unread None) moment now = ⊥
-IsWrong (state.Unread (Some last)) moment now = last.limit < moment
-IsWrong (state.Late last) moment now = last.limit < moment
+IsWrong (state.Unread (Some start)) moment now = IsDoubtful start moment
+IsWrong (state.Doubted start) moment now = IsDoubtful start moment
 IsWrong (state.Right last at) moment now = IsFar moment (expected_at last at now)
-IsWrong (state.Jumped last at) moment now = IsFar moment (expected_at last at now)
+IsWrong (state.Jumped last at to) moment now = IsFar moment (expected_at last at now)
 IsWrong state.Confirmed moment now = ⊥
 
 -- Holds if a reading contradicts nothing that is known of the clock.
 abbrev pub IsPlausible : ClockState → (moment : ℕ) → (now : Duration) → Type 0
 IsPlausible (state.Unread None) moment now = ⊤
-IsPlausible (state.Unread (Some last)) moment now = moment ≤ last.limit
-IsPlausible (state.Late last) moment now = moment ≤ last.limit
+IsPlausible (state.Unread (Some start)) moment now = IsDoubtful start moment → ⊥
+IsPlausible (state.Doubted start) moment now = IsDoubtful start moment → ⊥
 IsPlausible (state.Right last at) moment now = IsNear moment (expected_at last at now)
-IsPlausible (state.Jumped last at) moment now = IsNear moment (expected_at last at now)
+IsPlausible (state.Jumped last at to) moment now = IsNear moment (expected_at last at now)
 IsPlausible state.Confirmed moment now = ⊤
 
--- Returns the state after a wrong reading. It keeps the last right reading, or the last change.
-abbrev pub held_after : ClockState → ClockState
-held_after (state.Unread None) = state.Unread None
-held_after (state.Unread (Some last)) = state.Late last
-held_after (state.Late last) = state.Late last
-held_after (state.Right last at) = state.Jumped last at
-held_after (state.Jumped last at) = state.Jumped last at
-held_after state.Confirmed = state.Confirmed
+-- Returns the state after a wrong reading. It keeps the last right reading, or the last known time,
+-- and the time to which the clock jumped.
+abbrev pub held_after : ClockState → (moment : ℕ) → ClockState
+held_after (state.Unread None) moment = state.Unread None
+held_after (state.Unread (Some start)) moment = state.Doubted start
+held_after (state.Doubted start) moment = state.Doubted start
+held_after (state.Right last at) moment = state.Jumped last at moment
+held_after (state.Jumped last at to) moment = state.Jumped last at to
+held_after state.Confirmed moment = state.Confirmed
 
 -- Holds if this event, if any, reports a wrong reading. A wrong reading after a wrong one is not
 -- reported.
 abbrev pub ReportsWrong : ClockState → (moment : ℕ) → (now : Duration) → Option ClockEvent → Type 0
 ReportsWrong (state.Unread None) moment now event = event ≡ None
-ReportsWrong (state.Unread (Some last)) moment now event =
-    event ≡ Some (news.StartedLate (moment - last.changed))
-ReportsWrong (state.Late last) moment now event = event ≡ None
+ReportsWrong (state.Unread (Some start)) moment now None = ⊥
+ReportsWrong (state.Unread (Some start)) moment now (Some event) = IsDoubt start moment event
+ReportsWrong (state.Doubted start) moment now event = event ≡ None
 ReportsWrong (state.Right last at) moment now None = ⊥
 ReportsWrong (state.Right last at) moment now (Some event) =
     IsJump moment (expected_at last at now) event
-ReportsWrong (state.Jumped last at) moment now event = event ≡ None
+ReportsWrong (state.Jumped last at to) moment now event = event ≡ None
 ReportsWrong state.Confirmed moment now event = event ≡ None
 
 -- Returns the event that reports a plausible reading: the first one after wrong ones, or after an
 -- operator's confirmation.
 abbrev pub news_of_right : ClockState → Option ClockEvent
-news_of_right (state.Unread last) = None
-news_of_right (state.Late last) = Some news.Returned
+news_of_right (state.Unread start) = None
+news_of_right (state.Doubted start) = Some news.Returned
 news_of_right (state.Right last at) = None
-news_of_right (state.Jumped last at) = Some news.Returned
+news_of_right (state.Jumped last at to) = Some news.Returned
 news_of_right state.Confirmed = Some news.Confirmed
 
 -- Returns the number of jumps after an event, saturating at the maximum of `u64`.
@@ -110,24 +111,35 @@ jumps_after None jumps = jumps
 jumps_after (Some (news.JumpedForward by)) jumps = add jumps 1
 jumps_after (Some (news.JumpedBackward by)) jumps = add jumps 1
 jumps_after (Some (news.StartedLate by)) jumps = jumps
+jumps_after (Some (news.StartedAhead by)) jumps = jumps
+jumps_after (Some (news.StartedBehind by)) jumps = jumps
 jumps_after (Some news.Returned) jumps = jumps
 jumps_after (Some news.Confirmed) jumps = jumps
 
 -- Returns the state after an operator's confirmation.
 abbrev pub confirmed : ClockState → ClockState
-confirmed (state.Unread last) = state.Unread last
-confirmed (state.Late last) = state.Confirmed
+confirmed (state.Unread start) = state.Unread start
+confirmed (state.Doubted start) = state.Confirmed
 confirmed (state.Right moment at) = state.Right moment at
-confirmed (state.Jumped moment at) = state.Confirmed
+confirmed (state.Jumped moment at to) = state.Confirmed
 confirmed state.Confirmed = state.Confirmed
 
 -- Returns true if purges are held in this state.
 abbrev pub holds_purges : ClockState → Bool
-holds_purges (state.Unread last) = false
-holds_purges (state.Late last) = true
+holds_purges (state.Unread start) = false
+holds_purges (state.Doubted start) = true
 holds_purges (state.Right moment at) = false
-holds_purges (state.Jumped moment at) = true
+holds_purges (state.Jumped moment at to) = true
 holds_purges state.Confirmed = false
+
+-- Returns the time to store for the next start: the last right reading, with the time to which the
+-- clock jumped since then; after a doubtful start, the last known time.
+abbrev pub trusted_of : ClockState → Option TrustedTime
+trusted_of (state.Unread start) = None
+trusted_of (state.Doubted start) = Some (time_of start.last)
+trusted_of (state.Right moment at) = Some (record { moment = moment; jumped_to = None })
+trusted_of (state.Jumped moment at to) = Some (record { moment = moment; jumped_to = Some to })
+trusted_of state.Confirmed = None
 
 abbrev pub state_of : ClockWatch → ClockState
 state_of watch = watch.state

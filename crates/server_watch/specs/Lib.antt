@@ -1,7 +1,11 @@
 pub mod ClockWatch
 pub mod Deadline
+pub mod Laws
 pub mod Purger
+pub mod Reference
 pub mod ResetWatch
+pub mod Saturating
 pub mod StoreWatch
+pub mod TimeRecord
 pub mod Tokens
 pub mod TokenWatch

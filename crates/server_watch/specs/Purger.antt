@@ -9,8 +9,9 @@ use Rattle.service_calls.specs.Purged.{IsPurge, PurgesOnce}
 use Rattle.wire_http.specs.declared.moments.Moments as moments
 use Rattle.server_base.specs.Calls.{ClockReadings}
 use Rattle.server_base.specs.declared.server_log.ClockEvent.{ClockEvent}
-use Rattle.server_watch.specs.ClockWatch.{IsPlausible, IsWrong, ReportsWrong, add, held_after, is_held_in, is_watched_in, jumps_after, jumps_of, looked_of, news_of_right, state_of}
+use Rattle.server_watch.specs.ClockWatch.{IsPlausible, IsWrong, ReportsWrong, held_after, is_held_in, is_watched_in, jumps_after, jumps_of, looked_of, news_of_right, state_of}
 use Rattle.server_watch.specs.Deadline.{a_minute_after}
+use Rattle.server_watch.specs.Saturating.{add}
 use Rattle.server_watch.specs.declared.clock_watch.ClockState.{ClockState}
 use Rattle.server_watch.specs.declared.clock_watch.ClockState.TheVariants as state
 use Rattle.server_watch.specs.declared.clock_watch.ClockWatch.{ClockWatch}
@@ -92,7 +93,7 @@ ReadsClock m clock clock' = (told : List (Option ℕ)) × ClockReadings m told c
 abbrev pub Learns : (known : ClockState) → (moment : ℕ) → (now : Duration) → (known' : ClockState)
     → Type 0
 Learns known moment now known' =
-    (IsWrong known moment now × (known' ≡ held_after known))
+    (IsWrong known moment now × (known' ≡ held_after known moment))
     ⊎ (IsPlausible known moment now × (known' ≡ state.Right moment now))
 
 -- Holds if the clock was read at most once, and this is known of it afterwards. If it returned no

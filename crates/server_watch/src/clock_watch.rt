@@ -1,10 +1,12 @@
 //! The watch over the clock. A jump of the clock holds purges, since a wrong time ends flights.
 ghost use Rattle.std.specs.Prelude.{◌≡◌, ◌↔◌, None, Some, IfNone, IfSome, IsTrue, true, false};
-ghost use Rattle.server_watch.specs.ClockWatch.{IsDrift, IsDue, IsJump, IsNear, IsPlausible, IsWrong, ReportsWrong, confirmed, expected_at, held_after, is_held_in, is_watched_in, jumps_after, jumps_of, last_change, looked_after, looked_of, news_of_right, state_of};
+ghost use Rattle.server_watch.specs.ClockWatch.{IsDrift, IsDue, IsJump, IsNear, IsPlausible, IsWrong, ReportsWrong, confirmed, expected_at, held_after, is_held_in, is_watched_in, jumps_after, jumps_of, looked_after, looked_of, news_of_right, reference, state_of, trusted_of};
 ghost use Rattle.server_watch.specs.declared.clock_watch.ClockState.TheVariants as state;
 
+use crate::reference::Reference;
 use admin_http::clock::ClockMetrics;
 use server_base::server_log::ClockEvent;
+use server_base::trusted_time::{LastTime, TrustedTime};
 use std::time::Duration;
 
 // The seconds by which the clock may be ahead of the monotonic clock and behind it, between two
@@ -12,9 +14,6 @@ use std::time::Duration;
 const MAX_FORWARD: u64 = 60;
 
 const MAX_BACKWARD: u64 = 5;
-
-// The seconds by which the start may be later than the retention after the last change.
-const DAY: u64 = 86_400;
 
 // The interval between readings of the clock, in seconds.
 const GAP: u64 = 1;
@@ -43,24 +42,17 @@ fn drift_of(moment: u64, expected: u64) -> Drift
     Drift::Near
 }
 
-// The last change of the database before the start, and the last time at which a start is not late.
-#[derive(Clone, Copy, Debug, PartialEq, Eq)]
-struct LastChange {
-    changed: u64,
-    limit: u64,
-}
-
 // What is known of the clock.
 #[derive(Clone, Copy, Debug, PartialEq, Eq)]
 enum ClockState {
     // It was not read yet.
-    Unread(Option<LastChange>),
-    // The start was late.
-    Late(LastChange),
+    Unread(Option<Reference>),
+    // Since the start it contradicts the last known time.
+    Doubted(Reference),
     // It returned this time, when the monotonic clock returned that one.
     Right(u64, Duration),
-    // It has jumped since then.
-    Jumped(u64, Duration),
+    // It has jumped since then, to the last time here.
+    Jumped(u64, Duration, u64),
     // An operator confirmed it.
     Confirmed,
 }
@@ -86,8 +78,8 @@ fn expected_at(last: u64, then: Duration, now: Duration) -> u64
 
 /// The watch over the clock.
 ///
-/// It compares the clock with the monotonic clock. Purges are held while the clock has jumped, and
-/// after a start that is much later than the last change of the database.
+/// It compares the clock with the monotonic clock, and at the start with the last known time. Purges
+/// are held while the clock contradicts them, until it returns or an operator confirms it.
 #[derive(Clone, Copy, Debug)]
 pub struct ClockWatch {
     state: ClockState,
@@ -98,23 +90,20 @@ pub struct ClockWatch {
 }
 
 impl ClockWatch {
-    /// Creates a watch for a service with this retention, over a database that was last changed at
-    /// this time. `is_watched` says whether the clock is read without a purge, too.
-    pub fn new(keep: Option<u64>, changed: Option<u64>, is_watched: bool) -> ClockWatch
-        ensures state { state_of result ≡ state.Unread (last_change keep changed) }
+    /// Creates a watch for a service with this retention, after a start with this last known time.
+    /// `is_watched` says whether the clock is read without a purge, too.
+    pub fn new(keep: Option<u64>, last: Option<LastTime>, is_watched: bool) -> ClockWatch
+        ensures state { state_of result ≡ state.Unread (reference keep last) }
         ensures jumps { jumps_of result ≡ 0 }
         ensures looked { looked_of result ≡ None }
         ensures watched { is_watched_in result ≡ is_watched }
     {
-        let last = match (keep, changed) {
-            (Some(keep), Some(changed)) => Some(LastChange {
-                changed,
-                limit: changed.saturating_add(keep).saturating_add(DAY),
-            }),
-            _ => None,
+        let start = match last {
+            Some(last) => Some(Reference { keep, last }),
+            None => None,
         };
         ClockWatch {
-            state: ClockState::Unread(last),
+            state: ClockState::Unread(start),
             looked: None,
             jumps: 0,
             is_watched,
@@ -126,8 +115,27 @@ impl ClockWatch {
         ensures { result ≡ is_held_in self.now }
     {
         match self.state {
-            ClockState::Late(_) | ClockState::Jumped(_, _) => true,
+            ClockState::Doubted(_) | ClockState::Jumped(_, _, _) => true,
             ClockState::Unread(_) | ClockState::Right(_, _) | ClockState::Confirmed => false,
+        }
+    }
+
+    /// Returns the time to store for the next start, if there is one: the last right reading, with
+    /// the time to which the clock jumped since then; after a doubtful start, the last known time.
+    pub fn trusted(&self) -> Option<TrustedTime>
+        ensures { result ≡ trusted_of (state_of self.now) }
+    {
+        match self.state {
+            ClockState::Unread(_) | ClockState::Confirmed => None,
+            ClockState::Doubted(start) => Some(start.time()),
+            ClockState::Right(moment, _) => Some(TrustedTime {
+                moment,
+                jumped_to: None,
+            }),
+            ClockState::Jumped(moment, _, to) => Some(TrustedTime {
+                moment,
+                jumped_to: Some(to),
+            }),
         }
     }
 
@@ -175,7 +183,7 @@ impl ClockWatch {
         ensures held { (is_held_in self.new ≡ true) ↔ IsWrong (state_of self.old) moment now }
         ensures free { is_held_in self.new ≡ false → IsPlausible (state_of self.old) moment now }
         ensures wrong { IsWrong (state_of self.old) moment now
-            → state_of self.new ≡ held_after (state_of self.old) }
+            → state_of self.new ≡ held_after (state_of self.old) moment }
         ensures right { IsPlausible (state_of self.old) moment now
             → state_of self.new ≡ state.Right moment now }
         ensures wrong_event { IsWrong (state_of self.old) moment now
@@ -189,16 +197,23 @@ impl ClockWatch {
         self.looked = Some(now);
         let right = ClockState::Right(moment, now);
         match self.state {
-            ClockState::Unread(Some(last)) if moment > last.limit => {
-                self.state = ClockState::Late(last);
-                Some(ClockEvent::StartedLate(moment.saturating_sub(last.changed)))
-            }
-            ClockState::Unread(_) => {
+            ClockState::Unread(None) => {
                 self.state = right;
                 None
             }
-            ClockState::Late(last) if moment > last.limit => None,
-            ClockState::Late(_) => {
+            ClockState::Unread(Some(start)) => {
+                let event = start.doubt(moment);
+                self.state = if event.is_some() {
+                    ClockState::Doubted(start)
+                } else {
+                    right
+                };
+                event
+            }
+            ClockState::Doubted(start) => {
+                if start.doubt(moment).is_some() {
+                    return None;
+                }
                 self.state = right;
                 Some(ClockEvent::Returned)
             }
@@ -210,13 +225,13 @@ impl ClockWatch {
                 let event = jump(moment, expected_at(last, at, now));
                 if event.is_some() {
                     self.jumps = self.jumps.saturating_add(1);
-                    self.state = ClockState::Jumped(last, at);
+                    self.state = ClockState::Jumped(last, at, moment);
                 } else {
                     self.state = right;
                 }
                 event
             }
-            ClockState::Jumped(last, at) => {
+            ClockState::Jumped(last, at, _) => {
                 if jump(moment, expected_at(last, at, now)).is_some() {
                     return None;
                 }

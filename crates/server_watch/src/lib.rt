@@ -4,7 +4,10 @@
 
 pub mod clock_watch;
 mod deadline;
+pub mod laws;
 pub mod purger;
+mod reference;
 pub mod reset_watch;
 pub mod store_watch;
+pub mod time_record;
 pub mod token_watch;

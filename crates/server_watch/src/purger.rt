@@ -1,12 +1,13 @@
 //! When ended entities are purged, and how many at once.
 ghost use Rattle.std.specs.Prelude.{◌≡◌, ◌⊎◌, None, Some, IfSome, IsSome, false, true};
-ghost use Rattle.server_watch.specs.ClockWatch.{IsDue, confirmed, is_held_in, is_watched_in, jumps_of, looked_after, looked_of, state_of};
+ghost use Rattle.server_watch.specs.ClockWatch.{IsDue, confirmed, is_held_in, is_watched_in, jumps_of, looked_after, looked_of, state_of, trusted_of};
 ghost use Rattle.server_watch.specs.Purger.{IsChunkDue, IsChunkEarly, IsLeft, IsPlanned, MayPurge, PurgesNothing, PurgesPlausibly, ReadsClock, ReadsOnce, RecordsClock, TellsChunk, WatchesClock, clock_of, count_of, due_of, is_held_by, is_running_in, removed_of, rests_in};
 
 use crate::clock_watch::ClockWatch;
 use crate::deadline::is_before;
 use admin_http::clock::ClockMetrics;
 use server_base::server_log::ClockEvent;
+use server_base::trusted_time::TrustedTime;
 use service_calls::service::Service;
 use space_core::purge_ended::PurgeEnded;
 use space_core::space::SpaceFault;
@@ -168,6 +169,13 @@ impl Purger {
         ensures jumps { result.jumps ≡ jumps_of (clock_of self.now) }
     {
         self.clock.metrics()
+    }
+
+    /// Returns the time to store for the next start, if there is one.
+    pub fn trusted_time(&self) -> Option<TrustedTime>
+        ensures { result ≡ trusted_of (state_of (clock_of self.now)) }
+    {
+        self.clock.trusted()
     }
 
     /// Records that an operator confirms the clock, so that purges are no longer held.

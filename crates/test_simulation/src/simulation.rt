@@ -13,12 +13,11 @@ use crate::sockets::{Operator, SimSockets};
 use crate::store::FailingStore;
 use crate::tokens::{FIRST, SimTokens};
 use crate::verdict::{Facts, Failure, Flaw, judge};
-use admin_http::backup::BackupResult;
 use admin_http::build::BuildInfo;
 use admin_http::web_page::OwnHosts;
 use dss_server::serve::serve_clients;
 use entity_core::salt::Salt;
-use server_base::backups::{MakeBackups, Progress};
+use server_base::backups::NoBackups;
 use server_watch::token_watch::TokenWatch;
 use service_calls::service::Service;
 use space_core::batch::ApplyBatch;
@@ -33,22 +32,6 @@ use wire_route::routes::Routes;
 
 /// The space of a simulated service.
 pub(crate) type SimSpace = Mirrored<FailingStore<SqlSpace<MemStore>>>;
-
-// A maker of no backups.
-#[derive(Drop)]
-struct NoBackups;
-
-impl MakeBackups for NoBackups {
-    fn begin(&mut self, _name: &str) -> Progress {
-        Progress::Ended(BackupResult::NoDirectory)
-    }
-
-    fn go_on(&mut self) -> Progress {
-        Progress::Ended(BackupResult::NoDirectory)
-    }
-
-    fn abort(&mut self) {}
-}
 
 /// What all simulations share.
 #[derive(Drop)]

@@ -31,8 +31,8 @@ loop-preserved g c = (
       c.args.moments.now c.loop.moments c.run_once.new.moments c.purge.new.moments
       c.loop.invariant.0 c.look.ensures.taken c.or-newer.ensures c.in_force.ensures c.run_once.ensures.serves c.purge.ensures.purges c.serve_operators.ensures.same,
   since_ends g.S.Space g.S.GroupCommit g.M.Moments c.args.explaining g.T.TokenSource c.args.keep c.args.tokens.now c.args.watch c.args.service.now c.run_once.new.service c.purge.new.service c.serve_operators.new.service c.args.moments.now c.run_once.new.moments c.purge.new.moments
-      (clients_of g.N.Client.ClientSocket.name c.run_once.new.self.clients) (clients_of g.N.Client.ClientSocket.name c.flush_log.new.self.clients) (clients_of g.N.Client.ClientSocket.name c.purge.new.self.clients) (clients_of g.N.Client.ClientSocket.name c.end_all_late.new.self.clients) (clients_of g.N.Client.ClientSocket.name c.serve_operators.new.self.clients)
-      (watched (unwrap_or c.or-newer.result c.args.tokens.now) c.look.new.self) (g.N.Sockets.history c.args.sockets.now) (g.N.Sockets.history c.run_once.new.sockets) (g.N.Sockets.history c.end_all_late.new.sockets)
+      (clients_of g.N.Client.ClientSocket.name c.run_once.new.self.clients) (clients_of g.N.Client.ClientSocket.name c.flush_log.new.self.clients) (clients_of g.N.Client.ClientSocket.name c.purge.new.self.clients) (clients_of g.N.Client.ClientSocket.name c.store_time.new.self.clients) (clients_of g.N.Client.ClientSocket.name c.end_all_late.new.self.clients) (clients_of g.N.Client.ClientSocket.name c.serve_operators.new.self.clients)
+      (watched (unwrap_or c.or-newer.result c.args.tokens.now) c.look.new.self) (g.N.Sockets.history c.args.sockets.now) (g.N.Sockets.history c.run_once.new.sockets) (g.N.Sockets.history c.store_time.new.sockets) (g.N.Sockets.history c.end_all_late.new.sockets)
       (since_answers g.S.Space g.S.GroupCommit g.M.Moments c.args.explaining g.T.TokenSource c.args.keep c.args.tokens.now c.args.watch c.args.service.now c.loop.service c.run_once.new.service c.args.moments.now c.loop.moments c.run_once.new.moments
       (clients_of g.N.Client.ClientSocket.name c.accept.new.self.clients) (clients_of g.N.Client.ClientSocket.name c.show_tokens.new.self.clients) (clients_of g.N.Client.ClientSocket.name c.run_once.new.self.clients)
       c.loop.newer c.look.result c.or-newer.result c.in_force.result.now c.in_ok-now-2.now c.loop.watch c.look.new.self (g.N.Sockets.history c.args.sockets.now) (g.N.Sockets.history c.accept.new.sockets) (g.N.Sockets.history c.run_once.new.sockets)
@@ -41,7 +41,7 @@ loop-preserved g c = (
       (g.N.Sockets.history c.args.sockets.now) (g.N.Sockets.history c.loop.sockets) (g.N.Sockets.history c.wait.new.sockets) (g.N.Sockets.history c.accept.new.sockets) c.loop.invariant.1
       c.wait.ensures.clients c.wait.ensures.history c.accept.ensures)
       (λ early. (c.look.ensures.waits early, c.look.ensures.stays early), λ due. (c.look.ensures.looked due, c.look.ensures.looks due)) c.or-newer.ensures c.in_force.ensures c.show_tokens.ensures c.run_once.ensures.runs)
-      c.flush_log.ensures c.purge.ensures.purges c.purge.ensures.clients c.end_all_late.ensures c.serve_operators.ensures.clients c.serve_operators.ensures.same,
+      c.flush_log.ensures c.purge.ensures.purges c.purge.ensures.clients c.store_time.ensures.clients c.store_time.ensures.history c.end_all_late.ensures c.serve_operators.ensures.clients c.serve_operators.ensures.same,
 )
 
 pub returns-then-serve_operators-clause-serves : goal.returns-then-serve_operators-clause-serves
@@ -56,8 +56,8 @@ pub returns-then-serve_operators-clause-clients : goal.returns-then-serve_operat
 returns-then-serve_operators-clause-clients g c =
     since_serves g.S.Space g.S.GroupCommit g.M.Moments c.args.explaining g.T.TokenSource c.args.keep c.args.tokens.now c.args.watch c.args.service.now c.serve_operators.new.service c.args.moments.now c.purge.new.moments (clients_of g.N.Client.ClientSocket.name c.serve_operators.new.self.clients) (watched (unwrap_or c.or-newer.result c.args.tokens.now) c.look.new.self) (g.N.Sockets.history c.args.sockets.now) (g.N.Sockets.history c.end_all_late.new.sockets)
     (since_ends g.S.Space g.S.GroupCommit g.M.Moments c.args.explaining g.T.TokenSource c.args.keep c.args.tokens.now c.args.watch c.args.service.now c.run_once.new.service c.purge.new.service c.serve_operators.new.service c.args.moments.now c.run_once.new.moments c.purge.new.moments
-    (clients_of g.N.Client.ClientSocket.name c.run_once.new.self.clients) (clients_of g.N.Client.ClientSocket.name c.flush_log.new.self.clients) (clients_of g.N.Client.ClientSocket.name c.purge.new.self.clients) (clients_of g.N.Client.ClientSocket.name c.end_all_late.new.self.clients) (clients_of g.N.Client.ClientSocket.name c.serve_operators.new.self.clients)
-    (watched (unwrap_or c.or-newer.result c.args.tokens.now) c.look.new.self) (g.N.Sockets.history c.args.sockets.now) (g.N.Sockets.history c.run_once.new.sockets) (g.N.Sockets.history c.end_all_late.new.sockets)
+    (clients_of g.N.Client.ClientSocket.name c.run_once.new.self.clients) (clients_of g.N.Client.ClientSocket.name c.flush_log.new.self.clients) (clients_of g.N.Client.ClientSocket.name c.purge.new.self.clients) (clients_of g.N.Client.ClientSocket.name c.store_time.new.self.clients) (clients_of g.N.Client.ClientSocket.name c.end_all_late.new.self.clients) (clients_of g.N.Client.ClientSocket.name c.serve_operators.new.self.clients)
+    (watched (unwrap_or c.or-newer.result c.args.tokens.now) c.look.new.self) (g.N.Sockets.history c.args.sockets.now) (g.N.Sockets.history c.run_once.new.sockets) (g.N.Sockets.history c.store_time.new.sockets) (g.N.Sockets.history c.end_all_late.new.sockets)
     (since_answers g.S.Space g.S.GroupCommit g.M.Moments c.args.explaining g.T.TokenSource c.args.keep c.args.tokens.now c.args.watch c.args.service.now c.loop.service c.run_once.new.service c.args.moments.now c.loop.moments c.run_once.new.moments
     (clients_of g.N.Client.ClientSocket.name c.accept.new.self.clients) (clients_of g.N.Client.ClientSocket.name c.show_tokens.new.self.clients) (clients_of g.N.Client.ClientSocket.name c.run_once.new.self.clients)
     c.loop.newer c.look.result c.or-newer.result c.in_force.result.now c.in_ok-now-2.now c.loop.watch c.look.new.self (g.N.Sockets.history c.args.sockets.now) (g.N.Sockets.history c.accept.new.sockets) (g.N.Sockets.history c.run_once.new.sockets)
@@ -66,7 +66,7 @@ returns-then-serve_operators-clause-clients g c =
     (g.N.Sockets.history c.args.sockets.now) (g.N.Sockets.history c.loop.sockets) (g.N.Sockets.history c.wait.new.sockets) (g.N.Sockets.history c.accept.new.sockets) c.loop.invariant.1
     c.wait.ensures.clients c.wait.ensures.history c.accept.ensures)
     (λ early. (c.look.ensures.waits early, c.look.ensures.stays early), λ due. (c.look.ensures.looked due, c.look.ensures.looks due)) c.or-newer.ensures c.in_force.ensures c.show_tokens.ensures c.run_once.ensures.runs)
-    c.flush_log.ensures c.purge.ensures.purges c.purge.ensures.clients c.end_all_late.ensures c.serve_operators.ensures.clients c.serve_operators.ensures.same)
+    c.flush_log.ensures c.purge.ensures.purges c.purge.ensures.clients c.store_time.ensures.clients c.store_time.ensures.history c.end_all_late.ensures c.serve_operators.ensures.clients c.serve_operators.ensures.same)
 
 pub returns-then-is_done-clause-serves : goal.returns-then-is_done-clause-serves
 returns-then-is_done-clause-serves g c = c.loop.invariant.0.serves

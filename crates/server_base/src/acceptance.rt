@@ -1,10 +1,10 @@
 //! When connections of clients are accepted.
-use server_base::limits::{ACCEPT_SILENCE, FULL};
+use crate::limits::{ACCEPT_SILENCE, FULL};
 use std::time::Duration;
 
 /// Which connections were accepted, and when the next one may be.
 #[derive(Clone, Copy, Debug)]
-pub(crate) struct Acceptance {
+pub struct Acceptance {
     // How many connections may still be accepted, if limited, and how many were accepted.
     left: Option<u64>,
     accepted: u64,
@@ -16,8 +16,8 @@ pub(crate) struct Acceptance {
 }
 
 impl Acceptance {
-    /// Creates a state in which a connection may wait, and so many may be accepted.
-    pub(crate) fn new(count: Option<u64>) -> Acceptance {
+    /// Creates a state in which a connection may wait, and at most `count` may be accepted.
+    pub fn new(count: Option<u64>) -> Acceptance {
         Acceptance {
             left: count,
             accepted: 0,
@@ -28,22 +28,22 @@ impl Acceptance {
     }
 
     /// Returns true if no more connections are accepted.
-    pub(crate) fn is_over(&self) -> bool {
+    pub fn is_over(&self) -> bool {
         self.left == Some(0)
     }
 
     /// Returns true if a connection may wait to be accepted.
-    pub(crate) fn may_come(&self) -> bool {
+    pub fn may_come(&self) -> bool {
         self.waiting && !self.is_over()
     }
 
     /// Records whether a connection may wait to be accepted.
-    pub(crate) fn set_waiting(&mut self, waiting: bool) {
+    pub fn set_waiting(&mut self, waiting: bool) {
         self.waiting = waiting;
     }
 
     /// Counts an accepted connection, and returns its number.
-    pub(crate) fn count(&mut self) -> u64 {
+    pub fn count(&mut self) -> u64 {
         if let Some(left) = self.left {
             self.left = Some(left.saturating_sub(1));
         }
@@ -52,22 +52,22 @@ impl Acceptance {
     }
 
     /// Returns how long the system has no room for a connection.
-    pub(crate) fn pause(&self, now: Duration) -> Duration {
+    pub fn pause(&self, now: Duration) -> Duration {
         self.full_until.saturating_sub(now)
     }
 
     /// Returns true if the system has no room for a connection.
-    pub(crate) fn is_paused(&self, now: Duration) -> bool {
+    pub fn is_paused(&self, now: Duration) -> bool {
         now < self.full_until
     }
 
     /// Records that the system had no room for a connection, and pauses.
-    pub(crate) fn begin_pause(&mut self, now: Duration) {
+    pub fn begin_pause(&mut self, now: Duration) {
         self.full_until = now.saturating_add(Duration::from_millis(FULL));
     }
 
     /// Returns true if a failed accept is to be logged: once a minute.
-    pub(crate) fn is_reported(&mut self, now: Duration) -> bool {
+    pub fn is_reported(&mut self, now: Duration) -> bool {
         if now < self.silent_until {
             return false;
         }
