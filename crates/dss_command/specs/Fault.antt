@@ -14,6 +14,7 @@ use Rattle.dss_command.specs.BackupFault as copies
 use Rattle.dss_command.specs.PoolFault as pools
 use Rattle.dss_command.specs.declared.fault.Fault.{Fault}
 use Rattle.dss_command.specs.declared.fault.Fault.TheVariants as fault
+use Rattle.dss_command.specs.declared.pool_fault.PoolFault.TheVariants as pool
 use Rattle.dss_report.specs.declared.fault.CellFault.{CellFault}
 use Rattle.dss_report.specs.declared.fault.CellFault.TheVariants as cell
 use Rattle.dss_report.specs.declared.fault.ReportFault.{ReportFault}
@@ -72,10 +73,16 @@ line_of fault.BodyTooLong = codes "dss: request: H5 BODYSIZE"
 line_of fault.Output = codes "dss: output"
 line_of fault.Memory = codes "dss: memory"
 
+-- The exit status of a command that failed. That of a log of a pool that has lost data is one of
+-- its own.
+abbrev pub fault_status_of : Fault → ℕ
+fault_status_of (fault.Pool pool.Shortened) = 3
+fault_status_of why = 1
+
 -- The exit status of a command with this result.
 abbrev pub status_of : Result (Unit {0}) Fault → ℕ
 status_of (Ok x) = 0
-status_of (Err e) = 1
+status_of (Err why) = fault_status_of why
 
 -- Holds if the fault of a client is printed on one line.
 abbrev pub TellsClient : StreamFault → (old new : Option (List ℕ)) → Type 0

@@ -1,7 +1,7 @@
 -- The texts of faults of an instance of a pool.
 use Rattle.std.specs.Prelude.{ℕ, List, codes}
 use Rattle.dss_command.specs.declared.pool_fault.PoolFault.{PoolFault}
-use Rattle.dss_command.specs.declared.pool_fault.PoolFault.TheVariants.{Compacted, Deleted, Ended, Files, FilesBusy, HasFile, NoFile, NoRandom, Replaced, Settings, Shortened, Silent, Suppliers, UserInvalid, UserUnread}
+use Rattle.dss_command.specs.declared.pool_fault.PoolFault.TheVariants.{Compacted, Deleted, Ended, Files, FilesBusy, HasFile, NoAirspace, NoFile, NoRandom, Replaced, Settings, Shortened, Silent, Suppliers, UserInvalid, UserUnread}
 
 -- What is wrong and what to do, as it is printed.
 abbrev pub text_of : PoolFault → List ℕ
@@ -12,8 +12,11 @@ text_of Replaced = codes "replaced: another process writes under this name; stop
 text_of Compacted =
     codes
     "compacted: etcd no longer has the entries behind the start; use --files with a newer file"
-text_of Deleted = codes "deleted: a key of the log was deleted; restore etcd"
-text_of Shortened = codes "shortened: etcd lost entries of the log; restore etcd"
+text_of Deleted =
+    codes "deleted: a key of the log was deleted; start again, and restore etcd if this comes back"
+text_of Shortened =
+    codes
+    "shortened: etcd lost entries of the log; stop all instances of the pool, and restore etcd"
 text_of Settings =
     codes
     "settings: the pool has another salt, policy or beginning; use its salt, version and files"
@@ -27,6 +30,8 @@ text_of Files =
 text_of NoFile =
     codes
     "files: the directory has no file REVISION-SETTINGS-BEGINNING.db; run dss follow or dss begin"
+text_of NoAirspace =
+    codes "files: the newest file is gone, or has no airspace; move it away, and start again"
 text_of HasFile =
     codes
     "files: the directory has a file of a pool; move its files away, or give another directory"

@@ -14,6 +14,7 @@ use server_base::backups::MakeBackups;
 use server_base::limits::Limits;
 use server_base::server_log::ServerLog;
 use server_base::sockets::Sockets;
+use server_base::trusted_time::LastTime;
 use server_watch::token_watch::{TokenSource, TokenWatch};
 use service_calls::service::Service;
 use space_core::purge_ended::PurgeEnded;
@@ -49,9 +50,8 @@ pub struct ServeConfig<'a> {
     pub explaining: Explaining,
     /// The retention of what has ended in seconds; nothing is purged if `None`.
     pub keep: Option<u64>,
-    /// The time of the last change of the database before the start, if it is known, in Unix
-    /// seconds.
-    pub changed: Option<u64>,
+    /// The last known time of the clock from before the start, if there is one.
+    pub last: Option<LastTime>,
     /// The admin port, if there is one.
     pub operated: Option<AdminListener>,
     /// True if failed commits and their recovery are reported, too.
@@ -97,7 +97,7 @@ fn serve_sockets<
         given.limits,
         given.explaining,
         given.keep,
-        given.changed,
+        given.last,
         build,
         journal,
     );

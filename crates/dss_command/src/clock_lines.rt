@@ -1,7 +1,7 @@
 //! The lines that report the clock and purges while the service runs.
 ghost use Rattle.std.specs.Prelude.{OnOk};
 ghost use Rattle.std.specs.Io.KnownBytes.{Appends};
-ghost use Rattle.dss_command.specs.ClockLines.{clock_line, purge_line};
+ghost use Rattle.dss_command.specs.ClockLines.{clock_line, not_stored_line, purge_line};
 
 use server_base::server_log::ClockEvent;
 use std::io;
@@ -28,12 +28,36 @@ pub(crate) fn print_clock_event<E: Write>(news: ClockEvent, error: &mut E) -> io
         ClockEvent::StartedLate(by) => {
             writeln!(
                 error,
-                "dss: clock: {by} s after the last change of the database; purges are held"
+                "dss: clock: {by} s after the last known time; purges are held"
+            )
+        }
+        ClockEvent::StartedAhead(by) => {
+            writeln!(
+                error,
+                "dss: clock: not back from a jump, {by} s after the last trusted time; \
+                 purges are held"
+            )
+        }
+        ClockEvent::StartedBehind(by) => {
+            writeln!(
+                error,
+                "dss: clock: {by} s before the last trusted time; purges are held"
             )
         }
         ClockEvent::Returned => writeln!(error, "dss: clock: returned; purges go on"),
         ClockEvent::Confirmed => writeln!(error, "dss: clock: confirmed; purges go on"),
     }
+}
+
+/// Prints one line that says that a trusted time was not stored.
+pub(crate) fn print_time_not_stored<E: Write>(error: &mut E) -> io::Result<()>
+    ensures { OnOk result (Appends (E.contents error.old) (E.contents error.new)
+        not_stored_line) }
+{
+    writeln!(
+        error,
+        "dss: clock: cannot store the trusted time; check the directory of the database"
+    )
 }
 
 /// Prints one line that says how many items a purge removed.

@@ -2,7 +2,7 @@
 ghost use Rattle.std.specs.Prelude.{◌≡◌, ◌++◌, codes, OnOk};
 ghost use Rattle.std.specs.Io.KnownBytes.{Appends};
 ghost use Rattle.std.specs.IoError.{error_kind};
-ghost use Rattle.dss_command.specs.Fault.{line_of, status_of, told_by};
+ghost use Rattle.dss_command.specs.Fault.{fault_status_of, line_of, status_of, told_by};
 
 use crate::backup_fault::BackupFault;
 use crate::pool_fault::PoolFault;
@@ -14,6 +14,10 @@ use std::io::{ErrorKind, Write};
 use std::{fmt, io};
 use token_conf::conf_fault::ConfFault;
 use wire_http::StreamFault;
+
+/// The exit status if the log of a pool has lost data that this process had received. A supervisor
+/// must not start the command again by itself.
+pub const DATA_LOST: u8 = 3;
 
 /// The reason why a command failed.
 ///
@@ -184,13 +188,24 @@ pub fn print_fault<E: Write>(fault: &Fault, error: &mut E) -> io::Result<()>
     writeln!(error, "{fault}")
 }
 
-/// Returns the exit status of a command: 0 if it succeeded, and 1 after a fault.
+// Returns the exit status of a command that failed.
+fn fault_status(fault: &Fault) -> u8
+    ensures { result ≡ fault_status_of fault.now }
+{
+    match fault {
+        Fault::Pool(PoolFault::Shortened) => DATA_LOST,
+        _ => 1,
+    }
+}
+
+/// Returns the exit status of a command: 0 if it succeeded, 3 if the log of a pool has lost data,
+/// and 1 after each other fault.
 pub fn status(done: &Result<(), Fault>) -> u8
     ensures { result ≡ status_of done.now }
 {
     match done {
         Ok(()) => 0,
-        Err(_) => 1,
+        Err(fault) => fault_status(fault),
     }
 }
 

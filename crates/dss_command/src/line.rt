@@ -1,10 +1,11 @@
 //! The execution of one command line, up to its exit status.
-ghost use Rattle.std.specs.Prelude.{◌≡◌, OnOk, string_bytes};
+ghost use Rattle.std.specs.Prelude.{◌≡◌, IfErr, OnOk, string_bytes};
 ghost use Rattle.std.specs.Io.KnownBytes.{Appends};
 ghost use Rattle.dss_args.specs.CommandArgs.{texts};
 ghost use Rattle.wire_http.specs.Counted.{inner_of};
 ghost use Rattle.dss_command.specs.Fault.{status_of};
 ghost use Rattle.dss_command.specs.Line.{Does, EndsLine, EndsRefused};
+ghost use Rattle.dss_command.specs.declared.fault.Fault.TheVariants.{Output};
 
 use crate::explain::explain;
 use crate::fault::{Fault, print_fault, status};
@@ -157,8 +158,9 @@ pub fn end_status<E: Write>(done: Result<(), Fault>, error: &mut E) -> u8
 }
 
 fn shown<O: Write>(text: &String, output: &mut O) -> Result<(), Fault>
-    ensures { OnOk result (Appends (O.contents output.old) (O.contents output.new)
+    ensures shown { OnOk result (Appends (O.contents output.old) (O.contents output.new)
         (string_bytes text.now)) }
+    ensures told { IfErr result (λ fault. fault ≡ Output) }
 {
     match write!(output, "{text}") {
         Ok(()) => Ok(()),
@@ -234,8 +236,8 @@ fn perform<C: Commands + Drop, R: Read, O: Write, E: Write>(
 /// Runs one command line, whose first argument is the program's name, over a reader and two
 /// writers.
 ///
-/// Returns the exit status: 0 if the command succeeded, 1 after a fault, which is printed on one
-/// line of `error`, and 2 for rejected arguments.
+/// Returns the exit status: 0 if the command succeeded, 2 for rejected arguments, 3 if the log of a
+/// pool has lost data, and 1 after each other fault. A fault is printed on one line of `error`.
 pub fn run_line<'a, C: Commands + Drop, R: Read, O: Write, E: Write>(
     alloc: Global,
     words: &'a [&'a str],

@@ -29,6 +29,8 @@ pub enum PoolFault {
     Files,
     /// The directory of the pool's files has none.
     NoFile,
+    /// The newest file of the pool is gone, or has no airspace.
+    NoAirspace,
     /// The directory for the first file of a pool has a file of a pool.
     HasFile,
     /// Another process writes to the directory of the pool's files.
@@ -55,8 +57,14 @@ impl PoolFault {
                 "compacted: etcd no longer has the entries behind the start; \
                  use --files with a newer file"
             }
-            PoolFault::Deleted => "deleted: a key of the log was deleted; restore etcd",
-            PoolFault::Shortened => "shortened: etcd lost entries of the log; restore etcd",
+            PoolFault::Deleted => {
+                "deleted: a key of the log was deleted; \
+                 start again, and restore etcd if this comes back"
+            }
+            PoolFault::Shortened => {
+                "shortened: etcd lost entries of the log; \
+                 stop all instances of the pool, and restore etcd"
+            }
             PoolFault::Settings => {
                 "settings: the pool has another salt, policy or beginning; \
                  use its salt, version and files"
@@ -75,6 +83,10 @@ impl PoolFault {
             PoolFault::NoFile => {
                 "files: the directory has no file REVISION-SETTINGS-BEGINNING.db; \
                  run dss follow or dss begin"
+            }
+            PoolFault::NoAirspace => {
+                "files: the newest file is gone, or has no airspace; \
+                 move it away, and start again"
             }
             PoolFault::HasFile => {
                 "files: the directory has a file of a pool; \

@@ -5,7 +5,7 @@ ghost use Rattle.std.specs.Io.KnownBytes.{Appends};
 ghost use Rattle.dss_command.specs.Fault.{TellsClient};
 
 use crate::aborted_connection::{print_aborted, print_more_resets};
-use crate::clock_lines::{print_clock_event, print_removed};
+use crate::clock_lines::{print_clock_event, print_removed, print_time_not_stored};
 use crate::fault::{Fault, print_fault};
 use crate::request_log::{LogFile, RequestLog};
 use crate::store_lines::print_store_event;
@@ -141,6 +141,10 @@ impl<'a, E: Write, L: LogFile> ServerLog for Lines<'a, E, L> {
 
     fn clock_event(&mut self, news: ClockEvent) {
         let _ = print_clock_event(news, self.error);
+    }
+
+    fn time_not_stored(&mut self) {
+        let _ = print_time_not_stored(self.error);
     }
 
     fn purged(&mut self, count: usize) {
