@@ -1,4 +1,5 @@
 //! The command `backup`: a backup of a database that no process has open.
+use crate::change_time::ChangeTimes;
 use crate::copying::{Copying, is_free};
 use dss_command::backup_fault::BackupFault;
 use dss_command::fault::{Fault, io_fault};
@@ -37,6 +38,17 @@ pub(crate) fn copy_file(rt: &HostRuntime, name: &str, to: &str) -> Result<(), Fa
     Err(Fault::Copy(BackupFault::Read))
 }
 
+// Copies a database that no process has open.
+fn copy_database<F: Start>(
+    rt: &HostRuntime,
+    database: &str,
+    to: &str,
+    start: F,
+) -> Result<(), Fault> {
+    let _files = checkpoint_database(rt, database, start)?;
+    copy_file(rt, database, to)
+}
+
 /// Runs the command. No other program opens the database during the copy.
 pub(crate) fn backup<F: Start>(
     rt: &HostRuntime,
@@ -46,6 +58,7 @@ pub(crate) fn backup<F: Start>(
 ) -> Result<(), Fault> {
     is_free(rt, to)?;
     is_database(rt, database)?;
-    let _files = checkpoint_database(rt, database, start)?;
-    copy_file(rt, database, to)
+    let times = ChangeTimes::of(rt, database);
+    let done = copy_database(rt, database, to, start);
+    times.end(rt, database, done)
 }

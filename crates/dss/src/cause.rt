@@ -1,4 +1,5 @@
-//! The cause of the fault that ends `serve`, as printed with `--verbose`.
+//! The cause of the fault that ends `serve`, as printed with `--verbose`. That of a refused file of a
+//! pool is printed in any case.
 use dss_command::fault::Fault;
 use os::RangeLock;
 use space_sql_open::open_fault::OpenFault;
@@ -71,7 +72,7 @@ fn open_log(rt: &HostRuntime, log: &str) -> io::Result<()> {
 #[derive(Drop)]
 pub(crate) struct Cause {
     alloc: Global,
-    // With `--verbose` alone, and as long as no cause was recorded.
+    // If it was requested, and as long as no cause was recorded.
     is_wanted: bool,
     line: String,
 }

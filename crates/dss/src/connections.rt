@@ -1,7 +1,10 @@
 //! The command `serve`: connections to a port of this machine, many at once.
 use crate::backups::PortBackups;
 use crate::cause::Cause;
+use crate::change_time::paths_of;
 use crate::clock::SystemClock;
+use crate::clock_file::{read_time, remove_time, write_time};
+use crate::private::make_database;
 use crate::serving::{Ports, admin_listener, clients_of, explaining, log_of, served_tokens};
 use crate::tokens::TokenFile;
 use admin_backup::folder::BackupDir;
@@ -14,6 +17,7 @@ use dss_command::moment::seconds_of;
 use dss_command::tokens::salt_of;
 use dss_database::files::{self, close_database, open_database};
 use server_base::limits::Limits;
+use server_base::trusted_time::{LastTime, TrustedTime};
 use server_watch::token_watch::TokenWatch;
 use sqlite::Start;
 use std::fs;
@@ -62,12 +66,36 @@ fn change_of(rt: &HostRuntime, name: &str) -> Option<u64> {
     seconds_of(changed)
 }
 
-// Returns the time of the last change of a database or its log.
+// Returns the time of the last change of a database or its log. Opening the database changes it.
 fn last_change(rt: &HostRuntime, database: &str) -> Option<u64> {
-    let Ok(log) = format!(in rt.alloc(); "{database}-wal") else {
+    let Ok((file, log)) = paths_of(rt, database) else {
         return None;
     };
-    change_of(rt, database).max(change_of(rt, log.as_str()))
+    change_of(rt, file.as_str()).max(change_of(rt, log.as_str()))
+}
+
+// Returns the last known time of the clock: the stored one or, if none is, that of the last change.
+fn last_time(rt: &HostRuntime, database: &str) -> Option<LastTime> {
+    if let Some(time) = read_time(rt, database) {
+        return Some(LastTime::Trusted(time));
+    }
+    match last_change(rt, database) {
+        Some(changed) => Some(LastTime::Changed(changed)),
+        None => None,
+    }
+}
+
+// Stores the time of the last change before the database is opened, if the service purges and no
+// time is stored. Returns true if it did.
+fn keep_change(rt: &HostRuntime, given: &ServeArgs<'_>, last: Option<LastTime>) -> bool {
+    let (Some(LastTime::Changed(moment)), Some(_)) = (last, given.retention) else {
+        return false;
+    };
+    let time = TrustedTime {
+        moment,
+        jumped_to: None,
+    };
+    write_time(rt, given.database, time).is_ok()
 }
 
 /// Runs the command over the database, which is closed last.
@@ -87,13 +115,21 @@ pub(crate) fn serve<F: Start, E: Write>(
     }
     let salt = salt_of(&tokens)?;
     let log = log_of(rt, given.access_log, cause)?;
-    let changed = last_change(rt, given.database);
+    let last = last_time(rt, given.database);
+    if let Err(fault) = make_database(rt, given.database) {
+        cause.record_database(rt, given.database, &fault);
+        return Err(fault);
+    }
+    let is_kept = keep_change(rt, given, last);
     let (space, listed) = match open_database(rt, given.database, start) {
         Ok(taken) => taken,
         Err(failure) => {
             // Drops the files first. Otherwise `dss` would report their locks as those of another
             // process.
             let fault = Fault::from(failure);
+            if is_kept {
+                remove_time(rt, given.database);
+            }
             cause.record_database(rt, given.database, &fault);
             return Err(fault);
         }
@@ -111,7 +147,7 @@ pub(crate) fn serve<F: Start, E: Write>(
         limits: limits_of(rt, given),
         explaining: explaining(given.explain),
         keep: given.retention,
-        changed,
+        last,
         operated: admin_listener(rt, given.admin_port),
         verbose: given.verbose,
     };

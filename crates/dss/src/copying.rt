@@ -1,5 +1,6 @@
 //! A copy of a file that is complete or does not exist. It is written under a temporary name chunk
 //! by chunk, synced, and only then renamed.
+use crate::private::NO_OTHERS;
 use dss_command::backup_fault::BackupFault;
 use dss_command::fault::{Fault, io_fault};
 use std::fs::{File, OpenOptions};
@@ -57,8 +58,8 @@ fn remove(rt: &HostRuntime, name: &str) -> io::Result<()> {
     }
 }
 
-// Opens the directory of a file.
-fn folder_of(rt: &HostRuntime, name: &str) -> io::Result<File> {
+/// Opens the directory of a file.
+pub(crate) fn folder_of(rt: &HostRuntime, name: &str) -> io::Result<File> {
     let mut folder = PathBuf::from_str(rt.alloc(), name)?;
     folder.pop();
     match folder.as_str() {
@@ -67,9 +68,9 @@ fn folder_of(rt: &HostRuntime, name: &str) -> io::Result<File> {
     }
 }
 
-// Creates a file with the permissions of the source.
+// Creates a file with the permissions of the source, but for those of others.
 fn new_file(rt: &HostRuntime, name: &str, source: &File) -> io::Result<File> {
-    let mode = source.metadata()?.permissions().mode() & 0o777;
+    let mode = source.metadata()?.permissions().mode() & NO_OTHERS;
     remove(rt, name)?;
     OpenOptions::new()
         .write(true)

@@ -5,6 +5,7 @@ use crate::etcd_io::EtcdIo;
 use crate::etcd_waiting::EtcdWaiting;
 use crate::pool_files::{FileName, PoolFiles, beginning_of, print_name};
 use crate::pool_log::{LogArgs, new_poll, open_log, settings_of, with_loss};
+use crate::private::make_database;
 use crate::serving::served_tokens;
 use dss_args::follow_args::FollowArgs;
 use dss_command::fault::{Fault, io_fault};
@@ -58,12 +59,13 @@ fn follow_behind<F: Start>(
     log: EtcdLog,
     cause: &mut Cause,
 ) -> Result<(u64, u64), Fault> {
-    if let Some(newest) = newest {
-        files.copy(newest)?;
-    }
     let Ok(path) = files.next() else {
         return Err(Fault::Memory);
     };
+    match newest {
+        Some(newest) => files.copy(newest, cause)?,
+        None => make_database(rt, path.as_str())?,
+    }
     make_calls(rt, path.as_str(), start, salt, log, cause)
 }
 

@@ -1,9 +1,10 @@
 //! The file of the access log.
+use crate::private::LOG;
 use crate::regular::check_regular;
 use dss_command::request_log::LogFile;
 use std::fs::{File, OpenOptions};
 use std::io::Write;
-use std::os::unix::fs::MetadataExt;
+use std::os::unix::fs::{MetadataExt, OpenOptionsExt};
 use std::time::{Duration, Instant, SystemTime, UNIX_EPOCH};
 use std::{fs, io};
 
@@ -36,7 +37,11 @@ pub(crate) struct SystemLog<'a> {
 // Opens the regular file of that name at its end. Creates it if it does not exist.
 fn open(rt: &HostRuntime, name: &str) -> io::Result<File> {
     check_regular(rt, name)?;
-    OpenOptions::new().append(true).create(true).open(rt, name)
+    OpenOptions::new()
+        .append(true)
+        .create(true)
+        .mode(LOG)
+        .open(rt, name)
 }
 
 // Returns true if the name still refers to that file.

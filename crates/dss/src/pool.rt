@@ -2,6 +2,7 @@
 use crate::cause::Cause;
 use crate::clock::SystemClock;
 use crate::etcd_io::EtcdIo;
+use crate::pool_file_check::check_file;
 use crate::pool_files::{FileName, PoolFiles, beginning_of};
 use crate::pool_log::{LogArgs, new_poll, open_log, settings_of, with_loss};
 use crate::serving::{Ports, admin_listener, clients_of, explaining, log_of, served_tokens};
@@ -16,20 +17,31 @@ use pool_server::limits::PoolLimits;
 use server_watch::token_watch::TokenWatch;
 use space_memory::memory::MemorySpace;
 use sqlite::Start;
+use std::fs::File;
 use std::io::Write;
 
-// Returns the newest file of the directory of that name, if one is given. It must have a file.
+// The file from which an instance starts. It is not removed while the instance has its turn.
+#[derive(Drop)]
+struct StartFile<'a> {
+    files: PoolFiles<'a>,
+    name: FileName,
+    // Drops the turn last.
+    turn: File,
+}
+
+// Waits for the turn of this instance. Returns the newest file of the directory of that name, if
+// one is given. It must have a file.
 fn newest_file<'a>(
     rt: &'a HostRuntime,
     folder: Option<&'a str>,
     cause: &mut Cause,
-) -> Result<Option<(PoolFiles<'a>, FileName)>, Fault> {
+) -> Result<Option<StartFile<'a>>, Fault> {
     let Some(folder) = folder else {
         return Ok(None);
     };
     let files = PoolFiles::new(rt, folder);
-    match files.newest() {
-        Ok(Some(name)) => Ok(Some((files, name))),
+    match files.wait_for_turn() {
+        Ok(Some((turn, name))) => Ok(Some(StartFile { files, name, turn })),
         Ok(None) => Err(Fault::Pool(PoolFault::NoFile)),
         Err(error) => Err(files.fault(&error, cause)),
     }
@@ -38,20 +50,17 @@ fn newest_file<'a>(
 // Loads the airspace of that file. It is empty if there is no file.
 fn airspace_of<F: Start>(
     rt: &HostRuntime,
-    file: Option<(PoolFiles<'_>, FileName)>,
+    file: Option<StartFile<'_>>,
     start: F,
     cause: &mut Cause,
 ) -> Result<MemorySpace, Fault> {
-    let Some((files, name)) = file else {
+    let Some(StartFile { files, name, turn }) = file else {
         return Ok(MemorySpace::new(rt.alloc()));
     };
     let Ok(path) = files.path_of(name) else {
         return Err(Fault::Memory);
     };
-    let turn = match files.wait_for_turn() {
-        Ok(turn) => turn,
-        Err(error) => return Err(files.fault(&error, cause)),
-    };
+    check_file(rt, path.as_str(), cause)?;
     match load(rt, path.as_str(), start) {
         Ok((space, loaded)) => {
             drop(loaded);
@@ -61,6 +70,7 @@ fn airspace_of<F: Start>(
         Err(failure) => {
             // Drops the files first, as the command `serve` does.
             let fault = Fault::from(failure);
+            cause.request();
             cause.record_database(rt, path.as_str(), &fault);
             Err(fault)
         }
@@ -83,8 +93,8 @@ pub(crate) fn serve<F: Start, E: Write>(
         let _ = print_limits(given.max_connections, None, None, error);
     }
     let file = newest_file(rt, given.files, cause)?;
-    let newest = match file {
-        Some((_, name)) => Some(name),
+    let newest = match &file {
+        Some(found) => Some(found.name),
         None => None,
     };
     let log_args = LogArgs {

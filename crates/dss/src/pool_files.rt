@@ -4,11 +4,14 @@
 //! place in the log.
 use crate::backup::copy_file;
 use crate::cause::Cause;
+use crate::pool_file_check::check_file;
+use crate::private::NO_OTHERS;
 use dss_command::fault::{Fault, io_fault};
 use dss_command::pool_fault::PoolFault;
 use std::alloc::{AllocError, Global};
 use std::fs::{File, OpenOptions, TryLockError};
 use std::io::{ErrorKind, Write};
+use std::os::unix::fs::OpenOptionsExt;
 use std::{fs, io};
 
 // The name of the database that is not complete yet.
@@ -17,7 +20,7 @@ const NEXT: &str = "next.db";
 // The name of the file that is locked while another one is written.
 const LOCK: &str = "lock";
 
-// The name of the file that is locked while another one is loaded.
+// The name of the file that is locked while another one is loaded, and while others are removed.
 const TURN: &str = "turn";
 
 // The suffixes of what can lie beside a database: its log, and what a stopped copy left.
@@ -122,6 +125,16 @@ fn kept_from(names: &[FileName]) -> u64 {
     second
 }
 
+// Returns true if a file has a revision below that one.
+fn has_older(names: &[FileName], least: u64) -> bool {
+    for name in names {
+        if name.revision < least {
+            return true;
+        }
+    }
+    false
+}
+
 // Removes a file, if it exists.
 fn remove(rt: &HostRuntime, path: &str) -> io::Result<()> {
     match fs::remove_file(rt, path) {
@@ -166,14 +179,19 @@ impl<'a> PoolFiles<'a> {
         io_fault(error, Fault::Pool(PoolFault::Files))
     }
 
-    // Locks the directory for a process that writes to it, until the file is dropped. Returns
-    // `None` if another process has locked it.
-    fn lock(&self) -> io::Result<Option<File>> {
-        let path = self.path(LOCK)?;
-        let file = OpenOptions::new()
+    // Opens a file that processes lock.
+    fn open_lock(&self, name: &str) -> io::Result<File> {
+        let path = self.path(name)?;
+        OpenOptions::new()
             .write(true)
             .create(true)
-            .open(self.rt, path.as_str())?;
+            .mode(NO_OTHERS)
+            .open(self.rt, path.as_str())
+    }
+
+    // Locks a file until it is dropped. Returns `None` if another process has locked it.
+    fn try_lock(&self, name: &str) -> io::Result<Option<File>> {
+        let file = self.open_lock(name)?;
         match file.try_lock() {
             Ok(()) => Ok(Some(file)),
             Err(TryLockError::WouldBlock) => Ok(None),
@@ -182,15 +200,19 @@ impl<'a> PoolFiles<'a> {
     }
 
     /// Waits until no other process loads a file, since only one can have a database open. Then
-    /// this process has its turn until the file is dropped.
-    pub(crate) fn wait_for_turn(&self) -> io::Result<File> {
-        let path = self.path(TURN)?;
-        let file = OpenOptions::new()
-            .write(true)
-            .create(true)
-            .open(self.rt, path.as_str())?;
-        file.lock()?;
-        Ok(file)
+    /// this process has its turn until the file is dropped, and no file is removed meanwhile.
+    /// Returns this file, and the name of the newest file. Returns `None` if there is no file of a
+    /// pool.
+    pub(crate) fn wait_for_turn(&self) -> io::Result<Option<(File, FileName)>> {
+        if self.newest()?.is_none() {
+            return Ok(None);
+        }
+        let turn = self.open_lock(TURN)?;
+        turn.lock()?;
+        match self.newest()? {
+            Some(name) => Ok(Some((turn, name))),
+            None => Ok(None),
+        }
     }
 
     // Returns the names of the files.
@@ -236,7 +258,7 @@ impl<'a> PoolFiles<'a> {
     // has the lock, and the name of the newest file. Returns `None` if another process has locked
     // the directory.
     fn lock_and_clear(&self) -> io::Result<Option<(File, Option<FileName>)>> {
-        let Some(lock) = self.lock()? else {
+        let Some(lock) = self.try_lock(LOCK)? else {
             return Ok(None);
         };
         self.clear()?;
@@ -255,11 +277,13 @@ impl<'a> PoolFiles<'a> {
         }
     }
 
-    /// Makes a copy of the file of that name, which is not complete yet.
-    pub(crate) fn copy(&self, name: FileName) -> Result<(), Fault> {
+    /// Makes a copy of the file of that name, which is not complete yet. The file must have an
+    /// airspace.
+    pub(crate) fn copy(&self, name: FileName, cause: &mut Cause) -> Result<(), Fault> {
         let (Ok(from), Ok(to)) = (self.path_of(name), self.next()) else {
             return Err(Fault::Memory);
         };
+        check_file(self.rt, from.as_str(), cause)?;
         match copy_file(self.rt, from.as_str(), to.as_str()) {
             Err(Fault::Copy(_)) => Err(Fault::Pool(PoolFault::Files)),
             done => done,
@@ -278,10 +302,17 @@ impl<'a> PoolFiles<'a> {
         folder.sync_all()
     }
 
-    /// Removes all files except the two newest.
+    /// Removes all files except the two newest. If another process has its turn, removes nothing:
+    /// that process can be about to open one of the others.
     pub(crate) fn keep_two(&self) -> io::Result<()> {
         let names = self.names()?;
         let least = kept_from(names.as_slice());
+        if !has_older(names.as_slice(), least) {
+            return Ok(());
+        }
+        let Some(_turn) = self.try_lock(TURN)? else {
+            return Ok(());
+        };
         for name in &names {
             if name.revision < least {
                 let path = self.path_of(*name)?;

@@ -2,14 +2,13 @@
 use crate::cause::Cause;
 use crate::loopback::{self, SelfArgs};
 use crate::run::{self, RunArgs};
-use crate::{backup, begin, connections, follow, live, pool, purge, tokens_command};
+use crate::{backup, begin, connections, follow, live, pool, purge, reading, tokens_command};
 use dss_args::begin_args::BeginArgs;
 use dss_args::follow_args::FollowArgs;
 use dss_args::pool_args::PoolArgs;
 use dss_args::serve_args::ServeArgs;
 use dss_command::fault::Fault;
 use dss_command::line::Commands;
-use dss_database::files;
 use sqlite::{Start, Wary};
 use std::io::{Read, Write};
 use wire_http::Counted;
@@ -97,8 +96,7 @@ impl<'a, F: Start> Commands for Program<'a, F> {
 
     fn report<W: Write>(self, database: &str, places: bool, output: &mut W) -> Result<(), Fault> {
         let Program { rt, start, .. } = self;
-        let _files = files::report(rt, database, start, places, output)?;
-        Ok(())
+        reading::report(rt, database, places, start, output)
     }
 
     fn backup(self, database: &str, to: &str, live: bool) -> Result<(), Fault> {
@@ -115,8 +113,7 @@ impl<'a, F: Start> Commands for Program<'a, F> {
 
     fn upgrade<W: Write>(self, database: &str, output: &mut W) -> Result<(), Fault> {
         let Program { rt, start, .. } = self;
-        let _files = files::upgrade(rt, database, start, output)?;
-        Ok(())
+        reading::upgrade(rt, database, start, output)
     }
 
     fn purge<W: Write>(

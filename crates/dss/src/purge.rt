@@ -1,5 +1,6 @@
 //! The command `purge`: removes what has ended from a database.
 use crate::clock::SystemClock;
+use crate::private::make_database;
 use dss_command::fault::Fault;
 use dss_command::moment::check_not_in_future;
 use dss_database::files;
@@ -28,6 +29,7 @@ pub(crate) fn purge<F: Start, W: Write>(
     output: &mut W,
 ) -> Result<(), Fault> {
     check_not_in_future(until, time_or_now(rt, now)?)?;
+    make_database(rt, database)?;
     let _files = files::purge(rt, database, start, until, output)?;
     Ok(())
 }

@@ -2,6 +2,7 @@
 ghost use Rattle.std.specs.Prelude.{◌≡◌};
 ghost use Rattle.token_conf.specs.TokenFile.{salt_of};
 
+use crate::private::make_database;
 use crate::tokens::token_table;
 use dss_command::fault::{Fault, io_fault};
 use dss_command::stream::serve_in_memory;
@@ -63,6 +64,7 @@ fn over_file<F: Start, R: Read, W: Write>(
 ) -> Result<(), Fault>
     requires { salt ≡ salt_of tokens.now }
 {
+    make_database(rt, name)?;
     let (space, _) = open_database(rt, name, start)?;
     let files = if given.requests == "-" {
         files::run(rt.alloc(), space, salt, tokens, given.now, input, output)

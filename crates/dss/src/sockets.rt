@@ -1,5 +1,6 @@
 //! The sockets of the system, watched together.
 use crate::cause::Cause;
+use crate::clock_file::write_time;
 use crate::machine::machine_metrics;
 use admin_http::machine::MachineMetrics;
 use mio::event::Event;
@@ -8,6 +9,7 @@ use mio::{Events, Interest, Poll, Token};
 use server_base::sockets::{
     AcceptFault, AdminSocket, ClientSocket, EventSource, SocketEvent, Sockets,
 };
+use server_base::trusted_time::TrustedTime;
 use std::io;
 use std::io::{ErrorKind, Read, Write};
 use std::net::{Shutdown, SocketAddr};
@@ -313,6 +315,13 @@ impl<'a> Sockets for PortSockets<'a> {
 
     fn machine(&self) -> MachineMetrics {
         machine_metrics(self.rt, self.database)
+    }
+
+    fn store_time(&mut self, time: TrustedTime) -> io::Result<()> {
+        match self.database {
+            Some(database) => write_time(self.rt, database, time),
+            None => Ok(()),
+        }
     }
 
     fn monotonic_time(&self) -> io::Result<Duration> {
