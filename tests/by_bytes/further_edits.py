@@ -1,10 +1,10 @@
-"""The mutants in tests/edits can be applied.
+"""The mutants of the gate and those in tests/edits can be applied.
 
-`./check edits` tries them only before a release, which is late to learn that a text which one of them replaces is
-gone."""
+`./check edits` tries the latter only before a release, which is late to learn that a text which one of them replaces is
+gone. `rt ci` does not fail for a mutant that cannot be applied."""
 from program import TOP
 
-EDITS = sorted(TOP.glob("tests/edits/*/*.edit"))
+EDITS = sorted([*TOP.glob("tests/edits/*/*.edit"), *TOP.glob("crates/*/must-fail/*.edit")])
 
 
 class BadEdit(Exception):
@@ -35,17 +35,22 @@ def edited(edit, folder):
     return texts
 
 
+def crate_of(edit):
+    """Returns the name of a mutant's crate."""
+    return edit.parent.parent.name if edit.parent.name == "must-fail" else edit.parent.name
+
+
 def fault_of(edit):
     """Returns why a mutant cannot be applied, or None."""
     try:
-        edited(edit, TOP / "crates" / edit.parent.name)
+        edited(edit, TOP / "crates" / crate_of(edit))
     except BadEdit as fault:
         return str(fault)
     return None
 
 
 def applied():
-    """Each mutant in tests/edits can be applied."""
+    """Each mutant can be applied."""
     found = [(it, fault_of(it)) for it in EDITS]
     return [f"{it.relative_to(TOP)}: {why}" for it, why in found if why]
 
