@@ -12,6 +12,7 @@ from failing_files import Failing
 from many_clients import reset
 from client_timeouts import FIRST, SENDING, stored_intents
 from lateness import again, exceeded
+from pool import Skipped
 from ports import free_port
 from program import BUILT, SECONDS, TOP, run
 from serving import Service, has_ipv6, until_closed
@@ -232,11 +233,10 @@ def browse(folder, address, *options):
 
 
 def of_a_browser():
-    """If Chromium is installed: it can read the health at the port's own address. A page with a form cannot stop the
+    """Chromium can read the health at the port's own address. A page with a form cannot stop the
     service, and a name that resolves to this machine cannot read the airspace."""
     if not shutil.which("chromium"):
-        print("chromium is missing, so no browser was tried")
-        return []
+        raise Skipped("chromium is missing")
     with AdminService() as started:
         page = started.folder / "page.html"
         action = f"http://127.0.0.1:{started.admin}/stop"

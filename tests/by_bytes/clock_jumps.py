@@ -5,9 +5,11 @@ import os
 import struct
 import time
 
+import wire
 from admin_port import HEALTH, SERVING, STOP, AdminService, asks, said, until_counted
 from devices import library
 from figures import FullAndVerbose
+from program import BUILT, run
 from purge import gone, many, purged_rows
 from retention import DAY, FAULTS, PURGED, Retaining, far
 from sockets import CLOSING, LAST, difference
@@ -163,7 +165,7 @@ def starts_late():
             if is_held:
                 found += held(started)
                 found += difference("nothing", started.counted()[PURGED], "0")
-                line = ("dss: clock: ", int(days * DAY), " s after the last change of the database; purges are held")
+                line = ("dss: clock: ", int(days * DAY), " s after the last known time; purges are held")
                 found += near(started.lines(), [line], 2 + took)
                 found += difference("confirmed", started.asked(RESUME), RESUMED)
             counted = until_counted(started, PURGES, "1")
@@ -171,4 +173,114 @@ def starts_late():
     return found
 
 
-CASES = {"clock-jumps": jumps, "clock-jump-deletes-nothing": deletes_nothing, "late-start-purges-nothing": starts_late}
+def aged(service, days):
+    """Gives the files of the database that age, and returns the time of their last change."""
+    changed = int(time.time() - days * DAY)
+    for file in service.folder.glob("dss.db*"):
+        os.utime(file, (changed, changed))
+    return changed
+
+
+def stored(service):
+    """Returns the numbers of the file of the trusted time."""
+    return [int(it) for it in (service.folder / "dss.db-clock").read_text().split()]
+
+
+def reads_it(service):
+    return run([BUILT, "report", "--db", str(service.database)])[0]
+
+
+def backs_it_up(service):
+    return run([BUILT, "backup", "--db", str(service.database), str(service.folder / "copy.db")])[0]
+
+
+def held_start():
+    """Purges that are held at a start stay held after a kill, a stop, a report or a backup before the first start, and a
+    change, until an operator confirms the clock."""
+    found = []
+    rows = far(many(64, 4))
+    for before in (None, reads_it, backs_it_up):
+        service = MovedRetaining(rows, keep=DAY)
+        changed = aged(service, 2.2)
+        if before:
+            found += difference("the command before", before(service), 0)
+        with service as started:
+            for ends in ("killed", "stopped", "changed"):
+                found += held(started) + difference("the stored time", stored(started), [changed])
+                found += near(started.lines(), [("dss: clock: ", int(time.time()) - changed, " s after the last known time; purges are held")], 30)
+                if ends == "changed":
+                    path = f"{wire.AVAILABILITY}/uss-new"
+                    put = wire.request("PUT", path, "Bearer tok-v", b'{"old_version": "", "availability": "Down"}')
+                    found += difference("a change", [it[:12] for it in started.ask([put])], [b"HTTP/1.1 200"])
+                if ends == "stopped":
+                    started.asked(STOP)
+                    started.ended()
+                else:
+                    started.kill()
+                started.start()
+            found += held(started) + difference("nothing purged", started.counted()[PURGED], "0")
+            found += difference("confirmed", started.asked(RESUME), RESUMED)
+            found += free(started, "0")
+            started.kill()
+            started.start()
+            looks(started)
+            found += free(started, "0") + difference("lines", started.lines(), [])
+    return found
+
+
+def jump_stays():
+    """A jump that was seen while the service ran holds purges after a restart, until the clock returns."""
+    found = []
+    for step, words in ((FORTY_DAYS, "not back from a jump, N s after"), (3_600, "not back from a jump, N s after"), (-3_600, "N s before")):
+        with MovedRetaining(far(many(64, 4)), keep=DAY * 100) as started:
+            looks(started)
+            started.move(step)
+            found += held(started, "1")
+            started.kill()
+            started.start()
+            found += held(started, "0")
+            first, last = words.split("N")
+            line = (f"dss: clock: {first}", abs(step), f"{last} the last trusted time; purges are held")
+            found += near(started.lines(), [line], 30)
+            started.kill()
+            started.start()
+            found += held(started, "0")
+            started.move(0)
+            found += free(started, "0") + near(started.lines(), [line, GOES_ON], 60)
+    return found
+
+
+def file_of_the_time():
+    """The file beside the database has the last trusted time, is for its owner only, and is replaced whole. One that
+    cannot be read holds purges until an operator confirms the clock."""
+    with MovedRetaining(far(many(64, 4)), keep=DAY * 100) as started:
+        file = started.folder / "dss.db-clock"
+        looks(started)
+        found = difference("mode", oct(file.stat().st_mode), oct(0o100600))
+        moment, now = stored(started), int(time.time())
+        found += [] if len(moment) == 1 and now - 60 <= moment[0] <= now else [f"the file has {moment} at {now}"]
+        started.move(FORTY_DAYS)
+        found += held(started, "1")
+        times = stored(started)
+        found += [] if len(times) == 2 and times[1] >= times[0] + FORTY_DAYS - 5 else [f"after a jump the file has {times}"]
+        started.kill()
+        started.move(0)
+        for text in (b"", b"1", b"a\n", b"1 \n", b"1 2 3\n", b"-5\n", b"18446744073709551616\n", bytes(9)):
+            file.write_bytes(text)
+            started.start()
+            found += held(started) + difference("the damaged file", file.read_bytes() in (text, b"0\n"), True)
+            started.kill()
+        started.start()
+        found += difference("confirmed", started.asked(RESUME), RESUMED) + free(started, "0")
+        found += difference("nothing else", sorted(it.name for it in started.folder.glob("dss.db-clock*")), ["dss.db-clock"])
+        return found + difference("the file", len(stored(started)), 1)
+
+
+CASES = {
+    "clock-jumps": jumps,
+    "clock-jump-deletes-nothing": deletes_nothing,
+    "late-start-purges-nothing": starts_late,
+    "held-start-stays-held": held_start,
+    "clock-jump-stays-held": jump_stays,
+    "file-of-the-trusted-time": file_of_the_time,
+}

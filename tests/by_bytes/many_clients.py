@@ -11,6 +11,7 @@ import tempfile
 import time
 
 import drawn_calls
+import lengths
 import plain_policy
 import wire
 from connections import HEADS
@@ -20,7 +21,8 @@ from served_calls import AHEAD
 from serving import Service, until_closed
 from sockets import ANSWER, ASKED, CLOSING, LAST, difference
 
-SEED = 51
+# Rounds of calls that are sent at once.
+SEED, ROUNDS = 51, lengths.of(30, 90)
 FAULTS = {b"dss: stream: fault 1 Read", b"dss: stream: fault 2 Write", b""}
 
 
@@ -248,7 +250,8 @@ def large_bodies():
     and its response, and the memory stays within its bound."""
     body = b'{"old_version":"none","availability":"Down","x":"' + b"x" * 1_000_000 + b'"}'
     sent = wire.request("PUT", f"{wire.AVAILABILITY}/uss-b", "Bearer tok-v", body, ["Connection: close"])
-    with Service() as started:
+    # On a busy machine a request may take longer than its time limit.
+    with tempfile.TemporaryDirectory() as room, Service(more={"LD_PRELOAD": library("slow_clock", room)}) as started:
         before = started.memory()
         all_ = []
         for _ in range(200):
@@ -324,7 +327,7 @@ def drawn_at_once():
     # On a busy machine a client may be idle for more than a minute while the orders of calls are tried.
     with tempfile.TemporaryDirectory() as room, Service(drawn_calls.ALL_TOKENS, more={"LD_PRELOAD": library("slow_clock", room)}) as started:
         connections = [started.connect() for _ in range(clients)]
-        for number in range(90):
+        for number in range(ROUNDS):
             drawn = drawn_calls.Drawn(draw, airspace, AHEAD)
             calls = [drawn.call() for _ in range(clients)]
             for connection, call in zip(connections, calls):
@@ -337,7 +340,7 @@ def drawn_at_once():
             airspace = after
         for connection in connections:
             connection.close()
-    print(f"{90 * clients} calls at once, serial {airspace.serial}")
+    print(f"{ROUNDS * clients} calls at once, serial {airspace.serial}")
     return found
 
 

@@ -162,7 +162,7 @@ def unit_settings():
         found += [] if 0 < starts < interval else [f"{starts} s of failed starts, limited within {interval} s"]
     found += [] if service.get("MemoryMax") == "4G" else ["dss.service has not the MemoryMax that its starts are limited for"]
     wanted = {"dss.service": "OnFailure=dss-failure@%n.service", "dss-backup.service": "OnFailure=dss-failure@%n.service",
-              "dss-backup.timer": "Persistent=true"}
+              "dss-backup.timer": "Persistent=true", "pool/dss-pool@.service": "RestartPreventExitStatus=3"}
     found += [f"{name} lacks {it}" for name, it in wanted.items() if it not in (deploy / name).read_text().splitlines()]
     container = (TOP / "Dockerfile").read_text().splitlines()[-1]
     return found + ([] if '"--admin-port", "8078"' in container else [f"no admin port in {container}"])

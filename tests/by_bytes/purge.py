@@ -50,6 +50,9 @@ SPREAD = 0.618034
 # One of so many memory allocations is refused. Calls on files fail alone or with all after it, in turn: one of so many
 # of these ways is tried.
 STEP, CALLS_STEP = lengths.of(251, 61), 9
+# How many end, and how many stay, while memory allocations are refused: a few chunks suffice in a short run, and two if
+# each allocation is refused in turn.
+REFUSED, FEWEST = lengths.of((80, STAYING), (ENDED // 2, STAYING)), (30, 10)
 CELL = ("89c25904", 288901920, 288901920)
 ID = "00000000-0000-4000-8000-{:012x}".format
 
@@ -482,11 +485,11 @@ def files_fail():
     return found + ([] if {status for status, _ in ends} == {0, 1} else [f"only {dict(ends)}"])
 
 
-def without_memory(step=STEP):
-    """The same if memory allocations are refused in turn."""
+def without_memory(step=STEP, scene=REFUSED):
+    """The same if memory allocations are refused in turn, for so many that end and stay."""
     found, ends = [], collections.Counter()
     with PurgeRoom() as room:
-        before = made_of(room.database, many(ENDED // 2))
+        before = made_of(room.database, many(*scene))
         saved = room.database.read_bytes()
 
         def again():

@@ -1,12 +1,15 @@
-"""`serve` uses no file that could block it: its access log and its token file are regular files."""
+"""`serve` uses no file that could block it: its access log and its token file are regular files. Files that the program
+makes are for their owner, and commands that only read leave the times of the last change."""
 import os
+import pathlib
 import time
 
 import wire
+from databases import Room, filled
 from figures import FullAndVerbose
 from lateness import again, exceeded
 from logs import until_lines
-from program import run
+from program import BUILT, run
 from serving import Service
 from sockets import ASKED, CLOSING, LAST, ANSWER, difference
 
@@ -69,4 +72,120 @@ def while_it_serves():
         return found + difference("told", told, UNREAD)
 
 
-CASES = {"regular-files": at_the_start, "regular-files-while-it-serves": again(while_it_serves)}
+# Everyone may read what is made under this umask without a mode of its own.
+OPEN = ["sh", "-c", 'umask 022; exec "$@"', "-"]
+MONTH = 30 * 86_400
+
+
+def modes(folder):
+    """Returns the modes of the files of a directory and of those below it."""
+    folder = pathlib.Path(folder)
+    return {str(it.relative_to(folder)): f"{it.stat().st_mode & 0o777:04o}" for it in folder.rglob("*") if it.is_file()}
+
+
+class OpenService(Service):
+    """A service under that umask, with an access log."""
+
+    def command(self):
+        return [*OPEN, *super().command(), "--access-log", f"{self.folder}/log"]
+
+
+def served():
+    """What `serve` makes is for its owner, and the log for its group, too. Files that exist keep their modes."""
+    with OpenService() as started:
+        found = difference("served", started.exchange(ASKED + CLOSING, ends=False), ANSWER + LAST)
+        until_lines(started.folder / "log", 1)
+        made = {it: mode for it, mode in modes(started.folder).items() if it.startswith(("dss.db", "log"))}
+        found += difference("modes", made, {"dss.db": "0600", "dss.db-wal": "0600", "log": "0640"})
+        started.kill()
+        for name in made:
+            (started.folder / name).chmod(0o664)
+        started.start()
+        found += difference("served again", started.exchange(ASKED + CLOSING, ends=False), ANSWER + LAST)
+        kept = {it: mode for it, mode in modes(started.folder).items() if it in made}
+        return found + difference("modes that are kept", kept, dict.fromkeys(made, "0664"))
+
+
+def made_by_commands():
+    """What other commands make is for its owner. A copy has the rights of its source, but none for others."""
+    found = []
+    with Room() as room:
+        folder = pathlib.Path(room.folder.name)
+        said = lambda *words: run([*OPEN, BUILT, *map(str, words)])[::2]
+        made = lambda file: modes(folder)[str(file.relative_to(folder))]
+        wanted = {"dss.db": "0600", "dss.db-wal": "0600", "tokens.toml": modes(folder)["tokens.toml"]}
+        found += difference("run", run([*OPEN, *room.words()], b"".join(filled()))[::2], (0, b""))
+        for command, words in {"report": (), "upgrade": (), "purge": ("--until", "5", "--now", "9")}.items():
+            found += difference(command, said(command, "--db", folder / f"{command}.db", *words), (0, b""))
+            wanted |= {f"{command}.db": "0600", f"{command}.db-wal": "0600"}
+        found += difference("modes", modes(folder), wanted)
+        begin = lambda name: said("begin", "--tokens", room.tokens, "--db", room.database, "--files", folder / name)
+        for mode, copied in (0o600, "0600"), (0o644, "0640"), (0o666, "0640"):
+            room.database.chmod(mode)
+            copy, files = f"copy-{mode:o}.db", folder / f"files-{mode:o}"
+            files.mkdir()
+            found += difference("backup", said("backup", "--db", room.database, folder / copy), (0, b""))
+            found += difference("begin", begin(files.name), (0, b""))
+            found += difference("modes of copies", {modes(folder)[copy], *(made(it) for it in files.glob("*.db"))}, {copied})
+            found += difference("the lock", made(files / "lock")[-1], "0")
+            found += difference("the source", made(room.database), f"{mode:04o}")
+        found += difference("backup --live", said("backup", "--live", "--db", room.database, folder / "live"), (0, b""))
+        return found + difference("modes of a backup", set(modes(folder / "live").values()), {"0600"})
+
+
+def for_their_owner():
+    """Under a umask that lets all others read, files that the program makes are for their owner."""
+    return served() + made_by_commands()
+
+
+def times(database):
+    """Returns the times of the last change of the files of a database that exist."""
+    files = (pathlib.Path(f"{database}{end}") for end in ("", "-wal"))
+    return [it.stat().st_mtime_ns for it in files if it.exists()]
+
+
+def times_of_the_last_change():
+    """Commands that only read leave the times of the last change of a database and its log. A purge changes them."""
+    found = []
+    with Room() as room:
+        found += difference("run", room.serve(filled())[::2], (0, b""))
+        folder, old = pathlib.Path(room.folder.name), time.time_ns() // 1_000 * 1_000 - MONTH * 1_000_000_000
+        (folder / "files").mkdir()
+        given = ["--db", str(room.database)]
+        commands = {
+            "report": ["report", *given],
+            "report --cells": ["report", *given, "--cells"],
+            "backup": ["backup", *given, f"{folder}/copy.db"],
+            "backup that fails": ["backup", *given, f"{folder}/none/copy.db"],
+            "upgrade": ["upgrade", *given],
+            "begin": ["begin", *given, "--tokens", str(room.tokens), "--files", f"{folder}/files"],
+            "backup --live": ["backup", "--live", *given, f"{folder}/live"],
+            "verify": ["verify", str(room.database)],
+        }
+        for log_is_gone in False, True:
+            for name, words in commands.items():
+                if log_is_gone:
+                    pathlib.Path(f"{room.database}-wal").unlink(missing_ok=True)
+                for at, end in enumerate(("", "-wal")):
+                    if os.path.exists(f"{room.database}{end}"):
+                        os.utime(f"{room.database}{end}", ns=(old, old + at))
+                status, _, error = run([BUILT, *words])
+                fails = name == "backup that fails" or (log_is_gone and name in ("backup", "begin", "backup --live"))
+                found += difference(f"the status of {name}, which said {error!r}", status, int(fails))
+                # a new log has the time of the file
+                wanted = [old, old if log_is_gone else old + 1]
+                found += difference(f"times after {name}", times(room.database), wanted[: len(times(room.database))])
+        link = folder / "link.db"
+        link.symlink_to(room.database)
+        found += difference("report of a link", run([BUILT, "report", "--db", str(link)])[::2], (0, b""))
+        found += difference("times after report of a link", times(room.database), [old, old])
+        found += difference("purge", run([BUILT, "purge", *given, "--until", "1", "--now", "9"])[::2], (0, b""))
+        return found + difference("times after a purge", max(times(room.database)) > old + 1, True)
+
+
+CASES = {
+    "regular-files": at_the_start,
+    "regular-files-while-it-serves": again(while_it_serves),
+    "files-for-their-owner": for_their_owner,
+    "times-of-the-last-change": times_of_the_last_change,
+}

@@ -14,6 +14,7 @@ import time
 
 from admin_port import STOP, AdminService
 from logs import until_lines
+from pool import Skipped
 from program import BUILT, TOP, run
 from sockets import ASKED, CLOSING, LAST, difference
 
@@ -114,8 +115,7 @@ def rotates():
     """logrotate moves the log away, and the service continues in a new file of its own."""
     program = shutil.which("logrotate", path="/usr/sbin:/usr/bin")
     if not program:
-        print("logrotate is missing, so this case is skipped: install the package logrotate")
-        return []
+        raise Skipped("logrotate is missing: install the package logrotate")
     with UnitService() as started:
         text = (DEPLOY / "logrotate").read_text().replace("/var/log/dss/", f"{started.folder}/")
         owner = f"{started.folder.owner()} {started.folder.group()}"

@@ -7,18 +7,19 @@ import json
 import pathlib
 import tempfile
 
+import lengths
 import plain_policy
 import tables
 import wire
 from devices import library
 from program import BUILT, CASES, TOP, content, first_difference, run
 
-MAX_ALLOCATIONS = 20_000
+MAX_ALLOCATIONS = 40_000
 FAULT = (500, '{"message":"fault"}')
 STOPPED = (503, '{"message":"stopped"}')
 STORE = b"dss: db: fault 3 Store\n"
 # One of so many memory allocations of a stream over a database is refused.
-STEP = 61
+STEP = lengths.of(151, 61)
 NOW = 1000
 
 

@@ -1,10 +1,9 @@
-"""Checks the files of deploy/pool: certificates and users over real members, the proxy over two instances, alerts, and the unit.
+"""Cases of the files of deploy/pool: certificates and users over real members, the proxy over two instances, alerts, and the unit.
 
-And checks that the judgement of the rounds rejects planted faults."""
+And a case of planted faults, which the judgement of the rounds rejects."""
 import contextlib
 import http.client
 import json
-import os
 import pathlib
 import shlex
 import shutil
@@ -13,7 +12,6 @@ import ssl
 import subprocess
 import tempfile
 import time
-import traceback
 
 import drawn_calls
 import history
@@ -22,8 +20,9 @@ from cases import get, put
 from doors import PROGRAM, Exchange
 from file_cases import COMPACTED
 from machines import Failed, command, connect, until
+from pool import Skipped
 from program import TOP
-from sites import ADMIN_PORT, BACK, DEPLOY, ETCD_PORT, NAMES, PORT, READ, Sites, code, kill, stop
+from sites import ADMIN_PORT, BACK, DEPLOY, ETCD_PORT, NAMES, PORT, READ, code, kill, stop
 
 SECOND, SECOND_PORT, SECOND_ADMIN = "a2", 8180, 8178
 UNREACHABLE, UNKNOWN = ((503, f'{{"message":"{it}"}}') for it in ("unreachable", "unknown"))
@@ -386,17 +385,6 @@ def stop_instances(sites):
         stop(it.instance)
 
 
-def lost_since(sites):
-    """Returns the numbers of the intents that were lost since an airspace was kept, as the page says."""
-    given = block_of("**Keep what the instances know.**").replace("before.json", "after.json")
-    same(0, runs(sites.sites[0], sites.room, given)[0], "what the instance knows")
-    status, printed, errors = runs(sites.sites[0], sites.room, block_of("what differs is older now:"))
-    same((1, ""), (status, errors), "the difference")
-    found = [it for it in printed.splitlines() if '"id": ' in it]
-    same([], [it for it in found if not it.startswith("< ")], "what is new")
-    return {int(it.split('"')[3][-12:], 16) for it in found}
-
-
 def same_members(sites):
     """Waits until all members have the same content."""
     revision = sites.end_of_log()
@@ -406,26 +394,6 @@ def same_members(sites):
         return {json.loads(controls(sites, *words, at=it))[0]["HashKV"]["hash"] for it in sites.sites}
 
     until(lambda: len(hashes()) == 1, "the members have one content", BACK)
-
-
-def restored_log(sites):
-    """All members are restored from the backup of one, while no instance runs. Later changes are gone, and the airspaces show which."""
-    backup = sites.room / "log.db"
-    until(lambda: asks(sites.sites[0], put(3_009))[0] == 201, "a change before the backup", BACK)
-    control(sites, "snapshot", "save", backup)
-    same("0o600", oct(backup.stat().st_mode & 0o777), "the mode of the backup")
-    until(lambda: asks(sites.sites[0], put(3_010))[0] == 201, "a change after the backup", BACK)
-    all_read(sites.sites, 3_010)
-    stop_instances(sites)
-    restore_members(sites, backup)
-    same_members(sites)
-    for it in sites.sites:
-        it.start_instance()
-    all_read(sites.sites, 3_009)
-    all_read(sites.sites, 3_010, 404)
-    same({3_010}, lost_since(sites), "what is lost")
-    until(lambda: asks(sites.sites[1], put(3_011))[0] == 201, "a change after the restart", BACK)
-    all_read(sites.sites, 3_011)
 
 
 def restore_members(sites, log, *more):
@@ -440,112 +408,6 @@ def restore_members(sites, log, *more):
         command("env", "ETCDCTL_API=3", "etcdctl", "snapshot", "restore", log, *words, *more)
     for it in sites.sites:
         it.start_member()
-
-
-def database_of(site, room, revision):
-    """Returns a copy of the database of a member that was killed. It starts alone until it has made what is in its write-ahead log."""
-    log = room / "log-of-one.db"
-
-    def has_all():
-        site.start_member()
-        until(lambda: is_up(site, ETCD_PORT) or reaches(site, site.address, 2380), "the member starts", BACK)
-        stop(site.member)
-        shutil.copy(site.own / "dss" / "member" / "snap" / "db", log)
-        return json.loads(command("env", "ETCDCTL_API=3", "etcdctl", "snapshot", "status", log, "-w", "json"))["revision"] >= revision
-
-    until(has_all, "the database has the revision", BACK)
-    return log
-
-
-def without_two(sites, number):
-    """Two members lose their data with a change that the third one has not received. Returns the database of the third one, which was
-    killed before."""
-    third, others = sites.sites[2], sites.sites[:2]
-    until(lambda: asks(third, put(number))[0] == 201, "a change before", BACK)
-    all_read(sites.sites, number)
-    same_members(sites)
-    revision = sites.end_of_log()
-    kill(third.member)
-    until(lambda: asks(others[0], put(number + 1))[0] == 201, "a change without the third one", BACK)
-    all_read(others, number + 1)
-    for it in others:
-        kill(it.member)
-        shutil.rmtree(it.own / "dss")
-    return revision
-
-
-def lost_majority(sites):
-    """Two members lose their data. All are restored from the database of the third one, while no instance runs."""
-    revision = without_two(sites, 3_012)
-    same(True, revision_of(sites.sites[0]) > revision, "the first instance has a later change")
-    stop_instances(sites)
-    restore_members(sites, database_of(sites.sites[2], sites.room, revision), "--skip-hash-check=true")
-    same_members(sites)
-    words = "get", "in/", "--prefix", "--keys-only", "--sort-by=MODIFY", "--order=DESCEND", "--limit=1", "-w", "fields"
-    same([f'"ModRevision" : {revision}'], [it for it in control(sites, *words).splitlines() if "ModRevision" in it], "the end of the log")
-    for it in sites.sites:
-        it.start_instance()
-    all_read(sites.sites, 3_012)
-    all_read(sites.sites, 3_013, 404)
-    same({3_013}, lost_since(sites), "what is lost")
-    until(lambda: asks(sites.sites[0], put(3_013))[0] == 201, "a change after", BACK)
-    all_read(sites.sites, 3_013)
-
-
-def forked(sites):
-    """An instance that keeps running over a log without its last changes, which became longer, ends with a loss of its own."""
-    if b"diverged" not in pathlib.Path(PROGRAM).read_bytes():
-        print("the program does not know the loss diverged, so forks are not tested")
-        return
-    first, second, third = sites.sites
-    revision = without_two(sites, 3_100)
-    for it in second, third:
-        stop(it.instance)
-    restore_members(sites, database_of(third, sites.room, revision), "--skip-hash-check=true")
-    third.start_instance()
-    for number in range(3_110, 3_122):
-        until(lambda: asks(third, put(number))[0] == 201, "a change over the restored log", BACK)
-    if not first.instance.wait(BACK):
-        raise Failed("the instance ended with status 0")
-    losses = [it for it in first.said(20) if it.startswith(("dss: pool: diverged: ", "dss: pool: shortened: "))]
-    same(1, len(losses), f"what the instance said: {first.said(20)}")
-    for it in first, second:
-        it.start_instance()
-    all_read(sites.sites, 3_121)
-    all_read(sites.sites, 3_101, 404)
-
-
-def lost_etcd(sites):
-    """All members lose their data. A new log begins with the newest file. Later changes are gone, and the airspaces show which."""
-    site = sites.sites[0]
-    if not (site.own / "files").exists():
-        files(sites)
-    until(lambda: asks(site, put(3_015))[0] == 201, "a change in the file", BACK)
-    newest = site.own / "files" / marks(sites, site)[-1]
-    until(lambda: asks(site, put(3_016))[0] == 201, "a change behind the file", BACK)
-    all_read(sites.sites, 3_016)
-    stop_instances(sites)
-    for it in sites.sites:
-        stop(it.member)
-        shutil.rmtree(it.own / "dss")
-        (it.own / "files").rename(it.own / "files.old")
-        (it.own / "files").mkdir()
-    for it in sites.sites:
-        it.start_member(ETCD_INITIAL_CLUSTER_TOKEN="dss-pool-2")
-    sites.await_leader()
-    sites.make_users("users-2", (*NAMES, *(f"{it}-file" for it in NAMES)))
-    words = ["--tokens", site.own / "tokens.toml", "--db", site.own / "files.old" / newest.name, "--files", site.own / "files"]
-    first = command(PROGRAM, "begin", *words).strip()
-    for it in sites.sites:
-        if it is not site:
-            shutil.copy(site.own / "files" / first, it.own / "files")
-        it.start_instance("--files", it.own / "files")
-    all_read(sites.sites, 3_015)
-    all_read(sites.sites, 3_016, 404)
-    same({3_016}, lost_since(sites), "what is lost")
-    until(lambda: asks(sites.sites[1], put(3_016))[0] == 201, "a change after", BACK)
-    all_read(sites.sites, 3_016)
-    marks(sites, site)
 
 
 # ---- files
@@ -681,8 +543,12 @@ def restored_files(sites):
     # a file of a later time is refused while the log is shorter
     shutil.copy(sites.room / late, site.own / "files")
     site.start_instance("--files", site.own / "files")
-    same(1, site.instance.wait(BACK), "the status of an instance with a later file")
-    same("dss: pool: shortened: etcd lost entries of the log; restore etcd", site.said(1)[0], "what it said")
+    same(3, site.instance.wait(BACK), "the status of an instance with a later file")
+    same(
+        "dss: pool: shortened: etcd lost entries of the log; stop all instances of the pool, and restore etcd",
+        site.said(1)[0],
+        "what it said",
+    )
     (site.own / "files" / late).unlink()
     for it in sites.sites:
         shutil.copy(file, it.own / "files")
@@ -708,9 +574,11 @@ def left(sites):
 
 # ---- the alerts
 
-# For each alert: the series that fire it, and those that do not, in promtool's notation.
+# For each alert: the series that fire it, and those that do not, in promtool's notation; and the labels of the series that it has.
 ALERTS = {
     "DssPoolLogSilent": ({"dss_pool_silence_seconds": "0x35 11x5"}, {"dss_pool_silence_seconds": "11x20 10x20"}),
+    "DssPoolInstanceStopped": ({'up{job="dss"}': "1x35 0x5"}, {'up{job="dss"}': "0x20 1x20"}, {"job": "dss"}),
+    "DssPoolLogShortened": ({"dss_pool_revision": "9x30 8x10"}, {"dss_pool_revision": "9x20 9+1x20"}),
     "DssPoolNoLeader": ({"etcd_server_has_leader": "1x35 0x5"}, {"etcd_server_has_leader": "0x20 1x20"}),
     "DssPoolNearlyFull": (
         {"etcd_mvcc_db_total_size_in_bytes": "76x40", "etcd_server_quota_backend_bytes": "100x40"},
@@ -736,18 +604,19 @@ ALERTS = {
 
 
 def alerts(_sites):
-    """Each alert fires for its series, and for no others, if promtool is installed."""
+    """Each alert fires for its series, and for no others."""
     if not shutil.which("promtool"):
-        print("promtool is missing, so alerts are not tested: install the package prometheus")
-        return
+        raise Skipped("promtool is missing: install the package prometheus")
     import yaml
 
     rules = yaml.safe_load((DEPLOY / "prometheus-rules.yaml").read_text())["groups"][0]["rules"]
     same(sorted(ALERTS), sorted(it["alert"] for it in rules), "the alerts")
     tests = []
     for rule in rules:
-        for at, series in enumerate(ALERTS[rule["alert"]]):
-            fired = [{"exp_labels": rule["labels"], "exp_annotations": rule["annotations"]}] if at == 0 else []
+        fires, rests, *labels = ALERTS[rule["alert"]]
+        for series in fires, rests:
+            has = {"exp_labels": rule["labels"] | dict(*labels), "exp_annotations": rule["annotations"]}
+            fired = [has] if series is fires else []
             minutes = 800 if rule["alert"] == "DssPoolFullSoon" else 40
             asked = {"eval_time": f"{minutes}m", "alertname": rule["alert"], "exp_alerts": fired}
             given = [{"series": name, "values": values} for name, values in series.items()]
@@ -767,13 +636,14 @@ def metrics(sites):
     site = sites.sites[0]
     had = {it.split("{")[0].split()[0] for port in (ADMIN_PORT, ETCD_PORT) for it in asked(site, port, "/metrics").splitlines() if it}
     named = {it for series in ALERTS.values() for it in (name.split("{")[0] for name in series[0])}
-    same([], sorted(named - had), "metrics that nothing has")
+    # Prometheus makes this one itself
+    same([], sorted(named - had - {"up"}), "metrics that nothing has")
 
 
 def unit(_sites):
-    """systemd reads the units, if it is installed."""
+    """systemd reads the units."""
     if not shutil.which("systemd-analyze"):
-        return
+        raise Skipped("systemd-analyze is missing")
     with tempfile.TemporaryDirectory() as room:
         folder = pathlib.Path(room)
         text = (DEPLOY / "dss-pool@.service").read_text().replace("/usr/bin/dss ", "/bin/true ")
@@ -850,33 +720,3 @@ def planted(_sites):
     with contextlib.suppress(Failed):
         model.take(b"in/b", entry(changes[0]))
         raise AssertionError("accepted: a call twice")
-
-
-ALONE = planted, alerts, unit
-OVER_SITES = (
-    metrics, later_users, users, listed, stopped, proxy, proxy_by_read, replaced_member, restored_log, lost_majority, forked, files, restored_files,
-    lost_etcd, left,
-)
-
-
-def run(only=()):
-    """Returns how many cases passed, and how many failed."""
-    wrong = []
-
-    def judged(case, sites):
-        try:
-            case(sites)
-        except Exception as error:
-            wrong.append(case.__name__)
-            print(f"{case.__name__}: {type(error).__name__}: {error}"[:2_000], flush=True)
-            if "SHOW_TRACES" in os.environ:
-                traceback.print_exc()
-
-    for case in ALONE if not only else ():
-        judged(case, None)
-    with Sites() as sites:
-        for it in sites.sites:
-            until(lambda: is_up(it, ADMIN_PORT), "an instance listens", BACK)
-        for case in [it for it in OVER_SITES if not only or it.__name__ in only]:
-            judged(case, sites)
-    return len(ALONE) + len(OVER_SITES) - len(wrong), len(wrong)

@@ -10,11 +10,12 @@ import re
 import resource
 import shutil
 import signal
+import sqlite3
 import subprocess
 import time
 
 from cases import SETTINGS, TOKENS, Judge, admin, get, put, with_pool
-from doors import answer, create, until
+from doors import Door, answer, create, until
 from ports import free_port
 
 NAME = re.compile(r"\d{20}-\d{20}-\d{20}\.db")
@@ -22,6 +23,7 @@ COMPACTED = "dss: pool: compacted: etcd no longer has the entries behind the sta
 NO_FILE = "dss: pool: files: the directory has no file REVISION-SETTINGS-BEGINNING.db; run dss follow or dss begin"
 UNUSABLE = "dss: pool: files: cannot read or write the directory; check that it exists, its permissions and its disk"
 BUSY = "dss: pool: files: another dss follow or dss begin uses the directory; wait until it ends"
+NO_AIRSPACE = "dss: pool: files: the newest file is gone, or has no airspace; move it away, and start again"
 SILENT = "dss: pool: etcd does not answer; check --pool and that a majority of its members runs"
 
 
@@ -215,16 +217,109 @@ def refused(pool):
     status, printed, errors = pool.follow(folder, TOKENS)
     third = printed.removesuffix("\n")
     assert (status, errors) == (0, "") and names(folder) == [second, third] and third > second, (status, printed, errors)
-    assert sorted(it.name for it in folder.iterdir()) == sorted(["lock", "other.db", f"{first}.copy", second, third])
+    assert sorted(it.name for it in folder.iterdir()) == sorted(["lock", "turn", "other.db", f"{first}.copy", second, third])
     two = [pool.add(f"late-{it}", TOKENS, options=("--files", folder)) for it in range(2)]
     pool.ready(two)
     # a damaged file: the one before is of use
-    (folder / third).write_bytes(b"x" * 9_000)
+    whole = (folder / third).read_bytes()
+    (folder / third).write_bytes(whole[: len(whole) // 2])
     status, lines = serve(folder)
-    assert status == 1 and re.fullmatch(r"dss: db: fault \d+ \w+", lines[-1]), (status, lines)
+    assert status == 1 and re.fullmatch(r"dss: db: fault \d+ \w+", lines[-2]), (status, lines)
+    assert lines[-1].startswith(f"dss: cause: {folder / third}: "), lines
     (folder / third).unlink()
     door = started(pool, "late", folder)
     assert [answer(door, get(it))[0] for it in (90, 91, 92)] == [200] * 3
+
+
+def with_tables(file, *statements):
+    """Makes a database with SQLite."""
+    with contextlib.closing(sqlite3.connect(file)) as database:
+        for it in statements:
+            database.execute(it)
+
+
+# How a file is made that has no airspace.
+WITHOUT_AIRSPACE = {
+    "0 bytes": lambda file: file.write_bytes(b""),
+    "other bytes": lambda file: file.write_bytes(b"x" * 9_000),
+    "no table": lambda file: with_tables(file, "PRAGMA user_version = 1"),
+    "another table": lambda file: with_tables(file, "CREATE TABLE other (value)"),
+    "a directory": lambda file: file.mkdir(),
+    "a link to nothing": lambda file: file.symlink_to("nothing"),
+}
+
+
+def without_airspace(pool):
+    """A newest file without an airspace is refused with its name, and nothing is changed. The one before is of use."""
+    folder = folder_of(pool)
+    create(pool.doors[0], put(96))
+    first = followed(pool, folder)
+    create(pool.doors[0], put(97))
+    second = followed(pool, folder)
+    file = folder / f"{int(second[:20]) + 1:020}{second[20:]}"
+    content = lambda: file.read_bytes() if file.is_file() else None
+    for name, make in WITHOUT_AIRSPACE.items():
+        make(file)
+        before = content()
+        status, lines = pool.fails("i9", TOKENS, options=("--files", folder))
+        assert (status, lines[-2:-1]) == (1, [NO_AIRSPACE]) and lines[-1].startswith(f"dss: cause: {file}: "), (name, status, lines)
+        status, printed, errors = pool.follow(folder, TOKENS)
+        assert (status, printed, errors.splitlines()) == (1, "", lines[-2:]), (name, status, printed, errors)
+        assert content() == before and names(folder) == [first, second, file.name], (name, names(folder))
+        assert not (folder / "nothing").exists() and not (folder / f"{file.name}-wal").exists(), name
+        file.rmdir() if file.is_dir() else file.unlink()
+    door = started(pool, "late", folder)
+    assert [answer(door, get(it))[0] for it in (96, 97)] == [200] * 2
+
+
+def waits_for(process, file):
+    """Returns true once a process waits for a lock of a file."""
+    found = f"{file.stat().st_ino} 0 EOF"
+    return any("->" in it and f" {process.pid} " in it and it.endswith(found) for it in pathlib.Path("/proc/locks").read_text().splitlines())
+
+
+def next_turn(pool):
+    """While an instance waits for its turn, `follow` removes no file. The instance starts from the newest one, and makes none."""
+    folder = folder_of(pool)
+    create(pool.doors[0], put(98))
+    made = [followed(pool, folder)]
+    follow = lambda: pool.follow(folder, TOKENS)
+    with open(folder / "turn", "w") as turn, concurrent.futures.ThreadPoolExecutor(1) as threads:
+        fcntl.flock(turn, fcntl.LOCK_EX)
+        door = Door.__new__(Door)
+        start = threads.submit(door.__init__, pool.room, pool.cluster.addresses(), "late", TOKENS, options=("--files", folder))
+        try:
+            until(lambda: hasattr(door, "process") and waits_for(door.process, folder / "turn"), "the instance does not wait")
+            for index in 99, 100, 101:
+                create(pool.doors[0], put(index))
+                status, printed, errors = follow()
+                assert (status, errors) == (0, ""), (status, printed, errors)
+                made.append(printed.removesuffix("\n"))
+            assert names(folder) == made, (names(folder), made)
+        finally:
+            fcntl.flock(turn, fcntl.LOCK_UN)
+        start.result()
+    pool.doors.append(door)
+    pool.ready([door])
+    assert [answer(door, get(it))[0] for it in (98, 99, 100, 101)] == [200] * 4
+    assert names(folder) == made
+    create(pool.doors[0], put(102))
+    assert names(folder)[0] == made[0] and followed(pool, folder) > made[-1]
+
+
+def for_their_owner(pool):
+    """Under a umask that lets all others read, the files of a pool are for their owner."""
+    folder = folder_of(pool)
+    modes = lambda end: {it.stat().st_mode & 0o777 for it in folder.iterdir() if it.name.endswith(end)}
+    for index in 103, 104, 105:
+        create(pool.doors[0], put(index))
+        status, _, errors = pool.follow(folder, TOKENS, umask=0o022)
+        assert (status, errors) == (0, ""), (status, errors)
+        assert modes(".db") == {0o600} and not any(it & 0o007 for it in modes("")), (modes(".db"), modes(""))
+    (folder / names(folder)[-1]).chmod(0o644)
+    create(pool.doors[0], put(106))
+    assert pool.follow(folder, TOKENS, umask=0o022)[0] == 0
+    assert (folder / names(folder)[-1]).stat().st_mode & 0o777 == 0o640, modes(".db")
 
 
 def limited(bytes_per_file):
@@ -249,7 +344,7 @@ def full_disk(pool):
         assert (status, printed) == (1, ""), (bytes_per_file, status, printed)
         assert errors.startswith((f"{UNUSABLE}\n", "dss: db: fault")), (bytes_per_file, errors)
         assert names(folder) == [first, second]
-        assert {it.name for it in folder.iterdir()} == {"lock", first, second}
+        assert {it.name for it in folder.iterdir()} == {"lock", first, second}, (bytes_per_file, errors, sorted(it.name for it in folder.iterdir()))
     third = followed(pool, folder)
     assert names(folder) == [second, third]
     started(pool, "late", folder)
@@ -305,6 +400,9 @@ CASES = {
     "files with the same airspace": with_pool(same_airspace),
     "files and compaction": with_pool(compacted),
     "files refused": with_pool(refused),
+    "files without an airspace": with_pool(without_airspace),
+    "files in turn": with_pool(next_turn),
+    "files of a pool for their owner": with_pool(for_their_owner),
     "files on a full disk": with_pool(full_disk),
     "files of a killed process": with_pool(killed),
     "files of a silent log": with_pool(silent_log),

@@ -9,18 +9,24 @@ import time
 SLOWEST = 10
 
 
+class Skipped(Exception):
+    """Why a case cannot run here."""
+
+
 def processor_time():
     """Returns the processor time of this process and of its ended children, in seconds."""
     return sum(os.times()[:4])
 
 
 def result_of(case):
-    """Runs a case. Returns what it found wrong, what it printed, and the seconds that it took: by the clock, and of the
-    processors."""
+    """Runs a case. Returns what it found wrong, or why it cannot run here; what it printed; and the seconds that it took:
+    by the clock, and of the processors."""
     began, used, printed = time.monotonic(), processor_time(), io.StringIO()
     try:
         with contextlib.redirect_stdout(printed):
             found = case()
+    except Skipped as why:
+        found = str(why)
     except Exception as error:
         found = [f"{type(error).__name__}: {error}"]
     return found, printed.getvalue(), time.monotonic() - began, processor_time() - used
@@ -31,11 +37,15 @@ class Pool:
 
     def __init__(self, cases, jobs):
         self.cases, self.jobs = cases, jobs
-        self.passed = self.failed = 0
+        self.passed = self.failed = self.skipped = 0
         self.times = []
 
     def note(self, name, result):
         found, printed, took, used = result
+        if isinstance(found, str):
+            self.skipped += 1
+            print(f"skipped {name}: {found}", flush=True)
+            return
         self.times.append((took, used, name))
         self.passed, self.failed = self.passed + (not found), self.failed + bool(found)
         print(f"{'FAILED' if found else 'ok'} {name} ({took:.1f} s, processor {used:.1f} s)", flush=True)
