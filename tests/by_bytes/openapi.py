@@ -20,7 +20,7 @@ from program import BUILT, TOP, first_difference, run, serve
 NOW = 1000
 DOCUMENT = TOP / "docs" / "openapi.yaml"
 # From Debian's package openapi-specification.
-SCHEMA = pathlib.Path("/usr/share/openapi-specification/schemas/v3.0/schema.json")
+SCHEMA = pathlib.Path("/usr/share/openapi-specification/schemas/v3.0/schema.yaml")
 DRAWN = range(1, 11)
 METHODS = ("get", "put", "post", "delete", "options", "head", "patch", "trace")
 
@@ -162,7 +162,7 @@ def served(requests):
 def is_document():
     """The document conforms to OpenAPI 3.0, and its examples to their schemas and rules."""
     document = the_document()
-    validator = jsonschema.Draft4Validator(json.loads(SCHEMA.read_text()))
+    validator = jsonschema.Draft4Validator(yaml.safe_load(SCHEMA.read_text()))
     found = [f"{list(it.absolute_path)}: {it.message[:300]}" for it in validator.iter_errors(document.text)]
     used = set(re.findall(r"#/components/[^']*", DOCUMENT.read_text())) | {
         f"#/components/{it}" for it in ("responses/NoRoute", "responses/NoMethod")
