@@ -185,6 +185,10 @@ def failed_accepts():
     """If the system has no descriptor, the connection waits. The failed accepts are counted, and reported in one line."""
     with AdminService() as started:
         process = started.program.pid
+        # The trusted time is stored soon after the start, which takes descriptors, too.
+        stored, until = started.folder / "dss.db-clock", time.monotonic() + SECONDS
+        while not stored.exists() and time.monotonic() < until:
+            time.sleep(0.01)
         most = max(int(it) for it in os.listdir(f"/proc/{process}/fd")) + 1
         _, hard = resource.prlimit(process, resource.RLIMIT_NOFILE)
         resource.prlimit(process, resource.RLIMIT_NOFILE, (most, hard))
