@@ -67,6 +67,8 @@ class Fake:
         self.keys, self.changes = {}, []
         # "past" is a range at a revision.
         self.plans = {"put": [], "range": [], "past": [], "token": [], "compact": [], "watch": []}
+        # Each request of these kinds gets status 503, and is not done.
+        self.refused = set()
         self.draw, self.rate = draw, rate
         self.users, self.tokens = users or {}, set()
         self.requests, self.closed = [], False
@@ -103,6 +105,8 @@ class Fake:
 
     def fault(self, kind):
         with self.lock:
+            if kind in self.refused:
+                return "503 before"
             if self.plans[kind]:
                 return self.plans[kind].pop(0)
             if self.draw and self.draw.random() < self.rate:
@@ -119,25 +123,28 @@ class Fake:
     def header(self):
         return {"cluster_id": "1", "member_id": "2", "revision": number(self.revision), "raft_term": "2"}
 
-    def put(self, name, value):
+    def put(self, name, value, is_lost=False):
         self.revision += 1
         before = self.keys.get(name)
         created = before.created if before else self.revision
         key = Key(name, value, created, self.revision, before.version + 1 if before else 1)
         self.keys[name] = key
-        self.changes.append(("PUT", key))
+        if not is_lost:
+            self.changes.append(("PUT", key))
         self.lock.notify_all()
 
-    def delete(self, name):
+    def delete(self, name, is_lost=False):
         with self.lock:
             self.revision += 1
             del self.keys[name]
-            self.changes.append(("DELETE", Key(name, b"", 0, self.revision, 0)))
+            if not is_lost:
+                self.changes.append(("DELETE", Key(name, b"", 0, self.revision, 0)))
             self.lock.notify_all()
 
-    def put_from_outside(self, name, value):
+    def put_from_outside(self, name, value, is_lost=False):
+        """Puts a value. If it is lost, no watch gives it."""
         with self.lock:
-            self.put(name, value)
+            self.put(name, value, is_lost)
 
     def txn(self, body):
         with self.lock:

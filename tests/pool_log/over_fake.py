@@ -297,27 +297,211 @@ def known_settings():
     alike.close()
 
 
+def ends_of(instance):
+    return [it for it in instance.lines if it.startswith("end ")]
+
+
 def deleted_keys():
+    """A deletion is a change like others. Only the process whose key it was ends, and its next start goes on."""
+    fake = Fake()
+    one, two = Instance(fake.addresses(), "a"), Instance(fake.addresses(), "b")
+    offer_all(one, fake, 1)
+    two.until_fenced()
+    fake.put_from_outside(b"in/z", b"5\nx")
+    fake.delete(b"in/z")
+    fake.put_from_outside(b"in/z", b"5\ny")
+    for it in (one, two):
+        it.say("end")
+        it.settle()
+        same(["t0", "x", "y"], [text for _, text in it.until(3)], "entries around a deletion")
+    fake.delete(b"in/a")
+    same("deleted", one.until_lost(), "the log of the process whose key was deleted")
+    same("ended 3", one.lines[-1], "its status")
+    two.offer("z")
+    two.settle()
+    three = Instance(fake.addresses(), "a")
+    three.offer("w")
+    three.settle()
+    three.say("end")
+    three.settle()
+    for it in (two, three):
+        same(["t0", "x", "y", "z", "w"], [text for _, text in it.until(5)], "entries behind the deletion")
+        same([None, []], [it.lost(), it.real_faults()], "losses and faults")
+        it.close()
+    same(["end 1 5"], ends_of(three), "ends")
+
+
+def deleted_last():
+    """The revision of the last key of the log is lower once that key is deleted. No change is missing then."""
     fake = Fake()
     one = Instance(fake.addresses(), "a")
     offer_all(one, fake, 1)
-    fake.delete(b"in/a")
-    same("deleted", one.until_lost(), "the log")
+    fake.put_from_outside(b"in/z", b"5\nx")
+    one.until(2)
+    fake.delete(b"in/z")
+    for count in (1, 2):
+        one.say("end")
+        one.settle()
+        same(f"end {count} 2", ends_of(one)[-1], "the end")
+    same(None, one.lost(), "the log")
+    one.close()
+
+
+def deleted_lists():
+    """Without its key, the supplier list lets every organization act for every USS."""
+    fake = Fake()
+    one = Instance(fake.addresses(), "a")
+    offer_all(one, fake, 1)
+    fake.put_from_outside(LIST, GIVEN)
+    fake.put_from_outside(b"in/c", entry(100, "uss-x"))
+    fake.delete(LIST)
+    fake.put_from_outside(b"in/c", entry(101, "uss-x"))
+    revision = fake.revision
+    fake.put_from_outside(b"in/c", entry(102, "uss-x"))
+    two = Instance(fake.addresses(), "d", revision=revision, count=2, pool=one.agreed)
+    for it, moments in ((one, [101, 102]), (two, [102])):
+        it.say("end")
+        it.settle()
+        same(moments, it.moments(), f"calls that {it.name} was given")
+        same(["end 1 3"], ends_of(it), "ends")
+        it.close()
 
 
 def nothing_after_a_loss():
-    """No change behind the one at which the log is lost counts, also if it came at once, in lines of its own."""
+    """No change behind the one at which the log is lost counts, also if it came with it."""
+    for join in (True, False):
+        fake = Fake()
+        one = Instance(fake.addresses(), "a")
+        offer_all(one, fake, 1)
+        if join:
+            fake.plan("watch", "join")
+        with fake.lock:
+            fake.delete(b"in/a")
+            for it in (b"5\ny", b"5\nz"):
+                fake.put_from_outside(b"in/z", it)
+        one.say("end")
+        same("deleted", one.until_lost(), "the log")
+        same([["t0"], []], [one.texts(), ends_of(one)], "entries and ends")
+
+
+# Changes of a key by which a watch shows that it has left one out: those before its last one, which it gives. A word with a star is lost.
+GAPS = (
+    "put put* put", "put* put", "put* put* put", "put delete* put", "put delete* put* put", "put put delete* put* put", "put* delete",
+    "put delete put* put", "put delete put* delete", "put delete* put* put* put", "put put put* delete* put",
+)
+
+
+def make_changes(fake, name, words):
+    for it in words.split():
+        lost = it.endswith("*")
+        if it.startswith("put"):
+            fake.put_from_outside(name, b"5\nx", is_lost=lost)
+        else:
+            fake.delete(name, is_lost=lost)
+
+
+def changes_left_out(words):
+    """A change that cannot be the next one of its key ends an instance, and none behind it counts."""
+    fake = Fake()
+    one, two = Instance(fake.addresses(), "a"), Instance(fake.addresses(), "b")
+    for it in (one, two):
+        it.until_fenced()
+    make_changes(fake, b"in/z", words)
+    fake.put_from_outside(b"in/y", b"5\nbehind")
+    for it in (one, two):
+        same("shortened", it.until_lost(), f"the log after {words}")
+        assert "behind" not in it.texts(), f"an entry behind a gap: {it.texts()}"
+
+
+def no_changes_left_out():
+    """Changes of other keys, and whole lives of a key, leave no gap."""
     fake = Fake()
     one = Instance(fake.addresses(), "a")
-    for it in (f"5 {one.agreed}".encode(), b"5\nx"):
-        fake.put_from_outside(b"in/z", it)
-    fake.delete(b"in/z")
-    for it in (b"5\ny", b"5\nz"):
-        fake.put_from_outside(b"in/z", it)
-    fake.plan("watch", "join", "join")
+    one.until_fenced()
+    for words in ("put put put delete", "put delete", "put", "put put", "delete put* delete* put put delete"):
+        make_changes(fake, b"in/z", words)
+        fake.put_from_outside(b"mark/a", b"1 5")
+        fake.put_from_outside(b"in/y", b"5\nx")
     one.say("end")
-    same("deleted", one.until_lost(), "the log")
-    same([], [it for it in one.lines if it.startswith("end ")], "ends")
+    one.settle()
+    same([None, 14], [one.lost(), len(one.until(14))], "the log")
+    one.close()
+
+
+def counts_behind_a_revision():
+    """An instance that starts behind a revision knows the counts there, also after a compaction up to it."""
+    for words, loss in (
+        ("put", None), ("put delete put", None), ("delete put", None), ("put* put", "shortened"), ("delete* put", "shortened"),
+        ("delete* put* put", "shortened"), ("put* delete* put", "shortened"),
+    ):
+        fake = Fake()
+        make_changes(fake, b"in/w", "put delete")
+        make_changes(fake, b"in/z", "put delete put put")
+        one = Instance(fake.addresses(), "a")
+        one.until_fenced()
+        revision = fake.revision
+        make_changes(fake, b"in/z", words)
+        make_changes(fake, b"in/w", "put")
+        count = 4 + words.count("put") + 1 - words.count("put*")
+        fake.compact(revision)
+        two = Instance(fake.addresses(), "b", revision=revision, count=4, pool=one.agreed)
+        two.say("end")
+        if loss:
+            same(loss, two.until_lost(), f"the log after {words}")
+            same([], ends_of(two), "ends")
+        else:
+            two.settle()
+            same([f"end 1 {count}"], ends_of(two), f"ends after {words}")
+            two.close()
+        one.close()
+
+
+def no_end_before_the_fence():
+    """An instance that cannot put its fence reports no end of the log, whatever entries it is given."""
+    fake = Fake()
+    one = Instance(fake.addresses(), "a")
+    offer_all(one, fake, 2)
+    with fake.lock:
+        fake.refused.add("put")
+    two = Instance(fake.addresses(), "b")
+    two.say("end")
+    two.until(2)
+    two.wait(2_500)
+    same([["t0", "t1"], [], None], [two.texts(), ends_of(two), two.lost()], "entries and ends before the fence")
+    with fake.lock:
+        fake.refused.clear()
+    two.settle()
+    same(["end 1 2"], ends_of(two), "ends")
+    for it in (one, two):
+        it.close()
+
+
+def refused_puts():
+    """Only a later value of another process replaces a process. What else can refuse its put is a deletion, or a loss of etcd."""
+    def deleted(fake):
+        del fake.keys[b"in/a"]
+
+    def older(fake):
+        fake.keys[b"in/a"] = next(it for _, it in fake.changes if it.name == b"in/a")
+
+    def emptied(fake):
+        fake.keys.clear()
+        fake.revision = 1
+
+    def other(fake):
+        fake.put(b"in/a", b"7 7")
+
+    for change, loss in ((deleted, "deleted"), (older, "shortened"), (emptied, "shortened"), (other, "replaced")):
+        fake = Fake()
+        one = Instance(fake.addresses(), "a")
+        offer_all(one, fake, 2)
+        # the watch says nothing of it
+        fake.plan("watch", "stall")
+        with fake.lock:
+            change(fake)
+        one.offer("never")
+        same(loss, one.until_lost(), f"the log: {change.__name__}")
+        same(["t0", "t1"], one.texts(), "entries")
 
 
 def starts_in_the_middle():
@@ -351,12 +535,13 @@ def removed_beginnings():
 
 
 def shortened_logs():
-    """An etcd that was set up anew, or lies, has not what it gave before."""
+    """An etcd that was set up anew has not what it gave before."""
     fake = Fake()
     one = Instance(fake.addresses(), "a")
     offer_all(one, fake, 3)
     with fake.lock:
         fake.keys.clear()
+        fake.revision = 1
     one.say("end")
     same("shortened", one.until_lost(), "the log")
 
@@ -458,10 +643,10 @@ def lists_behind_a_revision():
 
 
 def each_fault_of_a_list(fault):
-    """A list that was not read is asked again. Meanwhile no entry is given."""
+    """A list, or counts, that were not read are asked again. Meanwhile no entry is given."""
     fake = Fake()
     one, revision, wanted = behind_a_list(fake)
-    fake.plan("past", fault, fault)
+    fake.plan("past", fault, fault, None, fault, fault)
     two = Instance(fake.addresses(), "d", revision=revision, count=2, pool=one.agreed)
     two.say("end")
     two.settle()
@@ -578,9 +763,12 @@ def cases(seeds=6):
     """All cases, by name."""
     found = {it.__name__: it for it in (
         batches_in_order, bodies_of_requests, fences_that_are_lost, puts_that_come_late, two_processes_of_one_name, several_names,
-        ends_after_entries, other_keys, numbers_of_others, other_settings, settings_of_the_first_fence, settings_behind_a_revision, known_settings, deleted_keys, nothing_after_a_loss, starts_in_the_middle, removed_beginnings, shortened_logs, tokens,
+        ends_after_entries, other_keys, numbers_of_others, other_settings, settings_of_the_first_fence, settings_behind_a_revision, known_settings, deleted_keys, deleted_last, deleted_lists, nothing_after_a_loss, no_changes_left_out,
+        counts_behind_a_revision, no_end_before_the_fence, refused_puts, starts_in_the_middle, removed_beginnings, shortened_logs, tokens,
         endpoints_in_turn, long_batches, supplier_lists, lists_behind_a_revision, lists_that_are_gone, own_entries_that_do_not_count,
     )}
+    for words in GAPS:
+        found[f"gap: {words}"] = lambda words=words: changes_left_out(words)
     for fault in REQUEST_FAULTS:
         found[f"put: {fault}"] = lambda fault=fault: each_fault_of_a_put(fault)
         found[f"end: {fault}"] = lambda fault=fault: each_fault_of_an_end(fault)

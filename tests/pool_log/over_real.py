@@ -70,8 +70,44 @@ def compaction_and_deletion(room):
     on_time.settle()
     same(["y"], [it[1] for it in on_time.until(1)], "entries behind the compaction")
     cluster.control("del", "in/a")
-    same("deleted", on_time.until_lost(), "the log")
-    one.close()
+    same("deleted", one.until_lost(), "the log of the process whose key was deleted")
+    on_time.offer("z")
+    on_time.settle()
+    again = Instance(cluster.addresses(), "a", revision, 5)
+    again.offer("w")
+    again.settle()
+    again.say("end")
+    again.settle()
+    for it in (on_time, again):
+        same(["y", "z", "w"], [text for _, text in it.until(3)], "entries around the deletion")
+        same(None, it.lost(), "the log")
+        it.close()
+    same(["end 1 8"], [it for it in again.lines if it.startswith("end ")], "ends")
+    cluster.close()
+
+
+def leases(room):
+    """A put with a lease is an entry. Its end is a deletion, and the log goes on."""
+    cluster = Cluster(room)
+    one = Instance(cluster.addresses(), "a")
+    one.offer("x")
+    one.settle()
+    lease = cluster.ask(0, "/v3/lease/grant", {"TTL": "1"})["ID"]
+    for value in (b"5\ny", b"5\nz"):
+        cluster.ask(0, "/v3/kv/put", {"key": coded(b"in/z"), "value": coded(value), "lease": lease})
+    one.until(3)
+    revision = one.wait(100).split()[4]
+    end = time.monotonic() + LIMIT
+    while cluster.ask(0, "/v3/kv/range", {"key": coded(b"in/z")}).get("kvs") and time.monotonic() < end:
+        time.sleep(0.2)
+    cluster.ask(0, "/v3/kv/put", {"key": coded(b"in/z"), "value": coded(b"5\nw")})
+    two = Instance(cluster.addresses(), "b", revision, 3)
+    for it, entries in ((one, ["x", "y", "z", "w"]), (two, ["w"])):
+        it.say("end")
+        it.settle()
+        same(entries, [text for _, text in it.until(len(entries))], "entries")
+        same([None, ["end 1 4"]], [it.lost(), [line for line in it.lines if line.startswith("end ")]], "losses and ends")
+        it.close()
     cluster.close()
 
 
@@ -236,5 +272,5 @@ def leaders_that_fail(room):
 def cases():
     """All cases, by name. Each is given a folder of its own."""
     return {f"etcd: {it.__name__}": it for it in (
-        one_member, restarts, compaction_and_deletion, users, other_settings, supplier_lists, ranges_of_the_fake, leaders_that_fail,
+        one_member, restarts, compaction_and_deletion, leases, users, other_settings, supplier_lists, ranges_of_the_fake, leaders_that_fail,
     )}

@@ -19,7 +19,7 @@ const MARK: &str = "SQLite format 3\0";
 // The text that makes the first table of an airspace.
 const TABLE: &str = "CREATE TABLE meta (";
 
-// Returns the first page of a file, or what there is of it.
+// Returns the first page of a file, or the whole file if it is shorter.
 fn first_page(rt: &HostRuntime, path: &str) -> io::Result<Vec<u8>> {
     check_regular(rt, path)?;
     let mut file = File::open(rt, path)?;

@@ -233,13 +233,13 @@ impl<'a> PoolFiles<'a> {
         Ok(newest_of(names.as_slice()))
     }
 
-    // Removes a database, after what lies beside it.
+    // Removes a database, after the files beside it.
     fn remove_database(&self, path: &str) -> io::Result<()> {
         self.remove_beside(path)?;
         remove(self.rt, path)
     }
 
-    // Removes what lies beside a database that is closed, or of that name.
+    // Removes the files beside a database that is closed, or of that name.
     fn remove_beside(&self, path: &str) -> io::Result<()> {
         for end in BESIDE {
             let beside = format!(in self.rt.alloc(); "{path}{end}")?;

@@ -17,8 +17,8 @@ pub(crate) const NO_OTHERS: u32 = 0o660;
 // The name that SQLite does not take for that of a file.
 const IN_MEMORY: &str = ":memory:";
 
-/// Makes an empty file that only its owner can read and write, if nothing has that name. What lies
-/// beside a database gets its mode. An existing file keeps its own.
+/// Makes an empty file that only its owner can read and write, if nothing has that name. SQLite
+/// gives the database's mode to the files that it makes beside it. An existing file keeps its own.
 pub(crate) fn make_database(rt: &HostRuntime, name: &str) -> Result<(), Fault> {
     if name == IN_MEMORY {
         return Ok(());

@@ -12,8 +12,7 @@ text_of Replaced = codes "replaced: another process writes under this name; stop
 text_of Compacted =
     codes
     "compacted: etcd no longer has the entries behind the start; use --files with a newer file"
-text_of Deleted =
-    codes "deleted: a key of the log was deleted; start again, and restore etcd if this comes back"
+text_of Deleted = codes "deleted: the key of this process was deleted from etcd; start it again"
 text_of Shortened =
     codes
     "shortened: etcd lost entries of the log; stop all instances of the pool, and restore etcd"

@@ -51,7 +51,7 @@ pub struct PoolConfig<'a> {
 
 /// Creates an instance of a pool over that log, with the salt of a token file. It starts from the
 /// airspace of a space in memory. That of a new space is empty. With a retention it offers purges of
-/// what ended at least so many seconds ago.
+/// what ended at least that number of seconds ago.
 ///
 /// The only possible fault is `Memory`.
 pub fn new_instance<G: Log + Drop>(

@@ -14,7 +14,7 @@ pub enum PoolFault {
     Replaced,
     /// Entries of the log were removed before they were received.
     Compacted,
-    /// A key of the log was deleted.
+    /// The key of this process was deleted.
     Deleted,
     /// The log ends before an entry that was received.
     Shortened,
@@ -58,8 +58,7 @@ impl PoolFault {
                  use --files with a newer file"
             }
             PoolFault::Deleted => {
-                "deleted: a key of the log was deleted; \
-                 start again, and restore etcd if this comes back"
+                "deleted: the key of this process was deleted from etcd; start it again"
             }
             PoolFault::Shortened => {
                 "shortened: etcd lost entries of the log; \

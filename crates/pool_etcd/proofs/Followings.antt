@@ -8,11 +8,9 @@ use Rattle.pool_etcd.specs.declared.following.LineValues.{LineValues}
 use Rattle.pool_etcd.specs.declared.log_value.LogEntry.{LogEntry}
 use Rattle.pool_etcd.specs.declared.log_value.LogValue.{LogValue}
 use Rattle.pool_etcd.specs.declared.log_value.LogValue.TheVariants.{Entry, Fence, Suppliers, Other}
-use Rattle.pool_etcd.specs.declared.response.KeyValue.{KeyValue}
 use Rattle.pool_etcd.specs.declared.watch_line.Change.{Change}
-use Rattle.pool_etcd.specs.declared.watch_line.Change.TheVariants.{Put}
 use Rattle.pool_etcd.specs.Admitted.{entries_in, list_after, refused_in}
-use Rattle.pool_etcd.specs.Following.{Adds, AddsValue, Ascends, HasLine, HasRefusal, HasValue, HasValues, Refuses, first_fence, has_writer, last_revision, list_in, pool_after, revision_of}
+use Rattle.pool_etcd.specs.Following.{Adds, AddsChange, Ascends, HasLine, HasRefusal, HasValue, HasValues, Refuses, first_fence, has_writer, last_revision, list_in, pool_after, revision_of}
 use Rattle.pool_etcd.specs.Suppliers.{is_admitted}
 use Rattle.pool_etcd.proofs.Admissions.{entries_of_both, entry_kept, entry_refused, has_writer_of_both, list_of_both, no_refusal, refusal_of}
 
@@ -118,17 +116,16 @@ pub record Reads (f : Following) (changes : List Change) (line : LineValues) (re
   pub last : revision ≡ last_revision f.revision changes
 
 -- One more change.
-pub one_more : (f : Following) (xs : List Change) (i : ℕ) (put : KeyValue) (old new : LineValues) (r : ℕ)
-    → i < length xs → Put put ≡ get_or xs i (Put put) → Reads f (take i xs) old r → AddsValue f put old new → r < put.stored.revision
-    → Reads f (take (i + 1) xs) new put.stored.revision
-one_more f xs i put old new r below is read adds low =
-    let c = Put put in
+pub one_more : (f : Following) (xs : List Change) (i : ℕ) (c : Change) (old new : LineValues) (r next : ℕ)
+    → i < length xs → c ≡ get_or xs i c → Reads f (take i xs) old r → AddsChange f c old new → next ≡ revision_of c → r < next
+    → Reads f (take (i + 1) xs) new next
+one_more f xs i c old new r next below is read adds at low =
     let v = adds.value in
     let vs = read.has.values in
     let list = f.suppliers in
     let more : take (i + 1) xs ≡ take i xs ++ c ∷ [] = take_more xs i c below ∙ ap (λ (y : Change). take i xs ++ y ∷ []) (sym is) in
-    let low_last : last_revision f.revision (take i xs) < revision_of c = subst (λ (q : ℕ). q < revision_of c) read.last low in
-    subst (λ (ys : List Change). Reads f ys new put.stored.revision) (sym more) (record {
+    let low_last : last_revision f.revision (take i xs) < revision_of c = subst (λ (q : ℕ). q < revision_of c) read.last (subst (λ (q : ℕ). r < q) at low) in
+    subst (λ (ys : List Change). Reads f ys new next) (sym more) (record {
       has = record {
         values = vs ++ v ∷ [];
         given = values_then (take i xs) vs c v read.has.given adds.given;
@@ -144,7 +141,7 @@ one_more f xs i put old new r below is read adds low =
             ∙ sym (has_writer_of_both f.writer list vs (v ∷ []));
       };
       ascends = ascends_then f.revision (take i xs) c read.ascends low_last;
-      last = sym (last_then f.revision (take i xs) c);
+      last = at ∙ sym (last_then f.revision (take i xs) c);
     })
 
 -- ---- a line that was read

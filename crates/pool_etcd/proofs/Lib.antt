@@ -1,8 +1,11 @@
 pub mod Admissions
+pub mod Countings
 pub mod FirstLines
 pub mod Followings
 pub mod Fronts
 pub mod ListLines
+pub mod Lives
 pub mod Numbers
 pub mod OneKeys
+pub mod OwnFences
 pub mod Values

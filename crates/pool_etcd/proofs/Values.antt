@@ -1,5 +1,5 @@
 -- Lemmas: the value of a key is read in one way, and the first fence of many lines.
-use Rattle.std.proofs.Common.{◌≡◌, ℕ, List, [], ◌∷◌, ◌++◌, Option, Some, None, refl, sym, ◌∙◌, ap}
+use Rattle.std.proofs.Common.{◌≡◌, ℕ, List, [], ◌∷◌, ◌++◌, Option, Some, None, refl, sym, ◌∙◌, ap, subst}
 use Rattle.std.specs.Prelude.{flat_map}
 use Rattle.pool_etcd.specs.declared.following.Following.{Following}
 use Rattle.pool_etcd.specs.declared.log_value.LogEntry.{LogEntry}
@@ -7,9 +7,12 @@ use Rattle.pool_etcd.specs.declared.log_value.LogValue.{LogValue}
 use Rattle.pool_etcd.specs.declared.log_value.LogValue.TheVariants.{Entry, Fence, Suppliers, Other}
 use Rattle.pool_etcd.specs.declared.watch_line.Change.{Change}
 use Rattle.pool_etcd.specs.declared.watch_line.Change.TheVariants.{Put, Deleted}
-use Rattle.pool_etcd.specs.Following.{Agrees, FirstFenceDecides, KnownSettingsDecide, HasValue, HasValues, ReceivesLines, pool_after}
+use Rattle.pool_etcd.specs.declared.counts.KeyCount.{KeyCount}
+use Rattle.pool_etcd.specs.Counts.{AreNext, count_of}
+use Rattle.pool_etcd.specs.Following.{Agrees, ChangesAreNext, FirstFenceDecides, KnownSettingsDecide, HasValue, HasValues, ReceivesLines, pool_after}
 use Rattle.pool_etcd.specs.Value.{IsEntryAt, OneValue}
 use Rattle.pool_etcd.specs.Writer.{writer_of}
+use Rattle.pool_etcd.proofs.Countings.{next_lines}
 use Rattle.pool_etcd.proofs.FirstLines.{fence_is_no_entry, one_entry, one_fence}
 use Rattle.pool_etcd.proofs.Followings.{fence_of_both}
 
@@ -41,7 +44,7 @@ one_value key value Other Other a b = refl
 
 value_unique : (c : Change) (v w : LogValue) → HasValue c v → HasValue c w → v ≡ w
 value_unique (Put put) v w h g = one_value put.key put.stored.value v w h g
-value_unique (Deleted revision) v w h g = absurd h
+value_unique (Deleted deletion) v w h g = h ∙ sym g
 
 values_unique : (cs : List Change) (vs ws : List LogValue) → HasValues cs vs → HasValues cs ws → vs ≡ ws
 values_unique [] vs ws h g = h ∙ sym g
@@ -119,3 +122,14 @@ known_settings_decide start end line lines other run =
     let known : before.pool ≡ Some other.0 = takes.pool ∙ other.1 in
     let told : after.pool ≡ Some other.0 = line_read.pool ∙ ap (λ (p : Option ℕ). pool_after p line_read.values) known in
     other.2 (line_read.agrees other.0 told ∙ line_read.settings ∙ takes.settings)
+
+pub changes_are_next : ChangesAreNext
+changes_are_next start end [] run = tt
+changes_are_next start end (line ∷ lines) run =
+    let before = run.0 in
+    let after = run.1 in
+    let takes = run.2 in
+    let line_read = run.3 in
+    let rest = changes_are_next after end lines run.4 in
+    let known = next_lines (count_of before.counts) (count_of after.counts) line (flat_map (λ (it : List Change). it) lines) line_read.next line_read.counts rest in
+    subst (λ (ks : List KeyCount). AreNext (count_of ks) (line ++ flat_map (λ (it : List Change). it) lines)) takes.counts known

@@ -1,5 +1,6 @@
 -- The values that a watch gave.
-use Rattle.std.specs.Prelude.{◌≡◌, ◌≢◌, ℕ, ◌+◌, ◌<◌, ◌==◌, List, [], ◌∷◌, ◌++◌, length, flat_map, Contains, Bool, ◌||◌, Option, Some, None, unwrap_or}
+use Rattle.std.specs.Prelude.{◌≡◌, ◌≢◌, ℕ, ◌+◌, ◌<◌, ◌==◌, List, [], ◌∷◌, ◌++◌, length, flat_map, Contains, Bool, ◌||◌, Option, Some, None, unwrap_or, if◌then◌else◌}
+use Rattle.std.specs.Str.{bytes_eq}
 use Rattle.std.specs.List.{list_any}
 use Rattle.pool_etcd.specs.declared.following.Following.{Following}
 use Rattle.pool_etcd.specs.declared.following.LineValues.{LineValues}
@@ -8,17 +9,24 @@ use Rattle.pool_etcd.specs.declared.log_value.LogValue.{LogValue}
 use Rattle.pool_etcd.specs.declared.log_value.LogValue.TheVariants.{Entry, Fence, Suppliers, Other}
 use Rattle.pool_etcd.specs.declared.watch_line.Change.{Change}
 use Rattle.pool_etcd.specs.declared.watch_line.Change.TheVariants.{Put, Deleted}
-use Rattle.pool_etcd.specs.declared.response.KeyValue.{KeyValue}
 use Rattle.pool_etcd.specs.Admitted.{entries_in, list_after, refused_in}
+use Rattle.pool_etcd.specs.Counts.{AreNext, count_of, counts_after}
+use Rattle.pool_etcd.specs.Names.{list_key}
+use Rattle.pool_etcd.specs.OwnFence.{DeletesOwn, is_given_by}
 use Rattle.pool_etcd.specs.Value.{IsValue}
 
 abbrev pub revision_of : Change → ℕ
 revision_of (Put put) = put.stored.revision
-revision_of (Deleted revision) = revision
+revision_of (Deleted deletion) = deletion.revision
 
--- Holds if the change is a put, and this is what its value is.
+-- What the deletion of a key is: the empty supplier list if it is the key of that, or else none of
+-- the values.
+abbrev pub value_of_deletion : List ℕ → LogValue
+value_of_deletion key = if bytes_eq key list_key then Suppliers [] else Other
+
+-- Holds if this is what the change is in the log: its value, or else what its deletion is.
 abbrev pub HasValue : Change → LogValue → Type 0
-HasValue (Deleted revision) value = ⊥
+HasValue (Deleted deletion) value = value ≡ value_of_deletion deletion.key
 HasValue (Put put) value = IsValue put.key put.stored.value value
 
 -- Holds if these are the values in the changes, in order.
@@ -59,10 +67,10 @@ pub record Adds (f : Following) (value : LogValue) (old new : LineValues) : Type
   pub refused : new.is_refused
       ≡ (old.is_refused || has_writer f.writer (refused_in (list_in f old) (value ∷ [])))
 
--- Holds if what the value is was added to a line.
-pub record AddsValue (f : Following) (put : KeyValue) (old new : LineValues) : Type 0 where
+-- Holds if what the change is was added to a line.
+pub record AddsChange (f : Following) (change : Change) (old new : LineValues) : Type 0 where
   pub value : LogValue
-  pub given : IsValue put.key put.stored.value value
+  pub given : HasValue change value
   pub added : Adds f value old new
 
 -- Holds if the line has the admitted entries in the changes, the number in their first fence, and
@@ -74,6 +82,15 @@ pub record HasLine (f : Following) (changes : List Change) (line : LineValues) :
   pub fence : line.fence ≡ first_fence values
   pub suppliers : list_in f line ≡ list_after f.suppliers values
   pub refused : line.is_refused ≡ has_writer f.writer (refused_in f.suppliers values)
+
+-- Holds if the entries of a line were added, and the changes counted, each as the next one of its
+-- key. Nothing else has changed.
+pub record AddsLine (old new : Following) (line rest : LineValues) (changes : List Change) : Type 0 where
+  pub entries : new.entries.items ≡ old.entries.items ++ line.entries.items
+  pub next : AreNext (count_of old.counts) changes
+  pub counts : (key : List ℕ) → count_of new.counts key ≡ counts_after (count_of old.counts) changes key
+  pub others : new ≡ record old { entries = new.entries; counts = new.counts }
+  pub left : rest ≡ record line { entries = rest.entries }
 
 -- The revision of the last change, or the one before if there is none.
 abbrev pub last_revision : ℕ → List Change → ℕ
@@ -112,6 +129,10 @@ pub record ReceivesValues (old new : Following) (changes : List Change) : Type 0
   pub suppliers : new.suppliers ≡ list_after old.suppliers values
   pub writer : new.writer ≡ old.writer
   pub admitted : HasRefusal old values → ⊥
+  pub next : AreNext (count_of old.counts) changes
+  pub counts : (key : List ℕ) → count_of new.counts key ≡ counts_after (count_of old.counts) changes key
+  pub fence : new.own ≡ record old.own { is_given = is_given_by old.own changes }
+  pub kept : DeletesOwn old.own changes → ⊥
 
 -- Holds if the settings of the pool, which the changes tell if they were not known before, are
 -- other ones.
@@ -136,6 +157,8 @@ pub record TakesEntries (old new : Following) : Type 0 where
   pub settings : new.settings ≡ old.settings
   pub suppliers : new.suppliers ≡ old.suppliers
   pub writer : new.writer ≡ old.writer
+  pub counts : new.counts ≡ old.counts
+  pub own : new.own ≡ old.own
 
 -- Holds if nothing was received.
 pub record IsSame (old new : Following) : Type 0 where
@@ -146,6 +169,8 @@ pub record IsSame (old new : Following) : Type 0 where
   pub settings : new.settings ≡ old.settings
   pub suppliers : new.suppliers ≡ old.suppliers
   pub writer : new.writer ≡ old.writer
+  pub counts : new.counts ≡ old.counts
+  pub own : new.own ≡ old.own
 
 -- Holds if an instance received these lines. Between them it may have taken entries.
 abbrev pub ReceivesLines : Following → List (List Change) → Following → Type 0
@@ -169,3 +194,11 @@ abbrev pub KnownSettingsDecide : Type 0
 KnownSettingsDecide =
     (start end : Following) (line : List Change) (lines : List (List Change))
     → IsOther start → ReceivesLines start (line ∷ lines) end → ⊥
+
+-- Whatever lines a watch gives, each change in those that an instance received is the next one of
+-- its key, from the counts at the start on. So no put of a key is left out between two that were
+-- received, unless the key was deleted between them.
+abbrev pub ChangesAreNext : Type 0
+ChangesAreNext =
+    (start end : Following) (lines : List (List Change)) → ReceivesLines start lines end
+    → AreNext (count_of start.counts) (flat_map (λ line. line) lines)

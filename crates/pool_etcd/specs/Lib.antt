@@ -1,13 +1,16 @@
 pub mod Admitted
+pub mod Counts
 pub mod Following
 pub mod Given
 pub mod Lines
+pub mod Lives
 pub mod LogValue
 pub mod Member
 pub mod Names
 pub mod Number
 pub mod OneKey
 pub mod OwnEntries
+pub mod OwnFence
 pub mod Questions
 pub mod Request
 pub mod Response

@@ -1,6 +1,8 @@
 -- The entries of an instance on their way to etcd.
-use Rattle.std.specs.Prelude.{◌≡◌, ℕ, List, Option, Some, None, if◌then◌else◌}
+use Rattle.std.specs.Prelude.{◌≡◌, ℕ, List, Option, Some, None, nat_lt, if◌then◌else◌}
 use Rattle.std.specs.Str.{bytes_eq}
+use Rattle.pool_etcd.specs.declared.etcd_fault.Loss.{Loss}
+use Rattle.pool_etcd.specs.declared.etcd_fault.Loss.TheVariants.{Deleted, Replaced, Shortened}
 use Rattle.pool_etcd.specs.declared.own_entries.OwnState.{OwnState}
 use Rattle.pool_etcd.specs.declared.own_entries.OwnState.TheVariants.{Unknown, Fencing, Idle, Sending, Lost}
 use Rattle.pool_etcd.specs.declared.own_entries.OwnEntries.{OwnEntries}
@@ -74,3 +76,13 @@ outcome_in Lost fence value outcome = Lost
 
 abbrev pub after_outcome : OwnEntries → PutOutcome → OwnState
 after_outcome own outcome = outcome_in own.state own.fence own.value outcome
+
+-- Why the log is lost, if a put was refused whose key had its last own change at this revision. A
+-- later change is of another process. Without a value, the key was deleted behind the own change,
+-- unless the store does not reach it.
+abbrev pub loss_of : (revision store : ℕ) → PutOutcome → Option Loss
+loss_of revision store (Stored at) = None
+loss_of revision store (Refused None) =
+    Some (if nat_lt store revision then Shortened else Deleted)
+loss_of revision store (Refused (Some other)) =
+    Some (if nat_lt revision other.revision then Replaced else Shortened)

@@ -51,6 +51,14 @@ list_data revision =
     object (member (codes "key") (bytes_data list_key)
     (member (codes "revision") (number_data revision) no_members))
 
+-- The keys of the log and the counts of their puts, as they were at a revision.
+abbrev pub counts_data : ℕ → Data
+counts_data revision =
+    object (member (codes "key") (bytes_data prefix)
+    (member (codes "keys_only") (boolean true)
+    (member (codes "range_end") (bytes_data prefix_end)
+    (member (codes "revision") (number_data revision) no_members))))
+
 -- The key of the log that was changed last. The reading is linearizable.
 abbrev pub end_data : Data
 end_data =

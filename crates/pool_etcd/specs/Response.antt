@@ -3,13 +3,17 @@ use Rattle.std.specs.Prelude.{ℕ, List, [], ◌==◌, Bool, true, false, codes,
 use Rattle.std.specs.Str.{bytes_eq}
 use Rattle.serde_json.specs.Data.{Data, Items, no_items, item}
 use Rattle.serde_json.specs.Find.{get, as_number, as_str, as_u64}
+use Rattle.pool_etcd.specs.declared.counts.KeyCount.{KeyCount}
+use Rattle.pool_etcd.specs.declared.counts.PutCount.{PutCount}
 use Rattle.pool_etcd.specs.declared.response.KeyValue.{KeyValue}
+use Rattle.pool_etcd.specs.declared.response.PutResponse.{PutResponse}
+use Rattle.pool_etcd.specs.declared.response.StoreEnd.{StoreEnd}
 use Rattle.pool_etcd.specs.declared.response.StoredValue.{StoredValue}
 use Rattle.pool_etcd.specs.declared.response.PutOutcome.{PutOutcome}
 use Rattle.pool_etcd.specs.declared.response.PutOutcome.TheVariants.{Stored, Refused}
 use Rattle.pool_etcd.specs.declared.response.RevisionFault.{RevisionFault}
 use Rattle.pool_etcd.specs.declared.response.RevisionFault.TheVariants.{Compacted, Future}
-use Rattle.pool_etcd.specs.Member.{◌>>=◌, bytes_at, flag_at, items_at, read_or, required_number}
+use Rattle.pool_etcd.specs.Member.{◌>>=◌, bytes_at, each, flag_at, items_at, read_or, required_number}
 
 -- The revision of the whole store, which each response has.
 abbrev pub store_revision : Data → Option ℕ
@@ -36,6 +40,13 @@ range_revision d = do
   keys ← items_at (codes "kvs") d
   first_or 0 key_revision keys
 
+-- The revision of the whole store, and that of the last change of the first key.
+unfoldable pub store_end : Data → Option StoreEnd
+store_end d = do
+  store ← store_revision d
+  last ← range_revision d
+  Some (record { store = store; last = last })
+
 -- A key's value, with the revision of its last change.
 unfoldable pub stored_value : Data → Option StoredValue
 stored_value d = do
@@ -43,12 +54,34 @@ stored_value d = do
   value ← bytes_at (codes "value") d
   Some (record { revision = revision; value = value })
 
--- A key with its value.
+-- The count of the puts of a key. Neither number is 0, so etcd leaves none of them out.
+unfoldable pub put_count : Data → Option PutCount
+put_count d = do
+  created ← required_number (codes "create_revision") d
+  version ← required_number (codes "version") d
+  Some (record { created = created; version = version })
+
+-- A key with its value, and the count of its puts.
 unfoldable pub key_value : Data → Option KeyValue
 key_value d = do
   key ← bytes_at (codes "key") d
+  puts ← put_count d
   stored ← stored_value d
-  Some (record { key = key; stored = stored })
+  Some (record { key = key; puts = puts; stored = stored })
+
+-- A key with the count of its puts.
+unfoldable pub key_count : Data → Option KeyCount
+key_count d = do
+  key ← bytes_at (codes "key") d
+  puts ← put_count d
+  Some (record { key = key; puts = puts })
+
+-- The keys with the counts of their puts.
+unfoldable pub range_counts : Data → Option (List KeyCount)
+range_counts d = do
+  store ← store_revision d
+  keys ← items_at (codes "kvs") d
+  each key_count keys
 
 -- The value of the first key.
 unfoldable pub range_value : Data → Option (Option StoredValue)
@@ -108,6 +141,13 @@ put_outcome d = do
   store ← store_revision d
   stored ← flag_at (codes "succeeded") d
   put_outcome_by stored store d
+
+-- The revision of the whole store, and the outcome of a put.
+unfoldable pub put_response : Data → Option PutResponse
+put_response d = do
+  store ← store_revision d
+  outcome ← put_outcome d
+  Some (record { store = store; outcome = outcome })
 
 -- The token for a user.
 unfoldable pub token_of : Data → Option (List ℕ)

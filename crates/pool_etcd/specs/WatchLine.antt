@@ -7,7 +7,8 @@ use Rattle.pool_etcd.specs.declared.watch_line.WatchLine.{WatchLine}
 use Rattle.pool_etcd.specs.declared.watch_line.WatchLine.TheVariants.{Failed, Canceled, Changes}
 use Rattle.pool_etcd.specs.declared.watch_line.Change.{Change}
 use Rattle.pool_etcd.specs.declared.watch_line.Change.TheVariants.{Put, Deleted}
-use Rattle.pool_etcd.specs.Member.{◌>>=◌, each, flag_at, items_at, number_at, read_or}
+use Rattle.pool_etcd.specs.declared.watch_line.Deletion.{Deletion}
+use Rattle.pool_etcd.specs.Member.{◌>>=◌, bytes_at, each, flag_at, items_at, number_at, read_or}
 use Rattle.pool_etcd.specs.Response.{key_revision, key_value}
 
 abbrev pub put_kind : List ℕ
@@ -16,11 +17,18 @@ put_kind = codes "PUT"
 abbrev pub deleted_kind : List ℕ
 deleted_kind = codes "DELETE"
 
+-- A key, and the revision of its deletion.
+unfoldable pub deletion_of : Data → Option Deletion
+deletion_of d = do
+  key ← bytes_at (codes "key") d
+  revision ← key_revision d
+  Some (record { key = key; revision = revision })
+
 -- A change is a put, which etcd leaves out as the first of its kinds, or a deletion.
 abbrev pub change_by : List ℕ → Data → Option Change
 change_by kind key =
     if bytes_eq kind put_kind then option_map Put (key_value key)
-    else (if bytes_eq kind deleted_kind then option_map Deleted (key_revision key) else None)
+    else (if bytes_eq kind deleted_kind then option_map Deleted (deletion_of key) else None)
 
 unfoldable pub change_of : Data → Option Change
 change_of d = do

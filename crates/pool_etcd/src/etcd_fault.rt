@@ -83,9 +83,9 @@ pub enum Loss {
     Replaced,
     /// Entries that were not received have been removed: all before this revision.
     Compacted(u64),
-    /// A key of the log was deleted.
+    /// The key of this process was deleted.
     Deleted,
-    /// The log ends before a change that was received.
+    /// The log ends before a change that was received, or changes before one are missing.
     Shortened,
     /// The pool has other settings: the known ones, or those in the first fence.
     Settings,

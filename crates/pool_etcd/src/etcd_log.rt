@@ -1,10 +1,12 @@
 //! A log over etcd.
+use crate::counts::Counts;
 use crate::etcd_fault::{EndpointFault, EtcdFault, Loss};
 use crate::following::Following;
 use crate::lane::Endpoint;
 use crate::log_value::{entry_value, fence_value};
 use crate::names::key_of;
 use crate::own_entries::{NotTaken, OwnEntries, OwnState};
+use crate::own_fence::OwnFence;
 use crate::payload::Payload;
 use crate::questions::Questions;
 use crate::request_lane::RequestLane;
@@ -42,6 +44,8 @@ pub(crate) struct LogState {
     pub(crate) questions: Questions,
     // True once the supplier list at the start is known.
     pub(crate) has_list: bool,
+    // True once the counts of the keys at the start are known.
+    pub(crate) has_counts: bool,
     pub(crate) loss: Option<Loss>,
     // A revision that the watch has not reached, and since when it is known.
     pub(crate) ahead: Option<(u64, Duration)>,
@@ -60,9 +64,9 @@ impl LogState {
     }
 
     /// Returns true if the watch may begin: it needs a token as the requests do, and the supplier
-    /// list at the start of the log.
+    /// list and the counts of the keys at the start of the log.
     pub(crate) fn may_watch(&self) -> bool {
-        self.has_list && !self.needs_token()
+        self.has_list && self.has_counts && !self.needs_token()
     }
 
     /// Takes the supplier list at the start of the log.
@@ -71,7 +75,13 @@ impl LogState {
         self.has_list = true;
     }
 
-    /// Takes why etcd does not have the supplier list at the start of the log.
+    /// Takes the counts of the keys at the start of the log.
+    pub(crate) fn learn_counts(&mut self, counts: Counts) {
+        self.following.counts = counts;
+        self.has_counts = true;
+    }
+
+    /// Takes why etcd does not have the keys at the start of the log.
     pub(crate) fn learn_revision_fault(&mut self, fault: RevisionFault) {
         self.loss = Some(match fault {
             RevisionFault::Compacted => {
@@ -92,16 +102,17 @@ impl LogState {
         self.is_agreed() && self.own.is_idle()
     }
 
+    /// Returns true if an end of the log may be reported: the settings are agreed, and the watch has
+    /// given the own fence. So nothing is at its end before the fence was stored and read back.
+    pub(crate) fn may_end(&self) -> bool {
+        self.is_agreed() && self.is_read
+    }
+
     // Records whether the watch has given the own fence.
     fn note_fence(&mut self) {
-        match self.own.state {
-            OwnState::Idle(revision) | OwnState::Sending(revision) => {
-                if !self.is_read && self.following.revision >= revision {
-                    self.is_read = true;
-                    self.earlier = self.following.entries.len();
-                }
-            }
-            OwnState::Unknown | OwnState::Fencing(_) | OwnState::Lost => {}
+        if !self.is_read && self.following.own.is_given {
+            self.is_read = true;
+            self.earlier = self.following.entries.len();
         }
     }
 
@@ -158,6 +169,8 @@ impl EtcdLog {
         let run = settings.number;
         let number = writer_of(alloc, key.as_bytes(), run)?;
         let fence = fence_value(alloc, run, settings.agreed)?;
+        let own_key = Payload::from_vec(Vec::from_slice(alloc, key.as_bytes())?);
+        let own = OwnFence::new(own_key, fence_value(alloc, run, settings.agreed)?);
         let following = Following::new(
             alloc,
             settings.revision,
@@ -165,6 +178,7 @@ impl EtcdLog {
             settings.agreed,
             settings.pool,
             number,
+            own,
         );
         let loss = if following.is_other() {
             Some(Loss::Settings)
@@ -181,6 +195,7 @@ impl EtcdLog {
             following,
             questions: Questions::new(),
             has_list: settings.revision == 0,
+            has_counts: settings.revision == 0,
             loss,
             ahead: None,
             checked: Duration::ZERO,

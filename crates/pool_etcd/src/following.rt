@@ -1,13 +1,18 @@
 //! The entries that a watch gave, until the instance takes them.
-ghost use Rattle.std.specs.Prelude.{◌≡◌, ◌↔◌, ◌++◌, [], OnOk, OnErr, IfErr, IfOk, IsErrOf, IsTrue, option_to_list, unwrap_or};
-ghost use Rattle.pool_etcd.specs.Following.{Adds, AddsValue, Ascends, Differs, HasLine, IsOther, IsSame, ReceivesValues, Refuses, TakesEntries, last_revision, list_in};
+ghost use Rattle.std.specs.Prelude.{◌≡◌, ◌↔◌, ◌++◌, ℕ, List, [], ◌⊎◌, OnOk, OnErr, IfErr, IfOk, IsErrOf, IsTrue, option_to_list, unwrap_or};
+ghost use Rattle.pool_etcd.specs.Counts.{AreNext, count_of};
+ghost use Rattle.pool_etcd.specs.OwnFence.{DeletesOwn};
+ghost use Rattle.pool_etcd.specs.Following.{Adds, AddsChange, AddsLine, Ascends, Differs, HasLine, HasValue, IsOther, IsSame, ReceivesValues};
+ghost use Rattle.pool_etcd.specs.Following.{Refuses, TakesEntries, last_revision, list_in, revision_of, value_of_deletion};
 
+use crate::counts::{CountFault, Counts};
 use crate::log_value::{LogEntry, LogValue, read_value};
+use crate::names::list_key;
+use crate::own_fence::OwnFence;
 use crate::payload::Payload;
-use crate::response::KeyValue;
 use crate::suppliers::is_admitted;
 use crate::watch_line::Change;
-use std::alloc::Global;
+use std::alloc::{AllocError, Global};
 use std::collections::VecDeque;
 
 /// The reason why the changes of a line were not taken.
@@ -17,16 +22,18 @@ pub enum FollowFault {
     Memory,
     /// A change was not made after those that the watch gave already.
     OutOfOrder,
-    /// A key of the log was deleted.
+    /// The own key was deleted behind the own fence.
     Deleted,
+    /// A change cannot be the next one of its key, so others before it are missing.
+    Gap,
     /// The pool has other settings.
     Settings,
     /// An entry of the own process is not admitted.
     Suppliers,
 }
 
-/// The entries that a watch gave, how far it has come, the settings of the pool, and the supplier
-/// list.
+/// The entries that a watch gave, how far it has come, the settings of the pool, the supplier list,
+/// the counts of all keys, and the own fence.
 #[derive(Drop)]
 pub struct Following {
     /// The revision of the last change.
@@ -44,6 +51,10 @@ pub struct Following {
     pub suppliers: Payload,
     /// The number of the own process as a writer.
     pub writer: u64,
+    /// The counts of the keys after the last change.
+    pub counts: Counts,
+    /// The own fence, as far as the watch gave it.
+    pub own: OwnFence,
 }
 
 /// What a line has.
@@ -68,10 +79,41 @@ fn replace_list(list: &mut Payload, next: Option<Payload>)
     }
 }
 
+// Returns the revision of a change.
+fn revision_of(change: &Change) -> u64
+    ensures { result ≡ revision_of change.now }
+{
+    match change {
+        Change::Put(put) => put.stored.revision,
+        Change::Deleted(deletion) => deletion.revision,
+    }
+}
+
+// Returns what the deletion of a key is.
+fn value_of_deletion(alloc: Global, key: &[u8]) -> LogValue
+    ensures { result ≡ value_of_deletion key.now }
+{
+    if key == list_key().as_bytes() {
+        LogValue::Suppliers(Payload::from_vec(Vec::new(alloc)))
+    } else {
+        LogValue::Other
+    }
+}
+
+// Returns what a change is in the log.
+fn value_of(alloc: Global, change: &Change) -> Result<LogValue, AllocError>
+    ensures { IfOk result (λ value. HasValue change.now value) }
+{
+    match change {
+        Change::Put(put) => read_value(alloc, put.key.bytes(), put.stored.value.bytes()),
+        Change::Deleted(deletion) => Ok(value_of_deletion(alloc, deletion.key.bytes())),
+    }
+}
+
 impl Following {
     /// Creates the state of an instance with these settings that knows the log up to a revision,
     /// how many entries it has up to there, and maybe the settings of the pool. The supplier list
-    /// is empty. The number is that of the own process as a writer.
+    /// is empty, and no key has a value. The number is that of the own process as a writer.
     pub fn new(
         alloc: Global,
         revision: u64,
@@ -79,6 +121,7 @@ impl Following {
         settings: u64,
         pool: Option<u64>,
         writer: u64,
+        own: OwnFence,
     ) -> Following
         ensures revision { result.revision ≡ revision }
         ensures count { result.count ≡ count }
@@ -87,6 +130,8 @@ impl Following {
         ensures pool { result.pool ≡ pool }
         ensures suppliers { result.suppliers ≡ [] }
         ensures writer { result.writer ≡ writer }
+        ensures counts { result.counts ≡ [] }
+        ensures own { result.own ≡ own }
     {
         Following {
             revision,
@@ -96,6 +141,8 @@ impl Following {
             pool,
             suppliers: Payload::from_vec(Vec::new(alloc)),
             writer,
+            counts: Counts::from_vec(Vec::new(alloc)),
+            own,
         }
     }
 
@@ -142,17 +189,17 @@ impl Following {
         }
     }
 
-    // Adds what the value of a key is.
-    fn add_value(
+    // Adds what a change is.
+    fn add_change(
         &self,
         alloc: Global,
         line: &mut LineValues,
-        put: &KeyValue,
+        change: &Change,
     ) -> Result<(), FollowFault>
-        ensures added { OnOk result (AddsValue self.now put.now line.old line.new) }
+        ensures added { OnOk result (AddsChange self.now change.now line.old line.new) }
         ensures fault { IfErr result (λ fault. fault ≡ FollowFault.Memory) }
     {
-        match read_value(alloc, put.key.bytes(), put.stored.value.bytes()) {
+        match value_of(alloc, change) {
             Ok(LogValue::Entry(entry)) => self.add_entry(alloc, line, entry),
             Ok(LogValue::Fence(agreed)) => {
                 line.fence = line.fence.or(Some(agreed));
@@ -179,6 +226,8 @@ impl Following {
             (λ line. line.1 ≡ last_revision self.now.revision changes.now) }
         ensures settings { IsErrOf result FollowFault.Settings → ⊥ }
         ensures suppliers { IsErrOf result FollowFault.Suppliers → ⊥ }
+        ensures deleted { IsErrOf result FollowFault.Deleted → ⊥ }
+        ensures gap { IsErrOf result FollowFault.Gap → ⊥ }
     {
         let mut line = LineValues {
             entries: VecDeque::new(alloc),
@@ -188,31 +237,61 @@ impl Following {
         };
         let mut revision = self.revision;
         for change in changes {
-            match change {
-                Change::Put(put) => {
-                    if put.stored.revision <= revision {
-                        return Err(FollowFault::OutOfOrder);
-                    }
-                    self.add_value(alloc, &mut line, put)?;
-                    revision = put.stored.revision;
-                }
-                Change::Deleted(_) => return Err(FollowFault::Deleted),
+            let next = revision_of(change);
+            if next <= revision {
+                return Err(FollowFault::OutOfOrder);
             }
+            self.add_change(alloc, &mut line, change)?;
+            revision = next;
         }
         Ok((line, revision))
     }
 
-    /// Takes the changes of a line: all of them, or none. They must be puts, each of which was made
-    /// after all changes before. If the settings of the pool are not known, the first fence tells
-    /// them. They must be the own ones.
+    // Adds the entries of a line, and counts its changes, or does neither.
+    fn add_line(
+        &mut self,
+        alloc: Global,
+        line: &mut LineValues,
+        changes: &[Change],
+    ) -> Result<(), FollowFault>
+        ensures added { OnOk result (AddsLine self.old self.new line.old line.new changes.now) }
+        ensures gap { IsErrOf result FollowFault.Gap
+            → AreNext (count_of self.old.counts) changes.now → ⊥ }
+        ensures known { IfErr result (λ fault. (fault ≡ FollowFault.Gap)
+            ⊎ (fault ≡ FollowFault.Memory)) }
+        ensures err { OnErr result (IsSame self.old self.new) }
+    {
+        let known = self.counts.len();
+        match self.counts.count_changes(alloc, changes) {
+            Ok(()) => {}
+            Err(CountFault::Memory) => return Err(FollowFault::Memory),
+            Err(CountFault::Gap) => return Err(FollowFault::Gap),
+        }
+        if self.entries.append(&mut line.entries).is_err() {
+            self.counts.truncate(known);
+            return Err(FollowFault::Memory);
+        }
+        Ok(())
+    }
+
+    /// Takes the changes of a line: all of them, or none. Each must have been made after all changes
+    /// before. If the settings of the pool are not known, the first fence tells them. They must be
+    /// the own ones.
     ///
     /// Each entry is checked by the supplier list at its place. Entries that it does not admit,
     /// later fences, and values that are none of these are passed over. Returns `Suppliers` if an
     /// entry of the own process is not admitted, and the settings do not differ.
+    ///
+    /// A deletion is a change like others. Returns `Deleted` if it deletes the own key behind the
+    /// own fence, and `Gap` if a change cannot be the next one of its key.
     pub fn receive(&mut self, alloc: Global, changes: &[Change]) -> Result<(), FollowFault>
         ensures values { OnOk result (ReceivesValues self.old self.new changes.now) }
         ensures differs { IsErrOf result FollowFault.Settings → Differs self.old changes.now }
         ensures refuses { IsErrOf result FollowFault.Suppliers → Refuses self.old changes.now }
+        ensures deletes { IsErrOf result FollowFault.Deleted
+            → DeletesOwn self.old.own changes.now }
+        ensures gap { IsErrOf result FollowFault.Gap
+            → AreNext (count_of self.old.counts) changes.now → ⊥ }
         ensures after { OnOk result (Ascends self.old.revision changes.now) }
         ensures revision { OnOk result
             (self.new.revision ≡ last_revision self.old.revision changes.now) }
@@ -228,15 +307,19 @@ impl Following {
         if line.is_refused {
             return Err(FollowFault::Suppliers);
         }
+        let news = self.own.news(changes);
+        if news.is_deleted {
+            return Err(FollowFault::Deleted);
+        }
         let Some(count) = self.count.checked_add(line.entries.len() as u64) else {
             return Err(FollowFault::Memory);
         };
-        if self.entries.append(&mut line.entries).is_err() {
-            return Err(FollowFault::Memory);
-        }
+        self.add_line(alloc, &mut line, changes)?;
         self.count = count;
         self.revision = revision;
         self.pool = pool;
+        self.own.is_given = news.is_given;
+        self.counts.shorten(alloc);
         replace_list(&mut self.suppliers, line.suppliers.take());
         Ok(())
     }

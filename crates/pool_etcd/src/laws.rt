@@ -1,6 +1,7 @@
 //! Laws of the log over etcd. Each is the contract of a function that does nothing.
 ghost use Rattle.pool_etcd.specs.Admitted.{AdmittedCallsAreAssigned, WithoutListAllAreAdmitted};
-ghost use Rattle.pool_etcd.specs.Following.{FirstFenceDecides, KnownSettingsDecide};
+ghost use Rattle.pool_etcd.specs.Following.{ChangesAreNext, FirstFenceDecides, KnownSettingsDecide};
+ghost use Rattle.pool_etcd.specs.Lives.{PutsAreConsecutive};
 ghost use Rattle.pool_etcd.specs.OneKey.{EachValueOnce};
 ghost use Rattle.pool_etcd.specs.Value.{OneValue};
 
@@ -35,6 +36,24 @@ pub fn first_fence_decides()
 /// States that an instance that knows other settings of the pool at the start receives no line.
 pub fn known_settings_decide()
     ensures { KnownSettingsDecide }
+{}
+
+/// States that each change that an instance received is the next one of its key, by etcd's own count
+/// of the puts of the key.
+///
+/// So if etcd counts truly, no put of a key is left out between two that were received, unless the
+/// key was deleted between them, however the changes were cut into lines.
+pub fn changes_are_next()
+    ensures { ChangesAreNext }
+{}
+
+/// States that the versions of the puts of a key since one of its creations are consecutive, if each
+/// change is the next one of its key and each revision is later than the one before.
+///
+/// So if etcd counts truly, none of these puts is left out before one that was received. It is
+/// assumed that the keys at the start were created before the changes.
+pub fn puts_are_consecutive()
+    ensures { PutsAreConsecutive }
 {}
 
 /// States that each call that an admitted entry makes has a caller whose USS the supplier list at

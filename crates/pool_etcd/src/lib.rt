@@ -5,6 +5,7 @@
 #![tactic(auto)]
 
 mod connection;
+mod counts;
 pub mod etcd_fault;
 pub mod etcd_log;
 mod exchange;
@@ -19,6 +20,7 @@ mod member;
 mod names;
 mod number;
 mod own_entries;
+mod own_fence;
 mod payload;
 mod questions;
 pub mod request;

@@ -78,7 +78,7 @@ impl Log for EtcdLog {
     }
 
     fn end(&mut self) -> Option<LogEnd> {
-        if !self.state.is_agreed() {
+        if !self.state.may_end() {
             return None;
         }
         let question = self.state.questions.answer(self.state.following.revision)?;

@@ -1,9 +1,10 @@
 //! The entries of this instance on their way to etcd.
 ghost use Rattle.std.specs.Prelude.{◌≡◌, ◌↔◌, IsTrue, IsOk, OnOk, OnErr, option_map};
-ghost use Rattle.pool_etcd.specs.OwnEntries.{IsIdle, Takes, after_outcome, after_revision, due_of, put_of, stored_at};
+ghost use Rattle.pool_etcd.specs.OwnEntries.{IsIdle, Takes, after_outcome, after_revision, due_of, loss_of, put_of, stored_at};
 
+use crate::etcd_fault::Loss;
 use crate::payload::Payload;
-use crate::response::PutOutcome;
+use crate::response::{PutOutcome, PutResponse};
 
 /// The state of the own key, as far as it is known.
 #[derive(Clone, Copy, Debug, PartialEq, Eq)]
@@ -61,6 +62,26 @@ fn stored_at(value: &[u8], outcome: &PutOutcome) -> Option<u64>
                 None
             }
         }
+    }
+}
+
+/// Returns why the log is lost if a put was refused whose key had its last own change at this
+/// revision: another process wrote after it, the key was deleted, or etcd has lost that change.
+pub fn loss_of(revision: u64, response: &PutResponse) -> Option<Loss>
+    ensures { result ≡ loss_of revision response.now.store response.now.outcome }
+{
+    match &response.outcome {
+        PutOutcome::Stored(_) => None,
+        PutOutcome::Refused(None) => Some(if response.store < revision {
+            Loss::Shortened
+        } else {
+            Loss::Deleted
+        }),
+        PutOutcome::Refused(Some(other)) => Some(if revision < other.revision {
+            Loss::Replaced
+        } else {
+            Loss::Shortened
+        }),
     }
 }
 

@@ -4,7 +4,7 @@ ghost use Rattle.std.specs.String.{string_bytes};
 ghost use Rattle.serde_json.specs.Data.{array, item, member, no_items, no_members, object};
 ghost use Rattle.serde_json.specs.View.{view};
 ghost use Rattle.serde_json.specs.Written.{compact_text};
-ghost use Rattle.pool_etcd.specs.Request.{bytes_data, compact_data, create_members, end_data, is_at, list_data, own_data, put_data, token_data, watch_data};
+ghost use Rattle.pool_etcd.specs.Request.{bytes_data, compact_data, counts_data, create_members, end_data, is_at, list_data, own_data, put_data, token_data, watch_data};
 
 use crate::names::{list_key, prefix, prefix_end};
 use base64::engine::general_purpose::STANDARD;
@@ -128,6 +128,30 @@ pub fn list_body(alloc: Global, revision: u64) -> Result<String, AllocError>
     ensures { IfOk result (λ body. string_bytes body ≡ compact_text (list_data revision)) }
 {
     list_value(alloc, revision)?.to_string(alloc)
+}
+
+fn counts_value(alloc: Global, revision: u64) -> Result<Value, AllocError>
+    ensures { IfOk result (λ v. view v ≡ counts_data revision) }
+{
+    let first = STANDARD.encode(alloc, prefix().as_bytes())?;
+    let end = STANDARD.encode(alloc, prefix_end().as_bytes())?;
+    let revision = format!(in alloc; "{revision}")?;
+    json!(in alloc; {
+        "key": first.as_str(),
+        "keys_only": true,
+        "range_end": end.as_str(),
+        "revision": revision.as_str()
+    })
+}
+
+/// Returns the body of a request for the keys of the log and the counts of their puts, as they were
+/// at a revision.
+///
+/// Returns `AllocError` if memory runs out.
+pub fn counts_body(alloc: Global, revision: u64) -> Result<String, AllocError>
+    ensures { IfOk result (λ body. string_bytes body ≡ compact_text (counts_data revision)) }
+{
+    counts_value(alloc, revision)?.to_string(alloc)
 }
 
 fn end_value(alloc: Global) -> Result<Value, AllocError>

@@ -4,11 +4,15 @@ use crate::etcd_fault::{EtcdFault, Loss};
 use crate::etcd_log::LogState;
 use crate::exchange::{Request, Step};
 use crate::lane::Lane;
-use crate::own_entries::OwnState;
+use crate::own_entries::{OwnState, loss_of};
 use crate::request::{
-    PUT_PATH, RANGE_PATH, TOKEN_PATH, end_body, list_body, own_body, put_body, token_body,
+    PUT_PATH, RANGE_PATH, TOKEN_PATH, counts_body, end_body, list_body, own_body, put_body,
+    token_body,
 };
-use crate::response::{read_put, read_range, read_revision_fault, read_token, read_value};
+use crate::response::{
+    PutResponse, StoreEnd, read_counts, read_end, read_put, read_range, read_revision_fault,
+    read_token, read_value,
+};
 use crate::response_fault::ResponseFault;
 use crate::times::later;
 use mio::{Registry, Token};
@@ -33,6 +37,7 @@ const MAX_STEPS: usize = 1_000;
 enum Kind {
     Token,
     Suppliers,
+    Counts,
     Revision,
     End,
     Put,
@@ -74,6 +79,9 @@ impl RequestLane {
         }
         if !state.has_list {
             return Some(Kind::Suppliers);
+        }
+        if !state.has_counts {
+            return Some(Kind::Counts);
         }
         let silent = now.saturating_sub(state.checked) >= Duration::from_millis(PROBE_AFTER);
         let end = state.questions.is_due() || silent;
@@ -249,6 +257,7 @@ fn path_of(kind: Kind) -> &'static str {
     match kind {
         Kind::Token => TOKEN_PATH,
         Kind::Suppliers => RANGE_PATH,
+        Kind::Counts => RANGE_PATH,
         Kind::Revision => RANGE_PATH,
         Kind::End => RANGE_PATH,
         Kind::Put => PUT_PATH,
@@ -264,6 +273,7 @@ fn body_of(kind: Kind, state: &LogState) -> Result<String, AllocError> {
             None => token_body(state.alloc, "", ""),
         },
         Kind::Suppliers => list_body(state.alloc, state.following.revision),
+        Kind::Counts => counts_body(state.alloc, state.following.revision),
         Kind::Revision => own_body(state.alloc, key),
         Kind::End => end_body(state.alloc),
         Kind::Put => match state.own.due() {
@@ -284,31 +294,37 @@ fn learn(
     match kind {
         Kind::Token => state.token = Some(read_token(state.alloc, body)?),
         Kind::Suppliers => state.learn_list(read_value(state.alloc, body)?),
+        Kind::Counts => state.learn_counts(read_counts(state.alloc, body)?),
         Kind::Revision => {
             let revision = read_range(state.alloc, body)?;
             state.own.learn_revision(revision);
         }
-        Kind::End => learn_end(state, read_range(state.alloc, body)?, reached, now),
-        Kind::Put => {
-            let outcome = read_put(state.alloc, body)?;
-            state.own.learn_outcome(&outcome);
-            if state.own.state == OwnState::Lost {
-                state.loss = Some(Loss::Replaced);
-            }
-        }
+        Kind::End => learn_end(state, read_end(state.alloc, body)?, reached, now),
+        Kind::Put => learn_put(state, &read_put(state.alloc, body)?),
     }
     Ok(())
 }
 
-// Takes what a response with another status than 200 says: that etcd has no supplier list of the
-// revision at the start, or else nothing.
+// Takes the outcome of a put. If it was refused, and no fence, the log is lost.
+fn learn_put(state: &mut LogState, response: &PutResponse) {
+    let before = state.own.state;
+    state.own.learn_outcome(&response.outcome);
+    if let OwnState::Sending(revision) = before
+        && state.own.state == OwnState::Lost
+    {
+        state.loss = loss_of(revision, response);
+    }
+}
+
+// Takes what a response with another status than 200 says: that etcd has no keys of the revision at
+// the start, or else nothing.
 fn learn_refusal(
     kind: Kind,
     state: &mut LogState,
     body: &[u8],
     status: u16,
 ) -> Result<(), EtcdFault> {
-    if kind == Kind::Suppliers && status == 400 {
+    if (kind == Kind::Suppliers || kind == Kind::Counts) && status == 400 {
         match read_revision_fault(state.alloc, body) {
             Ok(fault) => {
                 state.learn_revision_fault(fault);
@@ -322,16 +338,16 @@ fn learn_refusal(
     Err(EtcdFault::Status(status))
 }
 
-// Takes the revision of the end of the log. The log has lost changes if that is before a change
+// Takes the end of the log. etcd has lost changes if the revision of its store is before a change
 // that was received when the end was asked for.
-fn learn_end(state: &mut LogState, revision: u64, reached: u64, now: Duration) {
-    if revision < reached {
+fn learn_end(state: &mut LogState, end: StoreEnd, reached: u64, now: Duration) {
+    if end.store < reached {
         state.loss = Some(Loss::Shortened);
         return;
     }
     state.checked = now;
-    state.questions.learn(revision);
-    if revision > state.following.revision && state.ahead.is_none() {
-        state.ahead = Some((revision, now));
+    state.questions.learn(end.last);
+    if end.last > state.following.revision && state.ahead.is_none() {
+        state.ahead = Some((end.last, now));
     }
 }

@@ -2,10 +2,12 @@
 ghost use Rattle.std.specs.Prelude.{◌≡◌};
 ghost use Rattle.serde_json.specs.View.{items_view, view};
 ghost use Rattle.pool_etcd.specs.Given.{Gives, GivesBy, IsJson, Reads};
-ghost use Rattle.pool_etcd.specs.Response.{error_code, error_text, key_value, put_outcome, put_outcome_by};
-ghost use Rattle.pool_etcd.specs.Response.{range_bytes, range_revision, range_value, refusal, revision_fault, revision_fault_by};
-ghost use Rattle.pool_etcd.specs.Response.{store_revision, stored_value, token_of};
+ghost use Rattle.pool_etcd.specs.Member.{each};
+ghost use Rattle.pool_etcd.specs.Response.{error_code, error_text, key_count, key_value, put_count, put_outcome, put_outcome_by};
+ghost use Rattle.pool_etcd.specs.Response.{put_response, range_bytes, range_counts, range_revision, range_value, refusal};
+ghost use Rattle.pool_etcd.specs.Response.{revision_fault, revision_fault_by, store_end, store_revision, stored_value, token_of};
 
+use crate::counts::{Counts, KeyCount, PutCount};
 use crate::json_value::json_of;
 use crate::member::{bytes_at, flag_at, items_at, required_number};
 use crate::payload::Payload;
@@ -20,10 +22,11 @@ pub struct StoredValue {
     pub value: Payload,
 }
 
-/// A key with its value.
+/// A key with its value, and the count of its puts.
 #[derive(Drop)]
 pub struct KeyValue {
     pub key: Payload,
+    pub puts: PutCount,
     pub stored: StoredValue,
 }
 
@@ -34,6 +37,23 @@ pub enum PutOutcome {
     Stored(u64),
     /// The last change of the key was at another revision. This is its value, if it has one.
     Refused(Option<StoredValue>),
+}
+
+/// The response to a put.
+#[derive(Drop)]
+pub struct PutResponse {
+    /// The revision of the whole store.
+    pub store: u64,
+    pub outcome: PutOutcome,
+}
+
+/// The end of the log.
+#[derive(Clone, Copy, Debug, PartialEq, Eq)]
+pub struct StoreEnd {
+    /// The revision of the whole store.
+    pub store: u64,
+    /// The revision of the key of the log that was changed last, or 0 if there is none.
+    pub last: u64,
 }
 
 /// The reason why etcd has no values of a revision.
@@ -72,6 +92,15 @@ fn range_revision(alloc: Global, value: &Value) -> Result<u64, ResponseFault>
     }
 }
 
+#[tactic(auto, unfolding(crate::specs::Response::store_end))]
+fn store_end(alloc: Global, value: &Value) -> Result<StoreEnd, ResponseFault>
+    ensures { Gives result (store_end (view value.now)) }
+{
+    let store = store_revision(alloc, value)?;
+    let last = range_revision(alloc, value)?;
+    Ok(StoreEnd { store, last })
+}
+
 #[tactic(auto, unfolding(crate::specs::Response::stored_value))]
 fn stored_value(alloc: Global, value: &Value) -> Result<StoredValue, ResponseFault>
     ensures { Gives result (stored_value (view value.now)) }
@@ -81,13 +110,55 @@ fn stored_value(alloc: Global, value: &Value) -> Result<StoredValue, ResponseFau
     Ok(StoredValue { revision, value })
 }
 
+#[tactic(auto, unfolding(crate::specs::Response::put_count))]
+fn put_count(alloc: Global, value: &Value) -> Result<PutCount, ResponseFault>
+    ensures { Gives result (put_count (view value.now)) }
+{
+    let created = required_number(alloc, value, "create_revision")?;
+    let version = required_number(alloc, value, "version")?;
+    Ok(PutCount { created, version })
+}
+
 #[tactic(auto, unfolding(crate::specs::Response::key_value))]
 pub(crate) fn key_value(alloc: Global, value: &Value) -> Result<KeyValue, ResponseFault>
     ensures { Gives result (key_value (view value.now)) }
 {
     let key = bytes_at(alloc, value, "key")?;
+    let puts = put_count(alloc, value)?;
     let stored = stored_value(alloc, value)?;
-    Ok(KeyValue { key, stored })
+    Ok(KeyValue { key, puts, stored })
+}
+
+#[tactic(auto, unfolding(crate::specs::Response::key_count))]
+fn key_count(alloc: Global, value: &Value) -> Result<KeyCount, ResponseFault>
+    ensures { Gives result (key_count (view value.now)) }
+{
+    let key = bytes_at(alloc, value, "key")?;
+    let puts = put_count(alloc, value)?;
+    Ok(KeyCount { key, puts })
+}
+
+fn each_count(alloc: Global, items: &[Value]) -> Result<Vec<KeyCount>, ResponseFault>
+    ensures { GivesBy (λ v. v.items) result (each key_count (items_view items.now)) }
+{
+    let mut counts = Vec::new(alloc);
+    for value in items {
+        let count = key_count(alloc, value)?;
+        if counts.push(count).is_err() {
+            return Err(ResponseFault::Memory);
+        }
+    }
+    Ok(counts)
+}
+
+#[tactic(auto, unfolding(crate::specs::Response::range_counts))]
+fn range_counts(alloc: Global, value: &Value) -> Result<Counts, ResponseFault>
+    ensures { Gives result (range_counts (view value.now)) }
+{
+    let _store = store_revision(alloc, value)?;
+    let items = items_at(value, "kvs")?;
+    let counts = each_count(alloc, items)?;
+    Ok(Counts::from_vec(counts))
 }
 
 #[tactic(auto, unfolding(crate::specs::Response::range_value))]
@@ -191,6 +262,15 @@ fn put_outcome(alloc: Global, value: &Value) -> Result<PutOutcome, ResponseFault
     }
 }
 
+#[tactic(auto, unfolding(crate::specs::Response::put_response))]
+fn put_response(alloc: Global, value: &Value) -> Result<PutResponse, ResponseFault>
+    ensures { Gives result (put_response (view value.now)) }
+{
+    let store = store_revision(alloc, value)?;
+    let outcome = put_outcome(alloc, value)?;
+    Ok(PutResponse { store, outcome })
+}
+
 #[tactic(auto, unfolding(crate::specs::Response::token_of))]
 fn token_of(alloc: Global, value: &Value) -> Result<Payload, ResponseFault>
     ensures { Gives result (token_of (view value.now)) }
@@ -207,12 +287,28 @@ fn token_of(alloc: Global, value: &Value) -> Result<Payload, ResponseFault>
     }
 }
 
-/// Reads the revision of the last change of a key, or of the log. It is 0 if there is none.
+/// Reads the revision of the last change of a key. It is 0 if the key has no value.
 pub fn read_range(alloc: Global, body: &[u8]) -> Result<u64, ResponseFault>
     ensures { Reads range_revision body.now result }
 {
     let value = json_of(alloc, body)?;
     range_revision(alloc, &value)
+}
+
+/// Reads the end of the log.
+pub fn read_end(alloc: Global, body: &[u8]) -> Result<StoreEnd, ResponseFault>
+    ensures { Reads store_end body.now result }
+{
+    let value = json_of(alloc, body)?;
+    store_end(alloc, &value)
+}
+
+/// Reads the counts of keys.
+pub fn read_counts(alloc: Global, body: &[u8]) -> Result<Counts, ResponseFault>
+    ensures { Reads range_counts body.now result }
+{
+    let value = json_of(alloc, body)?;
+    range_counts(alloc, &value)
 }
 
 /// Reads the value of a key. It is empty if the key has none.
@@ -231,12 +327,12 @@ pub fn read_revision_fault(alloc: Global, body: &[u8]) -> Result<RevisionFault, 
     revision_fault(&value)
 }
 
-/// Reads the outcome of a put.
-pub fn read_put(alloc: Global, body: &[u8]) -> Result<PutOutcome, ResponseFault>
-    ensures { Reads put_outcome body.now result }
+/// Reads the response to a put.
+pub fn read_put(alloc: Global, body: &[u8]) -> Result<PutResponse, ResponseFault>
+    ensures { Reads put_response body.now result }
 {
     let value = json_of(alloc, body)?;
-    put_outcome(alloc, &value)
+    put_response(alloc, &value)
 }
 
 /// Reads a token.

@@ -220,6 +220,10 @@ impl WatchLane {
                         state.loss = Some(Loss::Deleted);
                         Ok(())
                     }
+                    Err(FollowFault::Gap) => {
+                        state.loss = Some(Loss::Shortened);
+                        Ok(())
+                    }
                     Err(FollowFault::Settings) => {
                         state.loss = Some(Loss::Settings);
                         Ok(())

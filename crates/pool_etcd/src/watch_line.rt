@@ -4,23 +4,31 @@ ghost use Rattle.serde_json.specs.Find.{as_str, get};
 ghost use Rattle.serde_json.specs.View.{items_view, view};
 ghost use Rattle.pool_etcd.specs.Given.{Gives, GivesBy, Reads};
 ghost use Rattle.pool_etcd.specs.Member.{each, read_or};
-ghost use Rattle.pool_etcd.specs.WatchLine.{change_by, change_of, changes_of, line_of, put_kind, result_of};
+ghost use Rattle.pool_etcd.specs.WatchLine.{change_by, change_of, changes_of, deletion_of, line_of, put_kind, result_of};
 
 use crate::json_value::json_of;
-use crate::member::{flag_at, items_at, number_at, required_number};
+use crate::member::{bytes_at, flag_at, items_at, number_at, required_number};
+use crate::payload::Payload;
 use crate::response::{KeyValue, key_value};
 use crate::response_fault::ResponseFault;
 use serde_json::Value;
 use std::alloc::Global;
 use std::marker::Model;
 
+/// A deletion of a key, at a revision.
+#[derive(Drop)]
+pub struct Deletion {
+    pub key: Payload,
+    pub revision: u64,
+}
+
 /// A change of a key.
 #[derive(Drop)]
 pub enum Change {
     /// The key got a value.
     Put(KeyValue),
-    /// The key was deleted, at this revision.
-    Deleted(u64),
+    /// The key was deleted, or its lease ended.
+    Deleted(Deletion),
 }
 
 /// Changes, in order.
@@ -94,6 +102,15 @@ fn kind_of(value: &Value) -> Result<&str, ResponseFault>
     }
 }
 
+#[tactic(auto, unfolding(crate::specs::WatchLine::deletion_of))]
+fn deletion_of(alloc: Global, value: &Value) -> Result<Deletion, ResponseFault>
+    ensures { Gives result (deletion_of (view value.now)) }
+{
+    let key = bytes_at(alloc, value, "key")?;
+    let revision = required_number(alloc, value, "mod_revision")?;
+    Ok(Deletion { key, revision })
+}
+
 fn change_by(alloc: Global, kind: &str, key: &Value) -> Result<Change, ResponseFault>
     ensures { Gives result (change_by kind.now (view key.now)) }
 {
@@ -103,8 +120,8 @@ fn change_by(alloc: Global, kind: &str, key: &Value) -> Result<Change, ResponseF
             Err(fault) => Err(fault),
         }
     } else if kind == "DELETE" {
-        match required_number(alloc, key, "mod_revision") {
-            Ok(revision) => Ok(Change::Deleted(revision)),
+        match deletion_of(alloc, key) {
+            Ok(deletion) => Ok(Change::Deleted(deletion)),
             Err(fault) => Err(fault),
         }
     } else {

@@ -21,9 +21,9 @@ pub enum TokenReloadFault {
 pub enum StoreEvent {
     /// A commit failed, for the first time since the last successful commit.
     CommitFailed,
-    /// So many more commits failed since the last report.
+    /// This number of commits failed since the last report.
     StillFailing(u64),
-    /// A commit succeeded after so many failures.
+    /// A commit succeeded after this number of failures.
     Recovered(u64),
     /// The store failed for good, so that no call is answered any more.
     Stopped,
@@ -32,17 +32,17 @@ pub enum StoreEvent {
 /// A change of what is known of the clock.
 #[derive(Clone, Copy, Debug, PartialEq, Eq)]
 pub enum ClockEvent {
-    /// It jumped forward by so many seconds.
+    /// It jumped forward by this number of seconds.
     JumpedForward(u64),
-    /// It jumped backward by so many seconds.
+    /// It jumped backward by this number of seconds.
     JumpedBackward(u64),
-    /// At the start, it was so many seconds after the last known time, longer than the retention
-    /// and a day.
+    /// At the start, it was this number of seconds after the last known time, longer than the
+    /// retention and a day.
     StartedLate(u64),
-    /// At the start, it had not returned from a jump: it was so many seconds after the last trusted
-    /// time.
+    /// At the start, it had not returned from a jump: it was this number of seconds after the last
+    /// trusted time.
     StartedAhead(u64),
-    /// At the start, it was so many seconds before the last trusted time.
+    /// At the start, it was this number of seconds before the last trusted time.
     StartedBehind(u64),
     /// It agrees with the monotonic clock, or with the last known time, again.
     Returned,

@@ -23,9 +23,9 @@ const GAP: u64 = 1;
 enum Drift {
     // The clock may be right.
     Near,
-    // It is ahead by so many seconds.
+    // It is ahead by this number of seconds.
     Ahead(u64),
-    // It is behind by so many seconds.
+    // It is behind by this number of seconds.
     Behind(u64),
 }
 
