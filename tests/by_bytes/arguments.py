@@ -176,18 +176,19 @@ COMMAND_LINES = (
     # An instance of a pool.
     *((pooled(endpoints, "a"), 1, "dss: tokens: cannot read") for endpoints in ENDPOINTS),
     *((pooled("127.0.0.1:1", name), 1, "dss: tokens: cannot read") for name in INSTANCES),
-    *(([*IN_POOL, *it], 1, "dss: tokens: cannot read") for it in (["--etcd-user", "f"], ["--files", "f"], ["--retention", "1"], ["--retention=253402300799"], ["--explain", "--verbose"], ["--admin-port=2", "--access-log=l"], ["--max-connections=1", "--listen=::1"])),
+    *(([*IN_POOL, *it], 1, "dss: tokens: cannot read") for it in (["--etcd-user", "f"], ["--files", "f"], ["--retention", "1"], ["--retention=253402300799"], ["--explain", "--verbose"], ["--admin-port=2", "--access-log=l"], ["--max-connections=1", "--listen=::1"], ["--count", "1"])),
     *((pooled(text, "a"), 2, f'error: --pool {text}: "{part}" is no IP address with a port') for text, part in NO_ENDPOINTS),
     *((pooled("127.0.0.1:1", text), 2, f"error: --as {text}: no name of an instance") for text in NO_INSTANCES),
     *(
         ([*IN_POOL, *it], 2, f"error: {it[0]} cannot be used with --pool")
-        for it in (["--db", "d"], ["--count", "1"], ["--quota", "1"], ["--response-memory", "1"], ["--backup-dir", "f"], ["--double-sync"])
+        for it in (["--db", "d"], ["--quota", "1"], ["--response-memory", "1"], ["--backup-dir", "f"], ["--double-sync"])
     ),
     *(([*serving("1", "1"), *it], 2, f"error: {it[0]} without --pool") for it in (["--as", "a"], ["--etcd-user", "f"], ["--files", "f"])),
     (["serve", "--tokens", "t", "--port", "1", "--as", "a"], 2, "error: --as without --pool"),
     (["serve", "--tokens", "t", "--port", "1", "--pool", "127.0.0.1:1"], 2, "error: --as is missing"),
     (["serve", "--tokens", "t", "--pool", "127.0.0.1:1", "--as", "a"], 2, "error: --port is missing"),
     (["serve", "--pool", "127.0.0.1:1", "--as", "a", "--port", "1"], 2, "--tokens <FILE>"),
+    *(([*IN_POOL, "--count", count], 2, "") for count in ("0", "1000001", "", "-1")),
     *(([*IN_POOL, "--retention", keep], 2, "") for keep in ("0", "253402300800", "", "30d")),
     ([*IN_POOL, "--listen", "l"], 2, "error: --listen l: no IP address"),
     ([*IN_POOL, "--admin-port", "0"], 2, "error: --admin-port 0: no port"),

@@ -108,7 +108,7 @@ pub(crate) fn follow<F: Start, W: Write, E: Write>(
     let beginning = beginning_of(newest);
     let settings = settings_of(rt, &tokens, beginning)?;
     let log_args = LogArgs {
-        endpoints: given.endpoints,
+        endpoints: given.endpoints.as_slice(),
         name: given.name,
         etcd_user: given.etcd_user,
         file: newest,

@@ -2,6 +2,7 @@
 use crate::cause::Cause;
 use crate::clock::SystemClock;
 use crate::etcd_io::EtcdIo;
+use crate::log_file::SystemLog;
 use crate::pool_file_check::check_file;
 use crate::pool_files::{FileName, PoolFiles, beginning_of};
 use crate::pool_log::{LogArgs, new_poll, open_log, settings_of, with_loss};
@@ -13,12 +14,15 @@ use dss_command::limits::print_limits;
 use dss_command::pool::{PoolConfig, new_instance, serve_pool_port};
 use dss_command::pool_fault::PoolFault;
 use dss_database::pool_files::load;
+use mio::{Poll, Registry};
+use pool_etcd::etcd_log::EtcdLog;
 use pool_server::limits::PoolLimits;
 use server_watch::token_watch::TokenWatch;
 use space_memory::memory::MemorySpace;
 use sqlite::Start;
 use std::fs::File;
 use std::io::Write;
+use token_conf::token_table::TokenTable;
 
 // The file from which an instance starts. It is not removed while the instance has its turn.
 #[derive(Drop)]
@@ -77,42 +81,73 @@ fn airspace_of<F: Start>(
     }
 }
 
-/// Runs the command, until the instance ends or an operator stops it.
-pub(crate) fn serve<F: Start, E: Write>(
-    rt: &HostRuntime,
-    given: PoolArgs<'_>,
+// What an instance is made of: its log, its access log, what watches sockets, and the airspace from
+// which it starts.
+#[derive(Drop)]
+struct Beginning<'a> {
+    log: EtcdLog,
+    access_log: Option<SystemLog<'a>>,
+    poll: Poll,
+    registry: Registry,
+    space: MemorySpace,
+}
+
+// Opens the log of an instance, and loads the newest file of its directory.
+fn begin<'a, F: Start>(
+    rt: &'a HostRuntime,
+    given: &'a PoolArgs<'_>,
+    tokens: &TokenTable,
     start: F,
     cause: &mut Cause,
-    error: &mut E,
-) -> Result<(), Fault> {
-    if given.verbose {
-        cause.request();
-    }
-    let (text, tokens) = served_tokens(rt, given.tokens, given.verbose, cause, error)?;
-    if given.verbose {
-        let _ = print_limits(given.max_connections, None, None, error);
-    }
+) -> Result<Beginning<'a>, Fault> {
     let file = newest_file(rt, given.files, cause)?;
     let newest = match &file {
         Some(found) => Some(found.name),
         None => None,
     };
     let log_args = LogArgs {
-        endpoints: given.endpoints,
+        endpoints: given.endpoints.as_slice(),
         name: given.name,
         etcd_user: given.etcd_user,
         file: newest,
-        agreed: settings_of(rt, &tokens, beginning_of(newest))?,
+        agreed: settings_of(rt, tokens, beginning_of(newest))?,
     };
     let log = open_log(rt, log_args, cause)?;
     let access_log = log_of(rt, given.access_log, cause)?;
     let (poll, registry) = new_poll(rt)?;
     let space = airspace_of(rt, file, start, cause)?;
-    let mut instance = new_instance(rt.alloc(), log, space, &tokens, given.retention)?;
+    Ok(Beginning {
+        log,
+        access_log,
+        poll,
+        registry,
+        space,
+    })
+}
+
+// Answers clients with an instance, until it ends.
+fn serve_from<E: Write>(
+    rt: &HostRuntime,
+    given: &PoolArgs<'_>,
+    text: String,
+    tokens: &TokenTable,
+    begun: Beginning<'_>,
+    cause: &mut Cause,
+    error: &mut E,
+) -> Result<(), Fault> {
+    let Beginning {
+        log,
+        access_log,
+        poll,
+        registry,
+        space,
+    } = begun;
+    let mut instance = new_instance(rt.alloc(), log, space, tokens, given.retention)?;
+    let clients = clients_of(rt, given.max_connections);
     let config = PoolConfig {
-        tokens: &tokens,
+        tokens,
         addresses: given.listen.as_slice(),
-        limits: PoolLimits::usual(clients_of(rt, given.max_connections)),
+        limits: PoolLimits::usual(clients, given.count),
         explaining: explaining(given.explain),
         operated: admin_listener(rt, given.admin_port),
         verbose: given.verbose,
@@ -139,4 +174,24 @@ pub(crate) fn serve<F: Start, E: Write>(
         Ok(()) => Ok(()),
         Err(fault) => Err(with_loss(fault, instance.log().loss())),
     }
+}
+
+/// Runs the command, until the instance ends, the connections were counted and all are closed, or an
+/// operator stops it.
+pub(crate) fn serve<F: Start, E: Write>(
+    rt: &HostRuntime,
+    given: PoolArgs<'_>,
+    start: F,
+    cause: &mut Cause,
+    error: &mut E,
+) -> Result<(), Fault> {
+    if given.verbose {
+        cause.request();
+    }
+    let (text, tokens) = served_tokens(rt, given.tokens, given.verbose, cause, error)?;
+    if given.verbose {
+        let _ = print_limits(given.max_connections, given.count, None, error);
+    }
+    let begun = begin(rt, &given, &tokens, start, cause)?;
+    serve_from(rt, &given, text, &tokens, begun, cause, error)
 }

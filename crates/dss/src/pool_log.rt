@@ -59,10 +59,10 @@ pub(crate) fn settings_of(
 }
 
 /// The arguments of a command that opens the log of a pool.
-#[derive(Drop)]
+#[derive(Clone, Copy)]
 pub(crate) struct LogArgs<'a> {
     /// The addresses of etcd.
-    pub(crate) endpoints: Vec<SocketAddr>,
+    pub(crate) endpoints: &'a [SocketAddr],
     /// The name under which the process writes.
     pub(crate) name: &'a str,
     /// The name of the file of etcd's user, if there is one.
@@ -102,7 +102,7 @@ fn new_log(
         None => (0, None),
     };
     let settings = EtcdSettings {
-        endpoints: given.endpoints,
+        endpoints: Vec::from_slice(rt.alloc(), given.endpoints)?,
         user,
         name: String::from_str(rt.alloc(), given.name)?,
         number,

@@ -188,7 +188,7 @@ has_pool_option rows =
 -- True if an option is given that an instance of a pool does not have.
 abbrev pub has_store_option : List Row → Bool
 has_store_option rows =
-    is_given (codes "db") rows || is_given (codes "count") rows || is_given (codes "quota") rows
+    is_given (codes "db") rows || is_given (codes "quota") rows
     || is_given (codes "response-memory") rows || is_given (codes "backup-dir") rows
     || is_set (codes "double-sync") rows
 
@@ -229,6 +229,7 @@ pub record HasPool (rows : List Row) (given : PoolArgs) : Type 0 where
   pub files : HasText (codes "files") rows given.files
   pub retention : HasChoice (codes "retention") 1 MAX_TIME rows given.retention
   pub listen : HasListen rows given.listen.items
+  pub count : HasChoice (codes "count") 1 MAX_COUNT rows given.count
   pub max_connections :
       HasNumberOr (codes "max-connections") 1 MAX_CONNECTIONS MAX_CONNECTIONS rows
       given.max_connections

@@ -19,6 +19,8 @@ pub struct PoolArgs<'a> {
     pub retention: Option<u64>,
     /// The addresses to listen on. Their ports are at least 1.
     pub listen: Vec<SocketAddr>,
+    /// The number of connections before exit, from 1 to a million; unlimited if `None`.
+    pub count: Option<u64>,
     /// The maximum number of connections at once, from 1 to a thousand.
     pub max_connections: u64,
     /// The address of the admin port, 127.0.0.1 or ::1, if there is one. Its port is at least 1.

@@ -31,8 +31,8 @@ ghost use Rattle.dss_args.specs.CommandArgs.{
 };
 
 use crate::command_args::{
-    CommandArgs, MAX_CONNECTIONS, MAX_TIME, address_of, admin_in, choice_in, each_listen, is_set,
-    listen_in, number_or,
+    CommandArgs, MAX_CONNECTIONS, MAX_COUNT, MAX_TIME, address_of, admin_in, choice_in,
+    each_listen, is_set, listen_in, number_or,
 };
 use crate::pool_args::PoolArgs;
 use clap::ArgMatches;
@@ -74,9 +74,6 @@ fn store_option_in(matches: &ArgMatches<'_>) -> Option<&'static str>
 {
     if is_given(matches, "db") {
         return Some("--db");
-    }
-    if is_given(matches, "count") {
-        return Some("--count");
     }
     if is_given(matches, "quota") {
         return Some("--quota");
@@ -173,6 +170,7 @@ fn pool_on<'a>(
         files: matches.get_str("files"),
         retention: choice_in(matches, "retention", 1, MAX_TIME)?,
         listen,
+        count: choice_in(matches, "count", 1, MAX_COUNT)?,
         max_connections: number_or(
             matches,
             "max-connections",

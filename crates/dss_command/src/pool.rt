@@ -1,5 +1,5 @@
 //! The command `serve --pool` above the operating system.
-ghost use Rattle.std.specs.Prelude.{◌≡◌, IfOk, IsSome, OnOk};
+ghost use Rattle.std.specs.Prelude.{◌≡◌, ◌⊎◌, IfOk, IsSome, OnOk};
 ghost use Rattle.std.specs.IoError.{error_kind};
 ghost use Rattle.pool_instance.specs.Parts.{is_ended, retention_in};
 ghost use Rattle.pool_server.specs.Serving.{ServesAsInstance};
@@ -114,7 +114,7 @@ fn serve_sockets<
 ) -> Result<(), Fault>
     ensures served { ServesAsInstance G.Log S.Space M.Moments T.TokenSource
         given.entry.tokens.now watch instance.old instance.new moments.old moments.new }
-    ensures operated { OnOk result (IsSome build.entry) }
+    ensures counted { OnOk result (IsSome given.entry.limits.count ⊎ IsSome build.entry) }
 {
     let served = serve_pool(
         alloc,
@@ -134,13 +134,14 @@ fn serve_sockets<
 }
 
 /// Answers the clients of a port with a new instance of a pool, whatever airspace it starts from,
-/// until the instance ends or an operator stops it.
+/// until the instance ends, the number of connections in `limits` is reached, or an operator stops
+/// it.
 ///
 /// Meanwhile the token file is watched. Prints that the port is open, and later the fault of each
 /// aborted client, and why a changed token file was not loaded. Logs each answered request.
 ///
-/// Returns `Ok` only if an operator stopped the service, on the admin port. If the instance has
-/// ended, returns `PoolFault::Ended`; the log knows whether it is lost, and why.
+/// Returns `Ok` only if the connections were counted and all are closed, or an operator stopped the
+/// service on the admin port. If the instance has ended, returns `PoolFault::Ended`; the log knows whether it is lost, and why.
 pub fn serve_pool_port<
     G: Log + Drop,
     M: Moments,
@@ -160,7 +161,8 @@ pub fn serve_pool_port<
 ) -> Result<(), Fault>
     ensures served { ServesPoolFrom G.Log ⟦<MemorySpace as Space>⟧ M.Moments T.TokenSource
         given.entry.tokens.now watch instance.old instance.new moments.old moments.new }
-    ensures operated { OnOk result (IsSome given.entry.operated) }
+    ensures counted { OnOk result (IsSome given.entry.limits.count
+        ⊎ IsSome given.entry.operated) }
 {
     let Ok(routes) = Routes::new(alloc) else {
         return Err(Fault::Memory);

@@ -2,12 +2,13 @@
 ghost use Rattle.std.specs.Prelude.{◌≡◌, Bool, IfOk, IsSome, IsTrue};
 ghost use Rattle.token_conf.specs.TokenFile.{callers_of};
 ghost use Rattle.server_base.specs.Calls.{GoesOn};
-ghost use Rattle.server_watch.specs.Purger.{MayPurge};
 ghost use Rattle.dss_server.specs.ClientSet.{AddsIf, ChangesClients, ChangesUnseen, KeepsClients};
 ghost use Rattle.dss_server.specs.ClientSet.{LimitsBelow, clients_of, no_clients};
 ghost use Rattle.dss_server.specs.Serve.{ServesBy, ServesSoFar};
 ghost use Rattle.dss_server.specs.ServiceEvents.{CommitsBatch, MayCommitBatch, ServiceBatches};
 ghost use Rattle.dss_server.specs.ServiceEvents.{ServiceRuns, served_clients};
+
+mod purging;
 
 use crate::client_set::ClientSet;
 use crate::response_record::record_response;
@@ -29,13 +30,10 @@ use server_client::fair_queue::{is_round_over, nanos_between};
 use server_client::request_context::RequestContext;
 use server_watch::clock_watch::ClockWatch;
 use server_watch::purger::Purger;
-use server_watch::store_watch::{
-    CommitOutcome, StoreWatch, outcome_of_batch, outcome_of_change, outcome_of_purge,
-};
+use server_watch::store_watch::{CommitOutcome, StoreWatch, outcome_of_batch, outcome_of_change};
 use server_watch::time_record::TimeRecord;
 use service_calls::service::Service;
 use space_core::group_commit::GroupCommit;
-use space_core::purge_ended::PurgeEnded;
 use space_snapshot::snapshot::{NoMirror, Snapshot, SnapshotSource};
 use std::alloc::{AllocError, Global};
 use std::io;
@@ -608,65 +606,6 @@ impl<N: Sockets + Drop, B: MakeBackups + Drop> EventLoop<N, B> {
         ensures { KeepsClients N.Client.name self.old.clients self.new.clients }
     {
         self.metrics.faults.dropped_lines = journal.flush();
-    }
-
-    /// Reads the clock each second, and purges a chunk of what ended at least `keep` seconds ago, if
-    /// a purge is due and the clock may be right. Without a retention it purges nothing.
-    pub(crate) fn purge<S: PurgeEnded + Drop, M: Moments, J: ServerLog>(
-        &mut self,
-        keep: Option<u64>,
-        service: &mut Service<S>,
-        moments: &mut M,
-        now: Duration,
-        journal: &mut J,
-    )
-        ensures purges { MayPurge S.Space S.GroupCommit.own M.Moments keep
-            service.old service.new moments.old moments.new }
-        ensures clients { KeepsClients N.Client.name self.old.clients self.new.clients }
-    {
-        let step = self.purger.purge(keep, service, moments, now);
-        self.metrics.clock = self.purger.clock_metrics();
-        if let Some(news) = step.clock {
-            journal.clock_event(news);
-        }
-        if let Some(count) = step.removed {
-            self.metrics.purged.note_purge();
-            journal.purged(count);
-        }
-        let Some(purged) = step.purged else {
-            return;
-        };
-        match purged {
-            Ok(count) => self.metrics.purged.note_purged(count),
-            Err(_) => self.metrics.purged.note_fault(),
-        }
-        self.record_commit(outcome_of_purge(purged), now, journal);
-    }
-
-    /// Stores the last trusted time of the clock, if it is due, so that the next start finds it. A
-    /// failure is logged, and ends nothing.
-    pub(crate) fn store_time<J: ServerLog>(
-        &mut self,
-        sockets: &mut N,
-        now: Duration,
-        journal: &mut J,
-    )
-        ensures clients { KeepsClients N.Client.name self.old.clients self.new.clients }
-        ensures history { N.history sockets.new ≡ N.history sockets.old }
-    {
-        let Some(time) = self.purger.trusted_time() else {
-            return;
-        };
-        if !self.record.is_due(time, now) {
-            return;
-        }
-        match sockets.store_time(time) {
-            Ok(()) => self.record.keep(time),
-            Err(_) => {
-                journal.time_not_stored();
-                self.record.fail(now);
-            }
-        }
     }
 
     // Ends a client whose timeout has passed.

@@ -16,6 +16,8 @@ pub(crate) const SHARE: usize = 32;
 pub struct PoolLimits {
     /// The maximum number of clients at once.
     pub clients: usize,
+    /// The number of connections after which the service ends, if it is limited.
+    pub count: Option<u64>,
     /// How many of them may have more than 64 KB of requests buffered.
     pub large_buffers: usize,
     /// The time after which a request fails whose call was not sent to the log.
@@ -25,10 +27,12 @@ pub struct PoolLimits {
 }
 
 impl PoolLimits {
-    /// Returns the usual limits for at most so many clients: 64 large buffers, 2 and 10 seconds.
-    pub fn usual(clients: usize) -> PoolLimits {
+    /// Returns the usual limits for this number of clients at most, and of connections: 64 large
+    /// buffers, 2 and 10 seconds.
+    pub fn usual(clients: usize, count: Option<u64>) -> PoolLimits {
         PoolLimits {
             clients: clients.min(MAX_CONNECTIONS),
+            count,
             large_buffers: LARGE_BUFFERS,
             unsent: Duration::from_millis(UNSENT_TIMEOUT),
             sent: Duration::from_millis(SENT_TIMEOUT),

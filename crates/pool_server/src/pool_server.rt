@@ -84,7 +84,7 @@ impl<T: ClientSocket> PoolServer<T> {
             held: VecDeque::with_capacity(alloc, most)?,
             is_freed: false,
             large_buffers: limits.large_buffers,
-            acceptance: Acceptance::new(None),
+            acceptance: Acceptance::new(limits.count),
             unassigned_until: Duration::ZERO,
             unchecked: false,
             looked: Duration::ZERO,
@@ -92,6 +92,11 @@ impl<T: ClientSocket> PoolServer<T> {
             purges: PurgeTotals::none(),
             stopping: None,
         })
+    }
+
+    /// Returns true if no connection may come and none is left.
+    pub(crate) fn is_done(&self) -> bool {
+        self.acceptance.is_over() && self.clients.is_empty()
     }
 
     // Returns true if a client can be accepted.

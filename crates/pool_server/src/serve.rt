@@ -115,7 +115,8 @@ fn pool_metrics<L: Log + Drop, S: PurgeEnded + Drop, I: LogIo<L>>(
     }
 }
 
-/// Answers the requests of the accepted clients as an instance of a pool, until the instance ends.
+/// Answers the requests of the accepted clients as an instance of a pool, until the instance ends, or
+/// the number of connections in `limits` was accepted and the last of them is closed.
 ///
 /// A request that breaks a rule without state is denied at once. Any other change is offered to the
 /// log, and its reply is the one at its place in the log. A reading waits for the end of the log.
@@ -131,9 +132,9 @@ fn pool_metrics<L: Log + Drop, S: PurgeEnded + Drop, I: LogIo<L>>(
 ///
 /// With a build there is an admin port, whose connections are answered in the same iterations.
 ///
-/// Returns `Ok` once the instance has ended, for example since the log is lost, or an operator has
-/// stopped the service. Each request that waited has status 503 then. Returns an error of the
-/// system that ends the service.
+/// Returns `Ok` once the instance has ended, for example since the log is lost, an operator has
+/// stopped the service, or the connections were counted and all are closed. Each request that waited
+/// has status 503 then. Returns an error of the system that ends the service.
 pub fn serve_pool<
     L: Log + Drop,
     S: SnapshotSource + PurgeEnded + Drop,
@@ -161,13 +162,18 @@ pub fn serve_pool<
     ensures clients { ServesEachClient L.Log S.Space M.Moments T.TokenSource explaining tokens.now
         watch instance.old instance.new moments.old moments.new
         (N.history sockets.old) (N.history sockets.new) }
-    ensures ends { OnOk result ((is_ended instance.new ≡ true) ⊎ IsSome operated.entry) }
+    ensures ends { OnOk result ((is_ended instance.new ≡ true) ⊎ IsSome limits.count
+        ⊎ IsSome operated.entry) }
 {
     let mut newer = None;
+    let is_counted = limits.count.is_some();
     let mut server = PoolServer::<N::Client>::new(alloc, limits)?;
     let mut operators = Operators::<N>::new(alloc, operated.is_some())?;
     let mut patience = Duration::ZERO;
     for _ in 0..u64::MAX {
+        if is_counted && server.is_done() {
+            return Ok(());
+        }
         server.wait(sockets, &mut operators, patience)?;
         let now = sockets.monotonic_time()?;
         server.accept(sockets, &mut operators, now, journal)?;

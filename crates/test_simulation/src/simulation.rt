@@ -21,17 +21,31 @@ use server_base::backups::NoBackups;
 use server_watch::token_watch::TokenWatch;
 use service_calls::service::Service;
 use space_core::batch::ApplyBatch;
+use space_core::purge::Purge;
+use space_core::purge_ended::PurgeEnded;
 use space_memory::to_memory::ToMemory;
 use space_mirror::mirrored::Mirrored;
+use space_snapshot::snapshot::SnapshotSource;
 use space_sql::space::SqlSpace;
-use sqlite::MemStore;
 use std::alloc::Global;
 use std::io;
 use token_conf::token_table::TokenTable;
 use wire_route::routes::Routes;
 
-/// The space of a simulated service.
-pub(crate) type SimSpace = Mirrored<FailingStore<SqlSpace<MemStore>>>;
+/// A space that counts how often its store failed.
+///
+/// The functions over a simulated space are generic in it: one that names the type of the tables takes
+/// minutes to prove.
+pub(crate) trait CountsFailures {
+    /// Returns how often the store has failed.
+    fn into_failed(self) -> u64;
+}
+
+impl<S: ApplyBatch + ToMemory + Drop> CountsFailures for Mirrored<FailingStore<S>> {
+    fn into_failed(self) -> u64 {
+        self.into_store().failed()
+    }
+}
 
 /// What all simulations share.
 #[derive(Drop)]
@@ -82,19 +96,11 @@ fn failing<S: ApplyBatch + ToMemory + Drop>(
     with_mirror(alloc, FailingStore::new(space, draws, percent))
 }
 
-// Returns an empty space whose store fails so often of a hundred changes.
-fn space_of(alloc: Global, draws: Draws, percent: u64) -> Option<SimSpace> {
-    match SqlSpace::create(alloc) {
-        Ok(space) => failing(alloc, space, draws, percent),
-        Err(_) => None,
-    }
-}
-
 // Serves the clients of a plan.
-fn serve<'a>(
+fn serve<'a, S: PurgeEnded + SnapshotSource + Drop>(
     setting: &Setting,
     plan: &Plan,
-    service: &mut Service<SimSpace>,
+    service: &mut Service<S>,
     watch: TokenWatch<SimTokens<'a>>,
     clock: &mut SimClock<'a>,
     sockets: &mut SimSockets<'a>,
@@ -153,16 +159,16 @@ fn sockets_of<'a>(
     }
 }
 
-// Runs a drawn plan, and judges what happened.
-fn run_plan(
+// Runs a drawn plan over an empty space, and judges what happened.
+fn run_plan<S: PurgeEnded + SnapshotSource + CountsFailures + Drop>(
     setting: &Setting,
     mut plan: Plan,
     draws: &mut Draws,
+    space: S,
 ) -> Option<Result<Facts, Failure>> {
     let alloc = setting.alloc;
     let clients = plan.peers.len();
     let shared = Shared::new(alloc, clients).ok()?;
-    let space = space_of(alloc, draws.split(), plan.store_faults)?;
     let mut service = Service::new(space, setting.salt.clone().ok()?);
     let source = SimTokens {
         alloc,
@@ -201,13 +207,30 @@ fn run_plan(
     ))
 }
 
+// Runs a drawn plan over an empty store.
+fn run_over<S: ApplyBatch + ToMemory + Purge + Drop>(
+    setting: &Setting,
+    plan: Plan,
+    draws: &mut Draws,
+    store: S,
+) -> Option<Result<Facts, Failure>>
+    requires works { S.is_broken store ≡ false }
+    requires content { S.is_sound store → IsContent S.holds store (empty_at 0) }
+{
+    let space = failing(setting.alloc, store, draws.split(), plan.store_faults)?;
+    run_plan(setting, plan, draws, space)
+}
+
 /// Runs the simulation of that seed.
 pub(crate) fn simulate(setting: &Setting, seed: u64) -> Result<Facts, Failure> {
     let mut draws = Draws::new(seed);
     let Ok(plan) = draw_plan(setting.alloc, &setting.salt, &mut draws) else {
         return Err(Failure::of(Flaw::Memory));
     };
-    match run_plan(setting, plan, &mut draws) {
+    let Ok(store) = SqlSpace::create(setting.alloc) else {
+        return Err(Failure::of(Flaw::Memory));
+    };
+    match run_over(setting, plan, &mut draws, store) {
         Some(judged) => judged,
         None => Err(Failure::of(Flaw::Memory)),
     }

@@ -5,7 +5,7 @@ use crate::plan::Plan;
 use crate::record::Noted;
 use crate::reference::Reference;
 use crate::shared::{SECOND, Shared};
-use crate::simulation::SimSpace;
+use crate::simulation::CountsFailures;
 use crate::sockets::{Operator, SimSockets};
 use entity_core::entity::Entity;
 use entity_core::nature::Kind;
@@ -217,14 +217,14 @@ fn are_same(one: &[Entity], other: &[Entity]) -> bool {
 }
 
 // Returns true if both spaces have the same entities of a kind.
-fn have_same(space: &mut SimSpace, reference: &mut Reference<'_>, kind: Kind) -> Option<bool> {
+fn have_same<S: Space>(space: &mut S, reference: &mut Reference<'_>, kind: Kind) -> Option<bool> {
     let one = space.all(kind).ok()?;
     let other = reference.space().all(kind).ok()?;
     Some(are_same(one.as_slice(), other.as_slice()))
 }
 
 // Returns true if both spaces are the same.
-fn is_same_space(space: &mut SimSpace, reference: &mut Reference<'_>) -> Option<bool> {
+fn is_same_space<S: Space>(space: &mut S, reference: &mut Reference<'_>) -> Option<bool> {
     let is_same = have_same(space, reference, Kind::Intent)?
         && have_same(space, reference, Kind::Constraint)?;
     let serials = (space.serial().ok()?, reference.space().serial().ok()?);
@@ -485,19 +485,24 @@ fn longest_wait(sockets: &SimSockets<'_>, journal: &Journal<'_>) -> u64 {
 }
 
 // Checks the airspace at the end, and that there were faults exactly if the store failed.
-fn check_space(space: SimSpace, reference: &mut Reference<'_>, faults: usize) -> Result<(), Flaw> {
+fn check_space<S: Space + CountsFailures + Drop>(
+    space: S,
+    reference: &mut Reference<'_>,
+    faults: usize,
+) -> Result<(), Flaw> {
     let mut space = space;
-    match is_same_space(&mut space, reference) {
+    let is_same = is_same_space(&mut space, reference);
+    let failed = space.into_failed();
+    match is_same {
         Some(is_same) => check(is_same, Flaw::Airspace)?,
         None => return Err(Flaw::Memory),
     }
-    let failed = space.into_store().failed();
     check((faults > 0) == (failed > 0), Flaw::Commit)
 }
 
 // Checks all but single clients.
-fn check_rest(
-    service: Service<SimSpace>,
+fn check_rest<S: Space + CountsFailures + Drop>(
+    service: Service<S>,
     reference: &mut Reference<'_>,
     sockets: &SimSockets<'_>,
     journal: &Journal<'_>,
@@ -528,12 +533,12 @@ fn check_begin(
 }
 
 /// Judges what happened in a simulation.
-pub(crate) fn judge(
+pub(crate) fn judge<S: Space + CountsFailures + Drop>(
     plan: &Plan,
     shared: &Shared,
     sockets: &SimSockets<'_>,
     journal: &Journal<'_>,
-    service: Service<SimSpace>,
+    service: Service<S>,
     reference: Reference<'_>,
     has_ended: bool,
 ) -> Result<Facts, Failure> {

@@ -15,7 +15,6 @@ use service_calls::service::Service;
 use space_core::met::Met;
 use space_core::space::Space;
 use space_sql::space::SqlSpace;
-use sqlite::MemStore;
 use std::fs::File;
 use std::process::ExitCode;
 use std::{env, fs};
@@ -26,11 +25,12 @@ use wire_route::routes::Routes;
 /// The time of each request, in seconds since 1970.
 const NOW: u64 = 5_000;
 
-// Serves the requests of a file.
-fn serve_file(
+// Serves the requests of a file. This and the functions below are generic in the space: one that
+// names the type of the tables takes minutes to prove.
+fn serve_file<S: Space + Drop>(
     rt: &HostRuntime,
     routes: &Routes,
-    service: &mut Service<SqlSpace<MemStore>>,
+    service: &mut Service<S>,
     tokens: &TokenTable,
     name: &str,
 ) -> Option<()> {
@@ -56,9 +56,9 @@ fn are_same(found: &[Met], sought: &[Entity]) -> bool {
 }
 
 // Compares the search by the index with one through all references of the kind.
-fn compare_searches(
+fn compare_searches<S: Space>(
     rt: &HostRuntime,
-    space: &mut SqlSpace<MemStore>,
+    space: &mut S,
     kind: Kind,
     token: &str,
 ) -> Option<()> {
@@ -79,10 +79,10 @@ fn compare_searches(
     println!(rt; "{token}: {met} of {count}, {told}").ok()
 }
 
-fn answer(
+fn answer<S: Space + Drop>(
     rt: &HostRuntime,
     routes: &Routes,
-    service: &mut Service<SqlSpace<MemStore>>,
+    service: &mut Service<S>,
     tokens: &TokenTable,
     word: &str,
 ) -> Option<()> {
@@ -93,7 +93,7 @@ fn answer(
     compare_searches(rt, service.space(), Kind::Constraint, token)
 }
 
-fn answer_all(rt: &HostRuntime) -> Option<()> {
+fn answer_all<S: Space + Drop>(rt: &HostRuntime, space: S) -> Option<()> {
     let mut words = env::args(rt).ok()?;
     words.next()?;
     let Some(name) = words.next() else {
@@ -103,7 +103,7 @@ fn answer_all(rt: &HostRuntime) -> Option<()> {
     let tokens = TokenTable::read(rt.alloc(), text.as_str()).ok()?;
     let salt = tokens.salt().clone().ok()?;
     let routes = Routes::new(rt.alloc()).ok()?;
-    let mut service = Service::new(SqlSpace::create(rt.alloc()).ok()?, salt);
+    let mut service = Service::new(space, salt);
     for word in words {
         answer(rt, &routes, &mut service, &tokens, word.as_str())?;
     }
@@ -111,7 +111,10 @@ fn answer_all(rt: &HostRuntime) -> Option<()> {
 }
 
 fn main(rt: HostRuntime) -> ExitCode {
-    match answer_all(&rt) {
+    let Ok(space) = SqlSpace::create(rt.alloc()) else {
+        return ExitCode::FAILURE;
+    };
+    match answer_all(&rt, space) {
         Some(()) => ExitCode::SUCCESS,
         None => ExitCode::FAILURE,
     }

@@ -17,6 +17,7 @@ returns-clause-some c =
         files = sym (c.get_str-3.ensures ∙ first_value-rows f (codes "files"));
         retention = c.in_ok-choice_in.ensures.some;
         listen = listen;
+        count = c.in_ok-choice_in-2.ensures.some;
         max_connections = c.in_ok-number_or.ensures.some;
         admin_port = c.in_ok-admin_in.ensures.some;
         access_log = sym (c.get_str-4.ensures ∙ first_value-rows f (codes "access-log"));
@@ -55,3 +56,8 @@ pub returns-in_err-choice_in-clause-none : goal.returns-in_err-choice_in-clause-
 returns-in_err-choice_in-clause-none c =
     let f = found_of c.args.matches.now in
     anyway _ (NoPool (rows_of f)) (λ given has. c.in_err-choice_in.ensures.none given.retention has.retention)
+
+pub returns-in_err-choice_in-2-clause-none : goal.returns-in_err-choice_in-2-clause-none
+returns-in_err-choice_in-2-clause-none c =
+    let f = found_of c.args.matches.now in
+    anyway _ (NoPool (rows_of f)) (λ given has. c.in_err-choice_in-2.ensures.none given.count has.count)

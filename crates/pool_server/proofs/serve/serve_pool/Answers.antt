@@ -40,6 +40,14 @@ pub returns-in_err-operators-clause-clients : goal.returns-in_err-operators-clau
 returns-in_err-operators-clause-clients g c =
     served_nothing g.L.Log g.S.Space g.M.Moments g.T.TokenSource c.args.explaining c.args.tokens.now c.args.watch c.args.instance.now c.args.moments.now (g.N.Sockets.history c.args.sockets.now)
 
+pub returns-then-is_done-clause-serves : goal.returns-then-is_done-clause-serves
+returns-then-is_done-clause-serves g c =
+    up_to_still g.L.Log g.S.Space g.M.Moments g.T.TokenSource c.args.tokens.now c.args.watch (unwrap_or c.loop.newer c.args.tokens.now) c.loop.watch c.args.instance.now c.loop.instance c.args.moments.now c.loop.moments c.loop.invariant.works
+
+pub returns-then-is_done-clause-clients : goal.returns-then-is_done-clause-clients
+returns-then-is_done-clause-clients g c =
+    served_still g.L.Log g.S.Space g.M.Moments g.T.TokenSource c.args.explaining c.args.tokens.now c.args.watch (unwrap_or c.loop.newer c.args.tokens.now) c.loop.watch c.args.instance.now c.loop.instance c.args.moments.now c.loop.moments (clients_of g.N.Client.ClientSocket.name c.loop.server.clients) (g.N.Sockets.history c.args.sockets.now) (g.N.Sockets.history c.loop.sockets) (g.N.Sockets.history c.loop.sockets) c.loop.invariant refl
+
 pub returns-in_err-wait-clause-serves : goal.returns-in_err-wait-clause-serves
 returns-in_err-wait-clause-serves g c =
     up_to_still g.L.Log g.S.Space g.M.Moments g.T.TokenSource c.args.tokens.now c.args.watch (unwrap_or c.loop.newer c.args.tokens.now) c.loop.watch c.args.instance.now c.loop.instance c.args.moments.now c.loop.moments c.loop.invariant.works
@@ -106,6 +114,6 @@ pub returns-then-is_stopped-clause-ends : goal.returns-then-is_stopped-clause-en
 returns-then-is_stopped-clause-ends g c =
     let works = works_of (callers_of c.in_force.result.now) c.args.explaining g.L.Log g.S.Space c.in-Ok.moment [] (pool_state c.run_once-patience.new.instance (clients_of g.N.Client.ClientSocket.name c.serve_operators-is_stopped.new.self.clients) (g.N.Sockets.history c.run_once-patience.new.sockets)) (pool_state c.fail_all.new.instance (clients_of g.N.Client.ClientSocket.name c.fail_all.new.self.clients) (g.N.Sockets.history c.fail_all.new.sockets)) (c.fail_all.ensures (callers_of c.in_force.result.now) c.in-Ok.moment) in
     elim c.then-is_stopped.branch [
-      | then-is_stopped-via-then-is_stopped w ↦ inr (c.serve_operators-is_stopped.ensures.stops w.if-is_stopped.true)
+      | then-is_stopped-via-then-is_stopped w ↦ inr (inr (c.serve_operators-is_stopped.ensures.stops w.if-is_stopped.true))
       | then-is_stopped-via-else-is_stopped+then-is_ended w ↦ inl (works.did.stays_ended (sym w.is_ended.ensures ∙ w.if-is_ended.true))
     ]
