@@ -350,6 +350,21 @@ def stopped(pool):
         pool.cluster.go_on(it)
 
 
+def counted(pool):
+    """With `--count`, an instance ends with status 0 once its last connection is closed, and not before."""
+    door = pool.add("counted", TOKENS, options=("--count", 2))
+    first, second = Exchange(door), Exchange(door)
+    until(lambda: first.ask(put(87))[0] == 201, "the put is not made")
+    second.send(get(87))
+    assert second.receive()[0] == 200
+    second.close()
+    time.sleep(0.5)
+    assert door.process.poll() is None, "it ended with a connection open"
+    assert first.ask(get(87))[0] == 200
+    first.close()
+    assert door.end()[0] == 0, door.lines
+
+
 def user(pool):
     """An instance serves as a user of etcd that may write its own key only. A wrong file of the user ends it."""
     for words in (
@@ -388,5 +403,6 @@ CASES = {
     "access log": with_pool(access_log),
     "admin port": with_pool(admin_port),
     "stopped": with_pool(stopped),
+    "counted": with_pool(counted),
     "user": with_pool(user),
 }
