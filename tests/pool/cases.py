@@ -354,13 +354,12 @@ def counted(pool):
     """With `--count`, an instance ends with status 0 once its last connection is closed, and not before."""
     door = pool.add("counted", TOKENS, options=("--count", 2))
     first, second = Exchange(door), Exchange(door)
-    until(lambda: first.ask(put(87))[0] == 201, "the put is not made")
-    second.send(get(87))
-    assert second.receive()[0] == 200
+    create(door, put(87), first)
+    assert answer(door, get(87), second)[0] == 200
     second.close()
     time.sleep(0.5)
     assert door.process.poll() is None, "it ended with a connection open"
-    assert first.ask(get(87))[0] == 200
+    assert answer(door, get(87), first)[0] == 200
     first.close()
     assert door.end()[0] == 0, door.lines
 
