@@ -32,6 +32,8 @@ PUT = wire.request("PUT", f"{wire.AVAILABILITY}/uss-b", "Bearer tok-v", b'{"old_
 # The most seconds that a stopping service takes, and those within which an operator gets a response.
 END, AT_ONCE = 5, 2
 MOST = 16
+# Connections that send nothing: fewer than the system lets wait.
+CROWD = 120
 # The seconds after which a connection counts as idle, and a little more.
 IDLE = 1.2
 # The names of the metrics, with their types.
@@ -448,6 +450,16 @@ def many():
         return exceeded(time.monotonic() - connected, SENDING - 1, "those that had begun") or found
 
 
+def crowd():
+    """An operator is answered at once beside many connections that send nothing."""
+    with AdminService() as started, contextlib.ExitStack() as stack:
+        for _ in range(CROWD):
+            stack.enter_context(started.operator())
+        began = time.monotonic()
+        found = difference("the operator", started.asked(HEALTH), said(200, SERVING))
+        return exceeded(time.monotonic() - began, AT_ONCE, "the response") or found
+
+
 def without_port():
     """A port in use gives one line and status 1. An invalid number is rejected."""
     found = []
@@ -587,6 +599,7 @@ CASES = {
     "admin-port-ends-it-in-time": again(ends_with_others),
     "admin-port-of-a-broken-service": broken,
     "admin-port-with-many": again(many),
+    "admin-port-in-a-crowd": again(crowd),
     "admin-port-in-use": without_port,
     "another-address": elsewhere,
     "ipv6-address": over_ipv6,

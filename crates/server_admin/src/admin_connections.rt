@@ -7,8 +7,8 @@ use crate::backup_job::BackupJob;
 use admin_http::backup::BackupResult;
 use server_base::backups::MakeBackups;
 use server_base::limits::{
-    ADMIN_IDLE_GRACE, ADMIN_SLOTS, FULL, LOOKS, LOOKS_SOON, MAX_ADMIN_CONNECTIONS,
-    MAX_IDLE_ADMIN_CONNECTIONS,
+    ADMIN_CROWDED_GRACE, ADMIN_IDLE_GRACE, ADMIN_SLOTS, FULL, LOOKS, LOOKS_SOON,
+    MAX_ADMIN_CONNECTIONS, MAX_IDLE_ADMIN_CONNECTIONS,
 };
 use server_base::sockets::{AcceptFault, SocketEvent, Sockets};
 use slab::Slab;
@@ -84,7 +84,9 @@ impl<N: Sockets + Drop, B: MakeBackups + Drop> AdminConnections<N, B> {
         if self.all.is_empty() {
             return None;
         }
-        Some(Duration::from_millis(if self.is_any_ending() {
+        Some(Duration::from_millis(if self.waiting {
+            ADMIN_CROWDED_GRACE
+        } else if self.is_any_ending() {
             LOOKS_SOON
         } else {
             LOOKS
@@ -143,9 +145,9 @@ impl<N: Sockets + Drop, B: MakeBackups + Drop> AdminConnections<N, B> {
     }
 
     // Closes the connection that has been idle for the longest, if more than `most` have been idle
-    // for the grace period.
-    fn close_oldest_idle(&mut self, most: usize, now: Duration) {
-        let latest = now.saturating_sub(Duration::from_millis(ADMIN_IDLE_GRACE));
+    // for `grace` milliseconds.
+    fn close_oldest_idle(&mut self, most: usize, grace: u64, now: Duration) {
+        let latest = now.saturating_sub(Duration::from_millis(grace));
         let mut idle = 0_usize;
         let mut oldest = None;
         for key in 0..ADMIN_SLOTS {
@@ -180,7 +182,7 @@ impl<N: Sockets + Drop, B: MakeBackups + Drop> AdminConnections<N, B> {
     {
         for _ in 0..ADMIN_SLOTS {
             if self.waiting && self.all.len() > MAX_ADMIN_CONNECTIONS {
-                self.close_oldest_idle(0, now);
+                self.close_oldest_idle(0, ADMIN_CROWDED_GRACE, now);
             }
             if !self.has_room() || now < self.full_until {
                 return false;
@@ -188,7 +190,7 @@ impl<N: Sockets + Drop, B: MakeBackups + Drop> AdminConnections<N, B> {
             match sockets.accept_admin() {
                 Ok(socket) => {
                     self.take_in(sockets, socket, now);
-                    self.close_oldest_idle(MAX_IDLE_ADMIN_CONNECTIONS, now);
+                    self.close_oldest_idle(MAX_IDLE_ADMIN_CONNECTIONS, ADMIN_IDLE_GRACE, now);
                 }
                 Err(AcceptFault::NoneWaits) => self.waiting = false,
                 Err(AcceptFault::Gone) => {}

@@ -82,6 +82,9 @@ pub const MAX_IDLE_ADMIN_CONNECTIONS: usize = 8;
 /// How long a new admin connection counts as not idle, in milliseconds.
 pub const ADMIN_IDLE_GRACE: u64 = 1_000;
 
+/// The same while another one waits for its place.
+pub const ADMIN_CROWDED_GRACE: u64 = 20;
+
 /// The maximum number of bytes of an admin request.
 pub const ADMIN_REQUEST_BYTES: usize = 9_216;
 
