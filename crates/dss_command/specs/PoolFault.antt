@@ -1,7 +1,7 @@
 -- The texts of faults of an instance of a pool.
 use Rattle.std.specs.Prelude.{ℕ, List, codes}
 use Rattle.dss_command.specs.declared.pool_fault.PoolFault.{PoolFault}
-use Rattle.dss_command.specs.declared.pool_fault.PoolFault.TheVariants.{Compacted, Deleted, Ended, Files, FilesBusy, HasFile, NoAirspace, NoFile, NoRandom, Replaced, Settings, Shortened, Silent, Suppliers, UserInvalid, UserUnread}
+use Rattle.dss_command.specs.declared.pool_fault.PoolFault.TheVariants.{Compacted, Deleted, Ended, Files, FilesBusy, HasFile, NoAirspace, NoFile, NoRandom, Replaced, Settings, Shortened, Silent, Suppliers, Unmade, UserInvalid, UserUnread}
 
 -- What is wrong and what to do, as it is printed.
 abbrev pub text_of : PoolFault → List ℕ
@@ -22,6 +22,9 @@ text_of Settings =
 text_of Suppliers =
     codes
     "suppliers: the list forbids a USS of an own entry; change --tokens, or add it to the list"
+text_of Unmade =
+    codes
+    "unmade: a batch of changes was not stored in time, and never will be; start it again"
 text_of Silent = codes "etcd does not answer; check --pool and that a majority of its members runs"
 text_of Files =
     codes

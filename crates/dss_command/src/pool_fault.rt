@@ -23,6 +23,8 @@ pub enum PoolFault {
     Settings,
     /// The supplier list of the pool forbids a USS of an entry that this instance wrote.
     Suppliers,
+    /// A batch of changes of this instance was not stored in time, and never will be.
+    Unmade,
     /// No member of etcd has said anything of the log for too long.
     Silent,
     /// The directory of the pool's files, or a file in it, cannot be read or written.
@@ -71,6 +73,10 @@ impl PoolFault {
             PoolFault::Suppliers => {
                 "suppliers: the list forbids a USS of an own entry; \
                  change --tokens, or add it to the list"
+            }
+            PoolFault::Unmade => {
+                "unmade: a batch of changes was not stored in time, and never will be; \
+                 start it again"
             }
             PoolFault::Silent => {
                 "etcd does not answer; check --pool and that a majority of its members runs"
