@@ -129,6 +129,7 @@ stuck_learns mine r v k (Sending q) fence value put o order is due a p = by (sto
         let here : s.put.revision ≡ r = ap (λ (x : Put). x.revision) e ∙ at in
         let m : mine s.put.value ≡ true = ap (λ (x : Put). mine x.value) e ∙ ap mine of ∙ p.is_mine in
         let far : r ≤ last_revision s.writes = behind s here (p.puts s among m) in
+        let low : put.revision ≡ r = at in
         omega arith
 
     by : (x : Option ℕ) → stored_at value o ≡ x → IsStuck r v (idle_or Lost x) value
@@ -137,6 +138,7 @@ stuck_learns mine r v k (Sending q) fence value put o order is due a p = by (sto
         let there : stored_at put.value o ≡ Some c = ap (λ (x : List ℕ). stored_at x o) (sym (ap (λ (x : Put). x.value) same)) ∙ e in
         let found : Found k.writes v c = subst (λ (x : List ℕ). Found k.writes x c) of (answered k put o c a there) in
         let low : put.revision < c = later k put o c order since a there in
+        let here : put.revision ≡ r = at in
         absurd (none_found mine r v k c p found (omega arith))
 stuck_learns mine r v k (Settling q) fence value put (Stored c) order is due a p = tt
 stuck_learns mine r v k (Settling q) fence value put (Refused f) order is due a p = by (stored_at value (Refused f)) refl
@@ -333,11 +335,10 @@ behind_fence mine k n es h (inr o) run =
 pub fence_settles : FenceSettles
 fence_settles mine start before fenced end first later sent q h run is_fence l run2 =
     let kept = whole_run mine start before first (at_start mine start h) run in
+    let here = one_step mine before fenced (Stores sent q) kept l in
     let other : mine sent.put.value ≡ false = ap mine is_fence ∙ h.fence in
-    let w : Write = record { revision = q; value = sent.put.value } in
-    let then : KeyState = record before { writes = w ∷ before.writes } in
-    let here : Keeps mine then = subst (λ (x : KeyState). Keeps mine x) l.3 (one_step mine before fenced (Stores sent q) kept l) in
-    let at : AtFence mine then.own.state then.own.value then.sent then.writes then.taken =
-        at_fence mine before.own.state before.own.value before.sent before.writes before.taken w other l.2 kept.phase in
-    let from : Run mine then later end = subst (λ (x : KeyState). Run mine x later end) l.3 run2 in
-    subst (λ (x : KeyState). Behind mine x end) (sym l.3) (behind_fence mine then end later here at from)
+    let at =
+        at_fence mine before.own.state before.own.value before.sent before.writes before.taken (record { revision = q; value = sent.put.value })
+        other l.2 kept.phase in
+    behind_fence mine fenced end later here
+    (subst (λ (x : KeyState). AtFence mine x.own.state x.own.value x.sent x.writes x.taken) (sym l.3) at) run2

@@ -355,7 +355,7 @@ own_put mine r v sent writes taken s q among m at low order p = by (p.puts s amo
             later_place = place;
             within = omega arith;
             only = only_here n;
-            first = first_here;
+            first = first_here is;
             there = (record { revision = q; value = s.put.value }, inl refl, refl);
             its = its_here;
             all = n.but_last
@@ -364,12 +364,9 @@ own_put mine r v sent writes taken s q among m at low order p = by (p.puts s amo
           });
         }
       where
-        first_here : (x : Write) → Among x (record { revision = q; value = s.put.value } ∷ writes) → r < x.revision → q ≤ x.revision
-        first_here x (inl e) after = let is : x.revision ≡ q = ap (λ (y : Write). y.revision) e in omega arith
-        first_here x (inr h) after =
-            let most : x.revision ≤ last_revision writes = last_is_greatest writes x order h in
-            let is : s.put.revision ≡ r = here.0 in
-            absurd (omega arith)
+        first_here : s.put.revision ≡ r → (x : Write) → Among x (record { revision = q; value = s.put.value } ∷ writes) → r < x.revision → q ≤ x.revision
+        first_here is x (inl e) after = let here : x.revision ≡ q = ap (λ (y : Write). y.revision) e in omega arith
+        first_here is x (inr h) after = let most : x.revision ≤ last_revision writes = last_is_greatest writes x order h in absurd (omega arith)
 
         its_here : (x : Write) → Among x (record { revision = q; value = s.put.value } ∷ writes) → x.revision ≡ q → mine x.value ≡ true
         its_here x (inl e) place = ap (λ (y : Write). mine y.value) e ∙ m
@@ -458,33 +455,33 @@ unmade_at : (mine : List ℕ → Bool) (k : KeyState) (r : ℕ) (v fence : List 
     → IsAnswer k (record { value = fence; revision = r }) (Stored q) → OpenPut mine r v k.sent k.writes k.taken → Over mine r v k.sent k.writes k.taken
 unmade_at mine k r v fence q other order a p = record {
   puts = p.puts;
-  past = let most : q ≤ last_revision k.writes = last_is_greatest k.writes fenced order there in omega arith;
+  past = let most : q ≤ last_revision k.writes = last_is_greatest k.writes (record { revision = q; value = fence }) order there in let far : r < q = behind in omega arith;
   is_mine = p.is_mine;
   yet = by p.stored;
 }
   where
-    fenced : Write
-    fenced = record { revision = q; value = fence }
+    there : Among (record { revision = q; value = fence }) k.writes
+    there = subst (λ (ys : List Write). Among (record { revision = q; value = fence }) ys) (sym a.2) (among_middle a.0 (record { revision = q; value = fence }) a.1)
 
-    there : Among fenced k.writes
-    there = subst (λ (ys : List Write). Among fenced ys) (sym a.2) (among_middle a.0 fenced a.1)
-
-    whole : AreInOrder (a.0 ++ fenced ∷ a.1)
+    whole : AreInOrder (a.0 ++ record { revision = q; value = fence } ∷ a.1)
     whole = subst (λ (ys : List Write). AreInOrder ys) a.2 order
 
     behind : r < q
-    behind = let next : last_revision a.1 < q = (in_order_before a.0 (fenced ∷ a.1) whole).0 in let at : last_revision a.1 ≡ r = a.3 in omega arith
+    behind =
+        let next : last_revision a.1 < q = (in_order_before a.0 (record { revision = q; value = fence } ∷ a.1) whole).0 in
+        let at : last_revision a.1 ≡ r = a.3 in
+        omega arith
 
     by : NotYet mine r v k.writes k.taken ⊎ Done mine r k.writes k.taken → NotYet mine r v k.writes k.taken
     by (inl n) = n
     by (inr d) =
-        let up : d.place ≤ q = d.first fenced there behind in
+        let up : d.place ≤ q = d.first (record { revision = q; value = fence }) there behind in
         let is : d.there.0.revision ≡ d.place = d.there.2 in
         let far : r < d.place = d.later_place in
         let down : q ≤ d.there.0.revision =
-            follows_first a.0 fenced a.1 r whole a.3 d.there.0 (subst (λ (ys : List Write). Among d.there.0 ys) a.2 d.there.1) (omega arith) in
+            follows_first a.0 (record { revision = q; value = fence }) a.1 r whole a.3 d.there.0 (subst (λ (ys : List Write). Among d.there.0 ys) a.2 d.there.1) (omega arith) in
         let same : q ≡ d.place = omega arith in
-        let yes : mine fence ≡ true = d.its fenced there same in
+        let yes : mine fence ≡ true = d.its (record { revision = q; value = fence }) there same in
         let h : ⊥ = cc in absurd h
 
 -- An answer to a fence that has the value stored behind a revision: it was written there.
@@ -680,6 +677,6 @@ but_one mine k q h is =
     (p.1, p.2.yet.but_last)
 
 pub unmade_is_final : UnmadeIsFinal
-unmade_is_final mine start then end first later q h run is run2 =
-    let kept = whole_run mine then end later (whole_run mine start then first (at_start mine start h) run) run2 in
-    but_one mine end q kept (unmade_run mine then end later q run2 is)
+unmade_is_final mine start known end first later q h run is run2 =
+    let kept = whole_run mine known end later (whole_run mine start known first (at_start mine start h) run) run2 in
+    but_one mine end q kept (unmade_run mine known end later q run2 is)

@@ -148,7 +148,8 @@ FenceSettles =
 -- that it has taken, and the only one that is not written, whatever happens later.
 abbrev pub UnmadeIsFinal : Type 0
 UnmadeIsFinal =
-    (mine : List ℕ → Bool) (start then end : KeyState) (first later : List KeyEvent) (revision : ℕ)
-    → IsStart mine start → Run mine start first then → then.own.state ≡ Unmade revision
-    → Run mine then later end
+    (mine : List ℕ → Bool) (start known end : KeyState) (first later : List KeyEvent)
+    (revision : ℕ)
+    → IsStart mine start → Run mine start first known → known.own.state ≡ Unmade revision
+    → Run mine known later end
     → (last : List ℕ) × (end.taken ≡ last ∷ own_values mine end.writes)

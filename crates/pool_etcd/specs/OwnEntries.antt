@@ -141,7 +141,7 @@ loss_of revision fence store (Refused None) =
 loss_of revision fence store (Refused (Some other)) = Some (loss_by revision fence other)
 
 -- Why the log is lost in a state after the outcome of a put is known, if a value was open before.
-abbrev pub loss_in : OwnState → (open : Option ℕ) (fence : List ℕ) → PutResponse → Option Loss
+abbrev pub loss_in : OwnState → (before : Option ℕ) (fence : List ℕ) → PutResponse → Option Loss
 loss_in state None fence response = None
 loss_in Unknown (Some revision) fence response = None
 loss_in (Fencing other) (Some revision) fence response = None

@@ -309,7 +309,7 @@ impl EtcdLog {
 
     /// Returns the number of batches without an outcome.
     pub fn open_batches(&self) -> usize {
-        match self.state.own.open() {
+        match self.state.own.open_revision() {
             Some(_) => self.queue.len().saturating_add(1),
             None => self.queue.len(),
         }

@@ -143,7 +143,7 @@ impl OwnEntries {
     }
 
     /// Returns the revision of the last own change before a value whose outcome is open.
-    pub fn open(&self) -> Option<u64>
+    pub fn open_revision(&self) -> Option<u64>
         ensures { result ≡ open_in self.now.state }
     {
         match self.state {
@@ -228,9 +228,9 @@ impl OwnEntries {
             ≡ record self.old { state = after_outcome self.old response.now.outcome } }
         ensures loss { result ≡ loss_after self.old response.now }
     {
-        let open = self.open();
+        let before = self.open_revision();
         self.learn_outcome(&response.outcome);
-        match (open, self.state) {
+        match (before, self.state) {
             (Some(revision), OwnState::Lost) => loss_of(revision, self.fence.bytes(), response),
             (Some(_), OwnState::Unmade(_)) => Some(Loss::Unmade),
             _ => None,
