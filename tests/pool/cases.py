@@ -16,6 +16,7 @@ from ports import free_port
 from real_etcd import Cluster
 
 TOKENS = drawn_calls.ALL_TOKENS
+UNMADE = "dss: pool: unmade: a batch of changes was not stored in time, and never will be; start it again"
 SETTINGS = "dss: pool: settings: the pool has another salt, policy or beginning; use its salt, version and files"
 READ = ("GET", f"{wire.AVAILABILITY}/uss-n", "Bearer tok-v", None)
 # A few calls of a healthy pool may have no response, if its machine stands still for seconds: one of so many.
@@ -212,11 +213,49 @@ def without_majority(pool):
     for it in (0, 1):
         pool.cluster.go_on(it)
     pool.cluster.await_leader()
+    goes_on = settled(door, put(76))
     pool.ready()
-    # what was sent may be done at any time until the next change of the instance is
-    create(door, put(76))
     found = {answer(it, get(77))[0] for it in pool.doors}
-    assert len(found) == 1 and (got == wire.UNKNOWN or found == {404}), (got, found)
+    assert found == ({200} if goes_on and got == wire.UNKNOWN else {404}), (got, goes_on, found)
+
+
+def settled(door, call):
+    """Waits until the outcome of an open batch is known. If it is not stored, the instance ends, and is started again: returns False."""
+    def is_known():
+        way = Exchange(door)
+        try:
+            return way.ask(call)[0] != 503
+        except OSError:
+            return door.process.poll() is not None
+        finally:
+            way.close()
+    until(is_known, lambda: f"{door.name} does not settle its batch: {door.lines[-5:]}")
+    if door.process.poll() is None:
+        return True
+    ended = door.end()
+    assert ended == (1, UNMADE), ended
+    door.start()
+    return False
+
+
+def alarm(pool):
+    """During an alarm of etcd reads are answered, and changes are not. A change whose outcome is unknown is not made once it has ended."""
+    door, other = pool.doors[:2]
+    create(door, put(90))
+    pool.cluster.ask(0, "/v3/maintenance/alarm", {"action": "ACTIVATE", "memberID": "1", "alarm": "NOSPACE"})
+    way = Exchange(door)
+    assert way.ask(put(91)) == wire.UNKNOWN
+    for it in pool.doors:
+        assert [answer(it, get(index))[0] for index in (90, 91)] == [200, 404], it.name
+    # it waits behind the open batch, and is never made
+    assert way.ask(put(92)) == wire.UNREACHABLE
+    way.close()
+    pool.cluster.control("alarm", "disarm")
+    assert not settled(door, put(93)), "the open batch was stored"
+    pool.ready()
+    create(door, put(94))
+    for it in (door, other):
+        assert [answer(it, get(index))[0] for index in (90, 91, 92, 94)] == [200, 404, 404, 200], it.name
 
 
 def second_process(pool):
@@ -396,6 +435,7 @@ CASES = {
     "killed leader": with_pool(killed_leader),
     "frozen instance": with_pool(frozen_instance),
     "without majority": with_pool(without_majority),
+    "alarm": with_pool(alarm),
     "second process": with_pool(second_process),
     "other salt": with_pool(other_salt),
     "token reload": with_pool(token_reload),

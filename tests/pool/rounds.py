@@ -147,9 +147,13 @@ class Rounds:
     # ---- a round
 
     def reads(self, site):
-        """Returns whether an instance answers a read by the log. Fails if its process has ended."""
+        """Returns whether an instance answers a read by the log. Starts it again, as systemd does, if a batch was not stored in time.
+        Fails if its process has ended otherwise."""
         if site.instance.poll() is not None:
-            raise Failed(f"{site.name} has ended: {site.instance.returncode}")
+            if not any("dss: pool: unmade: " in it for it in site.said(1)):
+                raise Failed(f"{site.name} has ended: {site.instance.returncode}")
+            site.start_instance()
+            return False
         way = Exchange(site, LIMIT)
         try:
             return way.ask(READ)[0] == 200

@@ -504,6 +504,73 @@ def refused_puts():
         same(["t0", "t1"], one.texts(), "entries")
 
 
+def puts_of(fake, number):
+    """The values that a process has put, in the order of the requests."""
+    values = [plain(body["success"][0]["request_put"]["value"]) for kind, body in list(fake.requests) if kind == "put"]
+    return [it for it in values if it.split(maxsplit=1)[0] == str(number).encode()]
+
+
+# Longer than a batch may be open, in milliseconds, with a request that has begun before.
+OPEN = 13_000
+
+
+def batches_that_end():
+    """A batch is open when puts fail, as after an alarm. Its writer puts a fence in its place: it is not made once the alarm has ended."""
+    fake = Fake()
+    one, two = Instance(fake.addresses(), "a"), Instance(fake.addresses(), "b")
+    offer_all(one, fake, 1)
+    two.until_fenced()
+    # a member took the put, and makes it when it goes on
+    fake.plan("put", "held")
+    one.offer("late")
+    one.begin("wait 1000")
+    assert fake.held.wait(LIMIT), "the put does not come"
+    with fake.lock:
+        fake.refused.add("put")
+    one.say("end")
+    one.wait(OPEN)
+    puts = puts_of(fake, one.number)
+    last = max(at for at, it in enumerate(puts) if it.endswith(b"\nlate"))
+    same({one.fence()}, set(puts[last + 1:]), "puts behind the last one of the batch")
+    same([None, ["end 1 1"]], [one.lost(), ends_of(one)], "the loss and the end while the batch is open")
+    with fake.lock:
+        fake.refused.clear()
+    same("unmade", one.until_lost(), "the log of the writer")
+    fake.released.set()
+    assert fake.answered.wait(LIMIT), "the put is not answered"
+    again = Instance(fake.addresses(), "a")
+    again.offer("new")
+    again.settle()
+    for it in (two, again):
+        it.say("end")
+        it.settle()
+        same([["t0", "new"], None], [[text for _, text in it.until(2)], it.lost()], f"what {it.name} was given")
+        it.close()
+    same(2, fake.entries().count(one.fence()), "fences of the first process")
+
+
+def batches_that_were_made():
+    """A batch was made, and no answer comes for longer than it may be open. The fence finds it, and its writer goes on."""
+    fake = Fake()
+    one = Instance(fake.addresses(), "a")
+    offer_all(one, fake, 1)
+    fake.plan("put", "503 after")
+    one.offer("made")
+    one.until_fault("status 503")
+    with fake.lock:
+        fake.refused.add("put")
+    one.wait(OPEN)
+    same(one.fence(), puts_of(fake, one.number)[-1], "the last put")
+    with fake.lock:
+        fake.refused.clear()
+    one.settle()
+    one.offer("next")
+    one.settle()
+    same(["t0", "made", "next"], one.until(3) and one.texts(), "entries")
+    same([None, 1], [one.lost(), fake.entries().count(one.fence())], "the loss, and the fences")
+    one.close()
+
+
 def starts_in_the_middle():
     fake = Fake()
     one = Instance(fake.addresses(), "a")
@@ -764,7 +831,8 @@ def cases(seeds=6):
     found = {it.__name__: it for it in (
         batches_in_order, bodies_of_requests, fences_that_are_lost, puts_that_come_late, two_processes_of_one_name, several_names,
         ends_after_entries, other_keys, numbers_of_others, other_settings, settings_of_the_first_fence, settings_behind_a_revision, known_settings, deleted_keys, deleted_last, deleted_lists, nothing_after_a_loss, no_changes_left_out,
-        counts_behind_a_revision, no_end_before_the_fence, refused_puts, starts_in_the_middle, removed_beginnings, shortened_logs, tokens,
+        counts_behind_a_revision, no_end_before_the_fence, refused_puts, batches_that_end, batches_that_were_made, starts_in_the_middle,
+        removed_beginnings, shortened_logs, tokens,
         endpoints_in_turn, long_batches, supplier_lists, lists_behind_a_revision, lists_that_are_gone, own_entries_that_do_not_count,
     )}
     for words in GAPS:

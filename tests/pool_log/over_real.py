@@ -7,7 +7,7 @@ import urllib.error
 
 from fake_etcd import Fake, coded
 from instances import LIMIT, Instance
-from over_fake import BEFORE, BEHIND, GIVEN, LIST, entry, put_all, same, texts
+from over_fake import BEFORE, BEHIND, GIVEN, LIST, OPEN, entry, put_all, same, texts
 from real_etcd import Cluster
 
 
@@ -233,6 +233,29 @@ def ranges_of_the_fake(room):
     cluster.close()
 
 
+def alarms(room):
+    """A batch that is open for too long because of an alarm is not made once the alarm has ended."""
+    cluster = Cluster(room)
+    one = Instance(cluster.addresses(), "a")
+    one.offer("x")
+    one.settle()
+    cluster.ask(0, "/v3/maintenance/alarm", {"action": "ACTIVATE", "memberID": "1", "alarm": "NOSPACE"})
+    one.offer("late")
+    one.say("end")
+    one.wait(OPEN)
+    same([None, ["end 1 1"]], [one.lost(), [it for it in one.lines if it.startswith("end ")]], "the loss and the end during the alarm")
+    cluster.control("alarm", "disarm")
+    same("unmade", one.until_lost(), "the log of the writer")
+    two = Instance(cluster.addresses(), "a")
+    two.offer("y")
+    two.settle()
+    two.say("end")
+    two.settle()
+    same(["x", "y"], [it[1] for it in two.until(2)], "entries")
+    two.close()
+    cluster.close()
+
+
 def leaders_that_fail(room):
     """Three instances go on while leaders are killed and frozen. Each batch is in the log once, in order."""
     draw = random.Random(int(os.environ.get("SEED", "1")))
@@ -272,5 +295,6 @@ def leaders_that_fail(room):
 def cases():
     """All cases, by name. Each is given a folder of its own."""
     return {f"etcd: {it.__name__}": it for it in (
-        one_member, restarts, compaction_and_deletion, leases, users, other_settings, supplier_lists, ranges_of_the_fake, leaders_that_fail,
+        one_member, restarts, compaction_and_deletion, leases, users, other_settings, supplier_lists, ranges_of_the_fake, alarms,
+        leaders_that_fail,
     )}

@@ -24,6 +24,7 @@ fn fault_of(loss: Loss) -> Fault {
         Loss::Shortened => PoolFault::Shortened,
         Loss::Settings => PoolFault::Settings,
         Loss::Suppliers => PoolFault::Suppliers,
+        Loss::Unmade => PoolFault::Unmade,
     })
 }
 

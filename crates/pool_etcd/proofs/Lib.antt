@@ -1,5 +1,6 @@
 pub mod Admissions
 pub mod Countings
+pub mod Fences
 pub mod FirstLines
 pub mod Followings
 pub mod Fronts

@@ -2,11 +2,11 @@
 use Rattle.std.specs.Prelude.{◌≡◌, ◌≢◌, ℕ, ◌<◌, List, [], ◌∷◌, ◌++◌, Bool, true, false, if◌then◌else◌, Option, Some, None, ◌⊎◌}
 use Rattle.pool_etcd.specs.declared.own_entries.OwnEntries.{OwnEntries}
 use Rattle.pool_etcd.specs.declared.own_entries.OwnState.{OwnState}
-use Rattle.pool_etcd.specs.declared.own_entries.OwnState.TheVariants.{Unknown}
+use Rattle.pool_etcd.specs.declared.own_entries.OwnState.TheVariants.{Unknown, Unmade}
 use Rattle.pool_etcd.specs.declared.response.PutOutcome.{PutOutcome}
 use Rattle.pool_etcd.specs.declared.response.PutOutcome.TheVariants.{Stored, Refused}
 use Rattle.pool_etcd.specs.declared.response.StoredValue.{StoredValue}
-use Rattle.pool_etcd.specs.OwnEntries.{Put, Takes, after_outcome, after_revision, due_of}
+use Rattle.pool_etcd.specs.OwnEntries.{Put, Takes, after_outcome, after_revision, after_settle, due_of}
 
 -- A write of the key. A list of writes begins with the last one.
 pub record Write : Type 0 where
@@ -58,6 +58,8 @@ IsAnswer k put (Refused found) =
 pub data KeyEvent : Type 0 where
   -- The process takes the next value.
   Takes_value : (value : List ℕ) → KeyEvent
+  -- It puts its fence in place of that value from now on, to settle the outcome.
+  Settles : KeyEvent
   -- It sends the put that is due, again or for the first time.
   Sends : (put : Put) → KeyEvent
   -- etcd makes a put that was sent at any time before, since the last write is at its revision.
@@ -75,6 +77,8 @@ abbrev pub Leads : (List ℕ → Bool) → KeyState → KeyEvent → KeyState �
 Leads mine k (Takes_value value) n =
     (next : OwnState) × (mine value ≡ true) × Takes k.own.state next
     × (n ≡ record k { own = record k.own { state = next; value = value }; taken = value ∷ k.taken })
+Leads mine k Settles n =
+    n ≡ record k { own = record k.own { state = after_settle k.own.state } }
 Leads mine k (Sends put) n =
     (due_of k.own ≡ Some put)
     × (n ≡ record k { sent = record { put = put; writes = k.writes } ∷ k.sent })
@@ -126,3 +130,26 @@ EachValueOnce =
     (mine : List ℕ → Bool) (start end : KeyState) (events : List KeyEvent)
     → IsStart mine start → Run mine start events end
     → IsAllOrAllButLast (own_values mine end.writes) end.taken
+
+-- Once the fence of a process is stored, an entry that it offered before stands before the fence, or
+-- never in the log: whatever happens later, the entries behind the fence are values that the process
+-- has taken after it, in order, each once, or all but the last one.
+abbrev pub FenceSettles : Type 0
+FenceSettles =
+    (mine : List ℕ → Bool) (start before fenced end : KeyState) (first later : List KeyEvent)
+    (sent : SentPut) (revision : ℕ)
+    → IsStart mine start → Run mine start first before → sent.put.value ≡ start.own.fence
+    → Leads mine before (Stores sent revision) fenced → Run mine fenced later end
+    → (writes : List Write) × (taken : List (List ℕ))
+    × (end.writes ≡ writes ++ fenced.writes) × (end.taken ≡ taken ++ fenced.taken)
+    × IsAllOrAllButLast (own_values mine writes) taken
+
+-- If a process has learned that its fence is stored in place of a value, that value is the last one
+-- that it has taken, and the only one that is not written, whatever happens later.
+abbrev pub UnmadeIsFinal : Type 0
+UnmadeIsFinal =
+    (mine : List ℕ → Bool) (start known end : KeyState) (first later : List KeyEvent)
+    (revision : ℕ)
+    → IsStart mine start → Run mine start first known → known.own.state ≡ Unmade revision
+    → Run mine known later end
+    → (last : List ℕ) × (end.taken ≡ last ∷ own_values mine end.writes)

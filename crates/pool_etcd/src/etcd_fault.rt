@@ -91,6 +91,8 @@ pub enum Loss {
     Settings,
     /// The supplier list does not admit an entry of this process.
     Suppliers,
+    /// A batch of this process was not stored in time. Its fence is in its place, so it never is.
+    Unmade,
 }
 
 impl Loss {
@@ -103,6 +105,7 @@ impl Loss {
             Loss::Shortened => "shortened",
             Loss::Settings => "settings",
             Loss::Suppliers => "suppliers",
+            Loss::Unmade => "unmade",
         }
     }
 }

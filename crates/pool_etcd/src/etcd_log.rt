@@ -5,13 +5,14 @@ use crate::following::Following;
 use crate::lane::Endpoint;
 use crate::log_value::{entry_value, fence_value};
 use crate::names::key_of;
-use crate::own_entries::{NotTaken, OwnEntries, OwnState};
+use crate::own_entries::{NotTaken, OwnEntries};
 use crate::own_fence::OwnFence;
 use crate::payload::Payload;
 use crate::questions::Questions;
 use crate::request_lane::RequestLane;
 use crate::response::RevisionFault;
 use crate::settings::{EtcdSettings, User};
+use crate::times::{SETTLE_AFTER, later};
 use crate::watch_lane::WatchLane;
 use crate::writer::writer_of;
 use mio::{Registry, Token};
@@ -40,6 +41,8 @@ pub(crate) struct LogState {
     // The token of the user, if etcd has given one.
     pub(crate) token: Option<Payload>,
     pub(crate) own: OwnEntries,
+    // When the last batch was offered to etcd.
+    pub(crate) offered: Duration,
     pub(crate) following: Following,
     pub(crate) questions: Questions,
     // True once the supplier list at the start is known.
@@ -106,6 +109,14 @@ impl LogState {
     /// given the own fence. So nothing is at its end before the fence was stored and read back.
     pub(crate) fn may_end(&self) -> bool {
         self.is_agreed() && self.is_read
+    }
+
+    /// Lets the fence settle the outcome of the batch that is open, if its time is over. No response
+    /// to a put is awaited.
+    pub(crate) fn settle_in_time(&mut self, now: Duration) {
+        if now >= later(self.offered, SETTLE_AFTER) {
+            self.own.settle();
+        }
     }
 
     // Records whether the watch has given the own fence.
@@ -192,6 +203,7 @@ impl EtcdLog {
             user: settings.user,
             token: None,
             own: OwnEntries::new(fence, Payload::from_vec(Vec::new(alloc))),
+            offered: Duration::ZERO,
             following,
             questions: Questions::new(),
             has_list: settings.revision == 0,
@@ -219,7 +231,7 @@ impl EtcdLog {
     pub fn advance(&mut self, net: &impl Net, registry: &Registry, now: Duration) -> Duration
         ensures { self.new.number ≡ self.old.number }
     {
-        self.offer_next();
+        self.offer_next(now);
         if self.state.loss.is_none() {
             if let Err(fault) = self.requests.advance(net, registry, &mut self.state, now) {
                 let address = self.requests.address(&self.state);
@@ -252,13 +264,14 @@ impl EtcdLog {
     }
 
     // Offers the next batch, if it may be sent.
-    fn offer_next(&mut self)
+    fn offer_next(&mut self, now: Duration)
         ensures { self.new.number ≡ self.old.number }
     {
         if self.state.may_offer()
             && let Some(value) = self.queue.pop_front()
         {
             let _ = self.state.own.offer(value);
+            self.state.offered = now;
         }
     }
 
@@ -296,9 +309,9 @@ impl EtcdLog {
 
     /// Returns the number of batches without an outcome.
     pub fn open_batches(&self) -> usize {
-        match self.state.own.state {
-            OwnState::Sending(_) => self.queue.len().saturating_add(1),
-            _ => self.queue.len(),
+        match self.state.own.open_revision() {
+            Some(_) => self.queue.len().saturating_add(1),
+            None => self.queue.len(),
         }
     }
 }

@@ -2,7 +2,7 @@
 ghost use Rattle.pool_etcd.specs.Admitted.{AdmittedCallsAreAssigned, WithoutListAllAreAdmitted};
 ghost use Rattle.pool_etcd.specs.Following.{ChangesAreNext, FirstFenceDecides, KnownSettingsDecide};
 ghost use Rattle.pool_etcd.specs.Lives.{PutsAreConsecutive};
-ghost use Rattle.pool_etcd.specs.OneKey.{EachValueOnce};
+ghost use Rattle.pool_etcd.specs.OneKey.{EachValueOnce, FenceSettles, UnmadeIsFinal};
 ghost use Rattle.pool_etcd.specs.Value.{OneValue};
 
 use pool_entry::laws::callers_are_suppliers;
@@ -16,6 +16,21 @@ use pool_entry::laws::callers_are_suppliers;
 /// true, and that nobody else writes the values of the process.
 pub fn each_value_once()
     ensures { EachValueOnce }
+{}
+
+/// States that the entries behind a fence of a process are values that it has taken after the fence
+/// was stored, in order, each once, or all but the last one.
+///
+/// So an entry that it offered before the fence stands before it, or never in the log. The same is
+/// assumed as in `each_value_once`.
+pub fn fence_settles()
+    ensures { FenceSettles }
+{}
+
+/// States that if a process has learned that its fence is stored in place of a value, this value is
+/// the last one that it has taken, and the only one that is not written, whatever happens later.
+pub fn unmade_is_final()
+    ensures { UnmadeIsFinal }
 {}
 
 /// States that the value of a key is the supplier list, an entry, a fence or none of these, in one

@@ -1,10 +1,11 @@
 //! The entries of this instance on their way to etcd.
 ghost use Rattle.std.specs.Prelude.{◌≡◌, ◌↔◌, IsTrue, IsOk, OnOk, OnErr, option_map};
-ghost use Rattle.pool_etcd.specs.OwnEntries.{IsIdle, Takes, after_outcome, after_revision, due_of, loss_of, put_of, stored_at};
+ghost use Rattle.pool_etcd.specs.OwnEntries.{IsIdle, Takes, after_outcome, after_revision, after_settle, due_of};
+ghost use Rattle.pool_etcd.specs.OwnEntries.{loss_after, loss_by, loss_of, open_in, put_of, settled_in, stored_at};
 
 use crate::etcd_fault::Loss;
 use crate::payload::Payload;
-use crate::response::{PutOutcome, PutResponse};
+use crate::response::{PutOutcome, PutResponse, StoredValue};
 
 /// The state of the own key, as far as it is known.
 #[derive(Clone, Copy, Debug, PartialEq, Eq)]
@@ -17,6 +18,11 @@ pub enum OwnState {
     Idle(u64),
     /// Its last change was the own one at this revision. A value is on its way.
     Sending(u64),
+    /// Its last change was the own one at this revision, or the value that was on its way. The fence
+    /// is on its way, in place of that value.
+    Settling(u64),
+    /// The fence was stored at this revision, in place of a value, which never will be.
+    Unmade(u64),
     /// Another process writes under the key.
     Lost,
 }
@@ -34,7 +40,7 @@ pub struct DuePut<'a> {
 pub enum NotTaken {
     /// The outcome of the value before is not known, or the fence has not been put.
     Busy,
-    /// Another process writes under the key.
+    /// Another process writes under the key, or the value before was not stored in time.
     Lost,
 }
 
@@ -65,10 +71,38 @@ fn stored_at(value: &[u8], outcome: &PutOutcome) -> Option<u64>
     }
 }
 
-/// Returns why the log is lost if a put was refused whose key had its last own change at this
-/// revision: another process wrote after it, the key was deleted, or etcd has lost that change.
-pub fn loss_of(revision: u64, response: &PutResponse) -> Option<Loss>
-    ensures { result ≡ loss_of revision response.now.store response.now.outcome }
+// Returns the state once the fence that settles the outcome of a value was stored or refused. The
+// last own change before the value is at this revision.
+fn settled(revision: u64, value: &[u8], outcome: &PutOutcome) -> OwnState
+    ensures { result ≡ settled_in revision value.now outcome.now }
+{
+    match outcome {
+        PutOutcome::Stored(place) => OwnState::Unmade(*place),
+        PutOutcome::Refused(_) => match stored_at(value, outcome) {
+            Some(stored) if revision < stored => OwnState::Idle(stored),
+            _ => OwnState::Lost,
+        },
+    }
+}
+
+// Returns why the log is lost if the key has this value in place of the last own one.
+fn loss_by(revision: u64, fence: &[u8], other: &StoredValue) -> Loss
+    ensures { result ≡ loss_by revision fence.now other.now }
+{
+    if revision >= other.revision {
+        Loss::Shortened
+    } else if other.value.bytes() == fence {
+        Loss::Unmade
+    } else {
+        Loss::Replaced
+    }
+}
+
+// Returns why the log is lost if a put was refused whose key had its last own change at this
+// revision: the own fence was stored in place of a value, another process wrote, the key was
+// deleted, or etcd has lost that change.
+fn loss_of(revision: u64, fence: &[u8], response: &PutResponse) -> Option<Loss>
+    ensures { result ≡ loss_of revision fence.now response.now.store response.now.outcome }
 {
     match &response.outcome {
         PutOutcome::Stored(_) => None,
@@ -77,11 +111,7 @@ pub fn loss_of(revision: u64, response: &PutResponse) -> Option<Loss>
         } else {
             Loss::Deleted
         }),
-        PutOutcome::Refused(Some(other)) => Some(if revision < other.revision {
-            Loss::Replaced
-        } else {
-            Loss::Shortened
-        }),
+        PutOutcome::Refused(Some(other)) => Some(loss_by(revision, fence, other)),
     }
 }
 
@@ -112,6 +142,17 @@ impl OwnEntries {
         matches!(self.state, OwnState::Idle(_))
     }
 
+    /// Returns the revision of the last own change before a value whose outcome is open.
+    pub fn open_revision(&self) -> Option<u64>
+        ensures { result ≡ open_in self.now.state }
+    {
+        match self.state {
+            OwnState::Sending(revision) => Some(revision),
+            OwnState::Settling(revision) => Some(revision),
+            _ => None,
+        }
+    }
+
     /// Returns the put that is due. It stays the same until its outcome is known.
     pub fn due(&self) -> Option<DuePut<'_>>
         ensures { option_map put_of result ≡ due_of self.now }
@@ -127,6 +168,11 @@ impl OwnEntries {
                 value: self.value.bytes(),
                 revision,
             }),
+            OwnState::Settling(revision) => Some(DuePut {
+                value: self.fence.bytes(),
+                revision,
+            }),
+            OwnState::Unmade(_) => None,
             OwnState::Lost => None,
         }
     }
@@ -146,9 +192,23 @@ impl OwnEntries {
                 Ok(())
             }
             OwnState::Lost => Err(NotTaken::Lost),
+            OwnState::Unmade(_) => Err(NotTaken::Lost),
             OwnState::Unknown => Err(NotTaken::Busy),
             OwnState::Fencing(_) => Err(NotTaken::Busy),
             OwnState::Sending(_) => Err(NotTaken::Busy),
+            OwnState::Settling(_) => Err(NotTaken::Busy),
+        }
+    }
+
+    /// Puts the fence in place of the value that is on its way, if there is one, to settle its
+    /// outcome. The value is not put again.
+    ///
+    /// Call it only if no response to a put is awaited.
+    pub fn settle(&mut self)
+        ensures { self.new ≡ record self.old { state = after_settle self.old.state } }
+    {
+        if let OwnState::Sending(revision) = self.state {
+            self.state = OwnState::Settling(revision);
         }
     }
 
@@ -161,8 +221,24 @@ impl OwnEntries {
         }
     }
 
-    /// Learns the outcome of the put that is due.
-    pub fn learn_outcome(&mut self, outcome: &PutOutcome)
+    /// Learns the outcome of the put that is due. Returns why the log is lost for the process, if a
+    /// value is open that is not stored and cannot be any more.
+    pub fn learn_put(&mut self, response: &PutResponse) -> Option<Loss>
+        ensures state { self.new
+            ≡ record self.old { state = after_outcome self.old response.now.outcome } }
+        ensures loss { result ≡ loss_after self.old response.now }
+    {
+        let before = self.open_revision();
+        self.learn_outcome(&response.outcome);
+        match (before, self.state) {
+            (Some(revision), OwnState::Lost) => loss_of(revision, self.fence.bytes(), response),
+            (Some(_), OwnState::Unmade(_)) => Some(Loss::Unmade),
+            _ => None,
+        }
+    }
+
+    // Learns the outcome of the put that is due.
+    fn learn_outcome(&mut self, outcome: &PutOutcome)
         ensures { self.new ≡ record self.old { state = after_outcome self.old outcome.now } }
     {
         let stored = match self.due() {
@@ -174,6 +250,7 @@ impl OwnEntries {
             (OwnState::Sending(_), None) => OwnState::Lost,
             (OwnState::Fencing(_), Some(revision)) => OwnState::Idle(revision),
             (OwnState::Sending(_), Some(revision)) => OwnState::Idle(revision),
+            (OwnState::Settling(revision), _) => settled(revision, self.value.bytes(), outcome),
             (state, _) => state,
         };
     }

@@ -4,13 +4,12 @@ use crate::etcd_fault::{EtcdFault, Loss};
 use crate::etcd_log::LogState;
 use crate::exchange::{Request, Step};
 use crate::lane::Lane;
-use crate::own_entries::{OwnState, loss_of};
 use crate::request::{
     PUT_PATH, RANGE_PATH, TOKEN_PATH, counts_body, end_body, list_body, own_body, put_body,
     token_body,
 };
 use crate::response::{
-    PutResponse, StoreEnd, read_counts, read_end, read_put, read_range, read_revision_fault,
+    StoreEnd, read_counts, read_end, read_put, read_range, read_revision_fault,
     read_token, read_value,
 };
 use crate::response_fault::ResponseFault;
@@ -112,6 +111,7 @@ impl RequestLane {
             return Err(EtcdFault::TimeLimit);
         }
         if self.pending.is_none() && state.loss.is_none() {
+            state.settle_in_time(now);
             self.begin_next(net, registry, state, now)?;
         }
         Ok(())
@@ -300,20 +300,14 @@ fn learn(
             state.own.learn_revision(revision);
         }
         Kind::End => learn_end(state, read_end(state.alloc, body)?, reached, now),
-        Kind::Put => learn_put(state, &read_put(state.alloc, body)?),
+        Kind::Put => {
+            let response = read_put(state.alloc, body)?;
+            if let Some(loss) = state.own.learn_put(&response) {
+                state.loss = Some(loss);
+            }
+        }
     }
     Ok(())
-}
-
-// Takes the outcome of a put. If it was refused, and no fence, the log is lost.
-fn learn_put(state: &mut LogState, response: &PutResponse) {
-    let before = state.own.state;
-    state.own.learn_outcome(&response.outcome);
-    if let OwnState::Sending(revision) = before
-        && state.own.state == OwnState::Lost
-    {
-        state.loss = loss_of(revision, response);
-    }
 }
 
 // Takes what a response with another status than 200 says: that etcd has no keys of the revision at
