@@ -164,47 +164,65 @@ StaysStuck mine r v k n = Stuck mine r v n × (n.taken ≡ k.taken)
 stuck_step : (mine : List ℕ → Bool) (r : ℕ) (v : List ℕ) (k n : KeyState) (e : KeyEvent) → Stuck mine r v k → Leads mine k e n → StaysStuck mine r v k n
 stuck_step mine r v k n (Takes_value u) h l = absurd (takes_none r v k.own.state l.0 k.own.value h.state l.2)
 stuck_step mine r v k n Settles h l =
-    subst (λ (x : KeyState). StaysStuck mine r v k x) (sym l) (record {
-      fence = h.fence;
-      order = h.order;
-      state = stuck_settles r v k.own.state k.own.value h.state;
-      over = h.over;
-    }, refl)
+    subst (λ (x : KeyState). StaysStuck mine r v k x) (sym l) (
+      record {
+        fence = h.fence;
+        order = h.order;
+        state = stuck_settles r v k.own.state k.own.value h.state;
+        over = h.over;
+      },
+      refl,
+    )
 stuck_step mine r v k n (Sends put) h l =
-    subst (λ (x : KeyState). StaysStuck mine r v k x) (sym l.1) (record {
-      fence = h.fence;
-      order = h.order;
-      state = h.state;
-      over = sends_low mine r v k.own.state k.own.fence k.own.value k.sent k.writes k.taken put h.fence h.state l.0 h.over;
-    }, refl)
+    subst (λ (x : KeyState). StaysStuck mine r v k x) (sym l.1) (
+      record {
+        fence = h.fence;
+        order = h.order;
+        state = h.state;
+        over = sends_low mine r v k.own.state k.own.fence k.own.value k.sent k.writes k.taken put h.fence h.state l.0 h.over;
+      },
+      refl,
+    )
 stuck_step mine r v k n (Stores s q) h l =
-    subst (λ (x : KeyState). StaysStuck mine r v k x) (sym l.3) (record {
-      fence = h.fence;
-      order = (l.2, h.order);
-      state = h.state;
-      over = over_stores mine r v k.sent k.writes k.taken s q (mine s.put.value) refl l.0 l.1 l.2 h.over;
-    }, refl)
+    subst (λ (x : KeyState). StaysStuck mine r v k x) (sym l.3) (
+      record {
+        fence = h.fence;
+        order = (l.2, h.order);
+        state = h.state;
+        over = over_stores mine r v k.sent k.writes k.taken s q (mine s.put.value) refl l.0 l.1 l.2 h.over;
+      },
+      refl,
+    )
 stuck_step mine r v k n (Other w) h l =
-    subst (λ (x : KeyState). StaysStuck mine r v k x) (sym l.2) (record {
-      fence = h.fence;
-      order = (l.1, h.order);
-      state = h.state;
-      over = over_more mine r v k.sent k.writes k.taken w l.0 l.1 h.over;
-    }, refl)
+    subst (λ (x : KeyState). StaysStuck mine r v k x) (sym l.2) (
+      record {
+        fence = h.fence;
+        order = (l.1, h.order);
+        state = h.state;
+        over = over_more mine r v k.sent k.writes k.taken w l.0 l.1 h.over;
+      },
+      refl,
+    )
 stuck_step mine r v k n (Learns_revision q) h l =
-    subst (λ (x : KeyState). StaysStuck mine r v k x) (sym l) (record {
-      fence = h.fence;
-      order = h.order;
-      state = stuck_revision r v k.own.state k.own.value q h.state;
-      over = h.over;
-    }, refl)
+    subst (λ (x : KeyState). StaysStuck mine r v k x) (sym l) (
+      record {
+        fence = h.fence;
+        order = h.order;
+        state = stuck_revision r v k.own.state k.own.value q h.state;
+        over = h.over;
+      },
+      refl,
+    )
 stuck_step mine r v k n (Learns_outcome put o) h l =
-    subst (λ (x : KeyState). StaysStuck mine r v k x) (sym l.2) (record {
-      fence = h.fence;
-      order = h.order;
-      state = stuck_learns mine r v k k.own.state k.own.fence k.own.value put o h.order h.state l.0 l.1 h.over;
-      over = h.over;
-    }, refl)
+    subst (λ (x : KeyState). StaysStuck mine r v k x) (sym l.2) (
+      record {
+        fence = h.fence;
+        order = h.order;
+        state = stuck_learns mine r v k k.own.state k.own.fence k.own.value put o h.order h.state l.0 l.1 h.over;
+        over = h.over;
+      },
+      refl,
+    )
 
 stuck_run : (mine : List ℕ → Bool) (r : ℕ) (v : List ℕ) (k n : KeyState) (es : List KeyEvent) → Stuck mine r v k → Run mine k es n → StaysStuck mine r v k n
 stuck_run mine r v k n [] h run = (subst (λ (x : KeyState). Stuck mine r v x) (sym run) h, ap (λ (x : KeyState). x.taken) run)
@@ -271,12 +289,17 @@ open_at_fence mine r v st value sent writes taken w other low is p = by p.stored
     by : NotYet mine r v writes taken ⊎ Done mine r writes taken → AtFence mine st value sent (w ∷ writes) taken
     by (inl n) =
         let reach : r ≤ last_revision writes = p.reached in
-        inr (r, v, is, record {
-          puts = p.puts;
-          past = omega arith;
-          is_mine = p.is_mine;
-          yet = not_yet_more mine r v writes taken w other n;
-        })
+        inr (
+          r,
+          v,
+          is,
+          record {
+            puts = p.puts;
+            past = omega arith;
+            is_mine = p.is_mine;
+            yet = not_yet_more mine r v writes taken w other n;
+          },
+        )
     by (inr d) = inl (d.all ∙ same_values mine writes w other)
 
 at_fence : (mine : List ℕ → Bool) (st : OwnState) (value : List ℕ) (sent : List SentPut) (writes : List Write) (taken : List (List ℕ)) (w : Write)
@@ -302,7 +325,7 @@ behind_stuck mine r v k n es h run =
     let now : n.taken ≡ v ∷ own_values mine n.writes = kept.0.over.yet.but_last in
     let before : k.taken ≡ v ∷ own_values mine k.writes = h.over.yet.but_last in
     let values : own_values mine n.writes ≡ own_values mine g.writes ++ own_values mine k.writes =
-        ap (own_values mine) g.written ∙ values_append mine g.writes k.writes in
+    ap (own_values mine) g.written ∙ values_append mine g.writes k.writes in
     let same : v ∷ own_values mine k.writes ≡ v ∷ own_values mine n.writes = sym before ∙ sym kept.1 ∙ now in
     let tail : own_values mine k.writes ≡ own_values mine n.writes = cc in
     let none : [] ≡ own_values mine g.writes = append_cancel_right [] (own_values mine g.writes) (own_values mine k.writes) (tail ∙ values) in
@@ -323,8 +346,11 @@ behind_all mine k n es all h run = (g.writes, g.taken, g.written, g.given, by (r
     by : IsAllOrAllButLast (own_values mine n.writes) n.taken → IsAllOrAllButLast (own_values mine g.writes) g.taken
     by (inl e) = inl (append_cancel_right g.taken (own_values mine g.writes) (own_values mine k.writes) (sym given ∙ e ∙ values))
     by (inr e) =
-        inr (e.0, append_cancel_right g.taken (e.0 ∷ own_values mine g.writes) (own_values mine k.writes)
-        (sym given ∙ e.1 ∙ ap (λ (vs : List (List ℕ)). e.0 ∷ vs) values))
+        inr (
+          e.0,
+          append_cancel_right g.taken (e.0 ∷ own_values mine g.writes) (own_values mine k.writes)
+              (sym given ∙ e.1 ∙ ap (λ (vs : List (List ℕ)). e.0 ∷ vs) values),
+        )
 
 behind_fence : (mine : List ℕ → Bool) (k n : KeyState) (es : List KeyEvent) → Keeps mine k → AtFence mine k.own.state k.own.value k.sent k.writes k.taken
     → Run mine k es n → Behind mine k n
@@ -338,7 +364,7 @@ fence_settles mine start before fenced end first later sent q h run is_fence l r
     let here = one_step mine before fenced (Stores sent q) kept l in
     let other : mine sent.put.value ≡ false = ap mine is_fence ∙ h.fence in
     let at =
-        at_fence mine before.own.state before.own.value before.sent before.writes before.taken (record { revision = q; value = sent.put.value })
-        other l.2 kept.phase in
+    at_fence mine before.own.state before.own.value before.sent before.writes before.taken (record { revision = q; value = sent.put.value })
+    other l.2 kept.phase in
     behind_fence mine fenced end later here
     (subst (λ (x : KeyState). AtFence mine x.own.state x.own.value x.sent x.writes x.taken) (sym l.3) at) run2

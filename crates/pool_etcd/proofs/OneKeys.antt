@@ -479,7 +479,7 @@ unmade_at mine k r v fence q other order a p = record {
         let is : d.there.0.revision ≡ d.place = d.there.2 in
         let far : r < d.place = d.later_place in
         let down : q ≤ d.there.0.revision =
-            follows_first a.0 (record { revision = q; value = fence }) a.1 r whole a.3 d.there.0 (subst (λ (ys : List Write). Among d.there.0 ys) a.2 d.there.1) (omega arith) in
+        follows_first a.0 (record { revision = q; value = fence }) a.1 r whole a.3 d.there.0 (subst (λ (ys : List Write). Among d.there.0 ys) a.2 d.there.1) (omega arith) in
         let same : q ≡ d.place = omega arith in
         let yes : mine fence ≡ true = d.its (record { revision = q; value = fence }) there same in
         let h : ⊥ = cc in absurd h

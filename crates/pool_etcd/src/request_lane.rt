@@ -9,8 +9,8 @@ use crate::request::{
     token_body,
 };
 use crate::response::{
-    StoreEnd, read_counts, read_end, read_put, read_range, read_revision_fault,
-    read_token, read_value,
+    StoreEnd, read_counts, read_end, read_put, read_range, read_revision_fault, read_token,
+    read_value,
 };
 use crate::response_fault::ResponseFault;
 use crate::times::later;
