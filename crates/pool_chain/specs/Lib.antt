@@ -1,0 +1,4 @@
+pub mod Chain
+pub mod Item
+pub mod Judged
+pub mod Known
