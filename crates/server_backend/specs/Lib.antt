@@ -1,0 +1,4 @@
+pub mod BackendEvent
+pub mod Does
+pub mod Request
+pub mod Told
