@@ -80,8 +80,8 @@ acts_of_batch batch = acts_of_calls batch.calls ++ Commits batch.settled ∷ []
 abbrev pub acts_of_segment : Segment → List Act
 acts_of_segment segment = flat_map acts_of_batch segment.batches ++ Sweeps segment.until ∷ []
 
--- The segments, the batches after them, and the calls after the last commit. They are the acts of the
--- events, cut at commits and purges, and lead from one service to the other.
+-- The segments, the batches after them, and the calls after the last commit. They are the acts of
+-- the events, cut at commits and purges, and lead from one service to the other.
 pub record Cut {S : Type 0} (g : spaces.Ghosts S) (k : commits.Ghosts S) (retention : Option ℕ)
     (events : List BackendEvent) (old new : Service S) : Type 0 where
   pub segments : List Segment
@@ -109,8 +109,8 @@ batches_of cut = cut.batches ++ uncommitted cut.calls ∷ []
 
 -- ---- laws
 
--- States that the events of a database form segments and batches. If no call was made since the last
--- commit, all are in batches.
+-- States that the events of a database form segments and batches. If no call was made since the
+-- last commit, all are in batches.
 abbrev pub EventsFormSegments : {S : Type 0} → spaces.Ghosts S → commits.Ghosts S → Type 0
 EventsFormSegments {S} g k = (events : List BackendEvent) (old new : Database S)
     → DoesAll (StepsAs g k) events old new → IsQuiet old

@@ -49,8 +49,8 @@ retention_of d = d.retention
 abbrev pub plan_of : {S : Type 0} → Database S → PurgePlan
 plan_of d = d.plan
 
--- Holds if no call was made since the last commit, and all drafts have an outcome. Some outcomes may
--- still be given.
+-- Holds if no call was made since the last commit, and all drafts have an outcome. Some outcomes
+-- may still be given.
 pub record IsQuiet {S : Type 0} (d : Database S) : Type 0 where
   pub closed : is_open_in d ≡ false
   pub settled : settled_of d ≡ tickets_of d

@@ -88,8 +88,8 @@ module _ {S : Type 0} (g : spaces.Ghosts S) (k : commits.Ghosts S) where
 
   -- ---- laws
 
-  -- States that over each cut of events, the delivered replies and the durable airspace are those of
-  -- the policy.
+  -- States that over each cut of events, the delivered replies and the durable airspace are those
+  -- of the policy.
   abbrev pub EventsAreThePolicy : Type 0
   EventsAreThePolicy = (retention : Option ℕ) (events : List BackendEvent) (old new : Service S)
       (a : Airspace) (cut : Cut g k retention events old new) → RunsFrom a old new
@@ -104,4 +104,5 @@ module _ {S : Type 0} (g : spaces.Ghosts S) (k : commits.Ghosts S) where
   -- retention, in the order of these times, and none at a time that was held as wrong.
   abbrev pub PurgesArePlausible : Type 0
   PurgesArePlausible = (retention : Option ℕ) (events : List BackendEvent) (old new : Service S)
-      (cut : Cut g k retention events old new) → PurgesAreDue retention (times_of events) cut.segments
+      (cut : Cut g k retention events old new)
+      → PurgesAreDue retention (times_of events) cut.segments

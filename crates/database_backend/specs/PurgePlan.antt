@@ -66,6 +66,8 @@ pub record Ends (due : ℕ) (old new : PurgePlan) (removed : Option ℕ) : Type 
 abbrev pub IsPlanned : Option (Result ℕ PurgeFault) → (now : Duration) → PurgePlan → PurgePlan
     → (removed : Option ℕ) → Type 0
 IsPlanned None now old new removed = Ends (due_of old) old new removed
-IsPlanned (Some (Ok zero)) now old new removed = Ends (a_minute_after (as_nanos now)) old new removed
+IsPlanned (Some (Ok zero)) now old new removed =
+    Ends (a_minute_after (as_nanos now)) old new removed
 IsPlanned (Some (Ok (suc n))) now old new removed = GoesOn (suc n) old new removed
-IsPlanned (Some (Err why)) now old new removed = Ends (a_minute_after (as_nanos now)) old new removed
+IsPlanned (Some (Err why)) now old new removed =
+    Ends (a_minute_after (as_nanos now)) old new removed

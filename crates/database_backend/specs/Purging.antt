@@ -18,9 +18,9 @@ abbrev pub chunk_size : ℕ
 chunk_size = 16
 
 module _ {S : Type 0} (g : spaces.Ghosts S) (k : commits.Ghosts S) where
-  -- Holds if this is the result of a purge chunk: the number of items that it purged, up to a time of
-  -- the clock less the retention in seconds, or why it purged none. If the clock returned no time,
-  -- nothing was purged.
+  -- Holds if this is the result of a purge chunk: the number of items that it purged, up to a time
+  -- of the clock less the retention in seconds, or why it purged none. If the clock returned no
+  -- time, nothing was purged.
   abbrev pub IsChunk : (retention : ℕ) → (moment : Option ℕ) → Result ℕ PurgeFault → Service S
       → Service S → Type 0
   IsChunk retention None (Ok count) old new = ⊥
@@ -39,8 +39,8 @@ module _ {S : Type 0} (g : spaces.Ghosts S) (k : commits.Ghosts S) where
   TellsChunk None moment (Some result) old new = ⊥
   TellsChunk (Some retention) moment (Some result) old new = IsChunk retention moment result old new
 
--- Holds if a chunk is due: there is a retention, no call was made since the last commit, and the plan
--- says so.
+-- Holds if a chunk is due: there is a retention, no call was made since the last commit, and the
+-- plan says so.
 pub record IsChunkDue {S : Type 0} (now : Duration) (d : Database S) : Type 0 where
   pub retains : IsSome (retention_of d)
   pub closed : is_open_in d ≡ false
@@ -51,8 +51,8 @@ abbrev pub IsChunkEarly : {S : Type 0} → (now : Duration) → Database S → T
 IsChunkEarly now d = (is_open_in d ≡ true) ⊎ IsEarly (plan_of d) now
 
 module _ {S : Type 0} (g : spaces.Ghosts S) (k : commits.Ghosts S) where
-  -- Holds if a chunk was purged if one was due and purges were not held, and the next one was planned.
-  -- What a purge removed is reported when it ends.
+  -- Holds if a chunk was purged if one was due and purges were not held, and the next one was
+  -- planned. What a purge removed is reported when it ends.
   pub record MakesProgress (moment : Option ℕ) (held : Bool) (now : Duration) (d d' : Database S)
       (made : Progress) : Type 0 where
     pub store : made.store ≡ option_and_then outcome_of_purge made.purged

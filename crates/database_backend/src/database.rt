@@ -40,13 +40,13 @@ fn reply_to(fault: SpaceFault) -> Reply
 /// The service over a database, and the batch of its calls.
 ///
 /// It makes each call when it receives the request. A reply that depends on pending changes is a
-/// draft until the next commit. Only drafts have tickets, so the tickets of a batch follow each other:
-/// it needs no queue of them.
+/// draft until the next commit. Only drafts have tickets, so the tickets of a batch follow each
+/// other: it needs no queue of them.
 #[derive(Drop)]
 pub struct Database<S: Space> {
     service: Service<S>,
-    // The outcomes of the tickets below `told` were given. Those below `settled` have that of the last
-    // commit. The others are of drafts without a commit.
+    // The outcomes of the tickets below `told` were given. Those below `settled` have that of the
+    // last commit. The others are of drafts without a commit.
     tickets: u64,
     settled: u64,
     told: u64,
@@ -125,7 +125,7 @@ impl<S: PurgeEnded + SnapshotSource + Drop> Backend for Database<S> {
 
     ghost is_over = { λ _. false };
 
-    ghost numbered = { λ old event new. steps_have_numbers S.Space S.GroupCommit.own old event new };
+    ghost numbered = { steps_have_numbers S.Space S.GroupCommit.own };
 
     fn receive(
         &mut self,

@@ -1,7 +1,7 @@
 //! Laws of a database as a backend. Each is the contract of a function that does nothing.
 ghost use Rattle.database_backend.specs.Batches.{EventsFormSegments};
 ghost use Rattle.database_backend.specs.Blind.{PurgeIsBlind, PurgedRunIsBlind};
-ghost use Rattle.database_backend.specs.Delivered.{OutcomesAreDelivered};
+ghost use Rattle.database_backend.specs.Delivered.{OutcomesAreDelivered, RoundsAreTold};
 ghost use Rattle.database_backend.specs.Policy.{EventsAreKnown, EventsAreThePolicy, PurgesArePlausible};
 
 use space_core::group_commit::GroupCommit;
@@ -20,8 +20,14 @@ pub fn outcomes_are_delivered<S: GroupCommit>()
     ensures { OutcomesAreDelivered S.Space S.GroupCommit.own }
 {}
 
-/// States that the delivered replies, and the durable airspace, are those of the policy over what the
-/// purges left.
+/// States that all outcomes are given, and no call is left without a commit, after events that end
+/// the batch and give its outcomes after the last request. So each request has its reply then.
+pub fn rounds_are_told<S: GroupCommit>()
+    ensures { RoundsAreTold S.Space S.GroupCommit.own }
+{}
+
+/// States that the delivered replies, and the durable airspace, are those of the policy over what
+/// the purges left.
 ///
 /// If no reply was `Stopped`, and each call is forward-looking from the purges before it, they are
 /// those of the policy without purges. After events from the empty airspace, each durable entity

@@ -6,9 +6,9 @@ use Rattle.server_backend.specs.declared.outcome.Outcome.{Outcome}
 use Rattle.server_backend.specs.declared.outcome.Received.{Received}
 use Rattle.server_backend.specs.declared.outcome.Received.TheVariants as came
 
--- An event of a backend. It received a request that makes this call, at a time. It ended a batch. It
--- did what was due at a time of the clock, which may be held as wrong. It gave the outcome of the
--- request with this ticket, or had none to give. It announced which request that waited can be
+-- An event of a backend. It received a request that makes this call, at a time. It ended a batch.
+-- It did what was due at a time of the clock, which may be held as wrong. It gave the outcome of
+-- the request with this ticket, or had none to give. It announced which request that waited can be
 -- answered now, if any, and answered one, at a time. It forgot a request, or stopped.
 pub data BackendEvent : Type 0 where
   Receives : (moment : ℕ) → (call : Call) → (received : Received) → BackendEvent
@@ -22,8 +22,8 @@ pub data BackendEvent : Type 0 where
   Stops : BackendEvent
 
 -- Holds if a request that got a ticket has one that no earlier request has: `n` is more than all
--- tickets before the event, and `n'` more than all after it. A request without a ticket can use up a
--- number.
+-- tickets before the event, and `n'` more than all after it. A request without a ticket can use up
+-- a number.
 abbrev pub TakesNumber : ℕ → Received → ℕ → Type 0
 TakesNumber n (came.Answered reply) n' = n ≤ n'
 TakesNumber n (came.Drafted ticket reply) n' = (n ≤ ticket) × (n' ≡ suc ticket)

@@ -7,8 +7,8 @@ use Rattle.server_backend.specs.declared.outcome.Outcome.TheVariants as outcomes
 use Rattle.server_backend.specs.declared.outcome.Received.{Received}
 use Rattle.server_backend.specs.declared.outcome.Received.TheVariants as came
 
--- The reply to a request with this draft, if it has one, given its outcome. It is none if no reply is
--- known.
+-- The reply to a request with this draft, if it has one, given its outcome. It is none if no reply
+-- is known.
 abbrev pub reply_by : (draft : Option Reply) → Outcome → Option Reply
 reply_by draft outcomes.Stands = draft
 reply_by draft (outcomes.Replied reply) = Some reply
@@ -21,8 +21,8 @@ reply_in ticket draft None later = later
 reply_in ticket draft (Some given) later =
     if ticket == given.0 then reply_by draft given.1 else later
 
--- The reply to a request with a ticket, given the events after its receipt: that of the first outcome
--- under its ticket. There is none if no outcome was given.
+-- The reply to a request with a ticket, given the events after its receipt: that of the first
+-- outcome under its ticket. There is none if no outcome was given.
 abbrev pub reply_under : (ticket : ℕ) → (draft : Option Reply) → List BackendEvent → Option Reply
 reply_under ticket draft [] = None
 reply_under ticket draft (event ∷ events) =

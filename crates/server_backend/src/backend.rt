@@ -17,12 +17,12 @@ use wire_route::routes::Routes;
 /// What answers the requests of a server: a database, or an instance of a pool.
 ///
 /// A backend receives requests one after the other. It replies to each at once, or gives a ticket.
-/// It gives the outcome of a request with a ticket later, once. It never blocks, and makes no call of
-/// a client's socket.
+/// It gives the outcome of a request with a ticket later, once. It never blocks, and makes no call
+/// of a client's socket.
 ///
-/// `steps old event new` holds if the event leads from the backend `old` to `new`. Each method is one
-/// event, so the use of a backend is a list of events. What a backend promises about such a list is a
-/// law of the backend.
+/// `steps old event new` holds if the event leads from the backend `old` to `new`. Each method is
+/// one event, so the use of a backend is a list of events. What a backend promises about such a
+/// list is a law of the backend.
 pub trait Backend {
     ghost steps: { Self → BackendEvent → Self → Type 0 };
 

@@ -1,4 +1,4 @@
-//! What the server requires of the part that answers requests: a database, or an instance of a pool.
+//! What the server requires of its backend, which answers requests: a database or an instance
 #![tactic(auto)]
 
 pub mod backend;

@@ -7,8 +7,8 @@ use wire_http::Unavailable;
 pub enum Received {
     /// The request has this reply, which may be sent.
     Answered(Reply),
-    /// The request has this reply if the outcome under this ticket is `Stands`. No byte of it may be
-    /// sent before.
+    /// The request has this reply if the outcome under this ticket is `Stands`. No byte of it may
+    /// be sent before.
     Drafted(u64, Reply),
     /// The request waits for its outcome under this ticket.
     Waits(u64),
