@@ -554,11 +554,13 @@ def batches_that_were_made():
     fake = Fake()
     one = Instance(fake.addresses(), "a")
     offer_all(one, fake, 1)
-    fake.plan("put", "503 after")
+    # The next tries fail, too, until all are refused.
+    fake.plan("put", "503 after", *["503 before"] * 99)
     one.offer("made")
     one.until_fault("status 503")
     with fake.lock:
         fake.refused.add("put")
+        fake.plans["put"].clear()
     one.wait(OPEN)
     same(one.fence(), puts_of(fake, one.number)[-1], "the last put")
     with fake.lock:
