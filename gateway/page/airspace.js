@@ -1,7 +1,6 @@
 // What the page knows: items of the gateway, where they are at a moment, and what meets there.
-import { around, cellsOf, outlineOf } from "./cells.js";
+import { around, cellsOf, commonOf, outlineOf } from "./cells.js";
 
-const MOST_PAIRS = 500, MOST_TRIES = 300000;
 const ALWAYS = 1e15;
 const BINS = 240; // on a side of the plane, by which references are near each other
 let marks = 0; // of the lists of cells that were made
@@ -16,7 +15,7 @@ export class Airspace {
     this.items = new Map();
     this.version = "";
     this.away = new Set();
-    this.serial = 0; // of what is known
+    this.serial = this.taken = 0; // of what is known, and of what is known with what is away
     this.build();
   }
 
@@ -32,6 +31,7 @@ export class Airspace {
     this.away = away;
     const isChanged = data.items.length > 0 || data.gone.length > 0 || data.is_all && before > 0;
     if (isChanged) this.build();
+    if (isChanged || isOther) this.taken++;
     return isChanged || isOther;
   }
 
@@ -90,8 +90,9 @@ export class Airspace {
       this.cells.forEach((it, k) => { this.parent[k] = coarse.get(around(it).find((one) => coarse.has(one))) ?? -1; });
   }
 
-  // Where the references are at a second and an altitude in metres or null: the most urgent reference of each cell, and what is shared.
-  show(at, altitude) {
+  // Where the references are at a second and an altitude in metres or null: the most urgent reference of each cell, and what is
+  // shared. With `fits` by reference only those that fit are seen.
+  show(at, altitude, fits = null) {
     const { top, isSure, count, shared, intents, last, there, active, numbers, from, held, rank, references, parent,
       referenceOf, perhaps, isIntent } = this;
     const height = altitude === null ? null : altitude * 10;
@@ -108,6 +109,7 @@ export class Airspace {
       const reference = referenceOf[v], isPerhaps = perhaps[v];
       if (away[reference]) continue;
       active[v] = there[reference] = 1;
+      if (fits && !fits[reference]) continue;
       for (let n = from[v]; n < from[v + 1]; n++) {
         const cell = held[n], before = top[cell];
         const isBefore = before < 0 || (isSure[cell] ? !isPerhaps && rank[reference] < rank[before] : !isPerhaps || rank[reference] < rank[before]);
@@ -134,17 +136,21 @@ export class Airspace {
       }
       shared[cell] = count[cell] > 1 && intents[cell] ? 1 : 0;
     }
+    this.fits = fits;
     this.shownCount = there.reduce((sum, it) => sum + it, 0);
   }
 
-  get shown() { return this.references.filter((_, k) => this.there[k]); }
+  // Whether a reference is there at the moment that is shown, and fits.
+  isSeen(reference) { return this.there[reference] === 1 && (!this.fits || this.fits[reference] === 1); }
+
+  get shown() { return this.references.filter((_, k) => this.isSeen(k)); }
 
   // The references in a cell at the moment that is shown, the most urgent first.
   referencesIn(cell) {
     const cells = new Set(), found = new Set();
     for (let it = cell; it >= 0; it = this.parent[it]) cells.add(it);
     for (let v = 0; v < this.volumes.length; v++) {
-      if (!this.active[v]) continue;
+      if (!this.active[v] || !this.isSeen(this.referenceOf[v])) continue;
       for (let n = this.from[v]; n < this.from[v + 1]; n++) if (cells.has(this.held[n])) found.add(this.referenceOf[v]);
     }
     return [...found].sort((a, b) => this.rank[a] - this.rank[b]).map((it) => this.references[it]);
@@ -171,34 +177,16 @@ export class Airspace {
     return reference !== undefined && this.there[reference] === 1;
   }
 
-  // Pairs that share a cell at the moment that is shown, and an altitude where these are known; at least one is an intent.
-  pairs() {
-    const inCell = new Map();
-    for (let v = 0; v < this.volumes.length; v++) {
-      if (!this.active[v] || this.perhaps[v]) continue;
-      for (let n = this.from[v]; n < this.from[v + 1]; n++) {
-        const list = inCell.get(this.held[n]);
-        if (list) list.push(v);
-        else inCell.set(this.held[n], [v]);
+  // The cells in which two items meet, from a second on; the finer ones where one is inside of another.
+  sharedCells(one, other, since) {
+    const found = new Set();
+    for (const a of volumesOf(one))
+      for (const b of volumesOf(other)) {
+        if (a.isPerhaps || b.isPerhaps || Math.max(since, a.start, b.start) > Math.min(a.end, b.end)) continue;
+        if (Math.max(a.lower, b.lower) > Math.min(a.upper, b.upper)) continue;
+        for (const it of commonOf(a.cells, b.cells)) found.add(it);
       }
-    }
-    const found = new Map();
-    let tries = 0;
-    for (const [cell, own] of inCell) {
-      if (!this.shared[cell]) continue;
-      const all = [...own];
-      for (let it = this.parent[cell]; it >= 0; it = this.parent[it]) all.push(...inCell.get(it) ?? []);
-      for (let a = 0; a < own.length; a++)
-        for (let b = a + 1; b < all.length; b++) {
-          if (++tries > MOST_TRIES || found.size >= MOST_PAIRS) return { pairs: [...found.values()], hasMore: true };
-          const [v, w] = [own[a], all[b]], one = this.referenceOf[v], other = this.referenceOf[w];
-          if (one === other || this.numbers[4 * v + 2] > this.numbers[4 * w + 3] || this.numbers[4 * w + 2] > this.numbers[4 * v + 3]) continue;
-          if (!this.isIntent[one] && !this.isIntent[other]) continue;
-          const pair = [this.references[one], this.references[other]], key = Math.min(one, other) * 1e6 + Math.max(one, other);
-          if (!found.has(key)) found.set(key, { pair, cell });
-        }
-    }
-    return { pairs: [...found.values()], hasMore: false };
+    return [...found];
   }
 
   // Groups of references that are near each other, the largest first: each with the box around its cells on the plane.

@@ -45,6 +45,13 @@ export function around({ number }) {
   return found;
 }
 
+// The cells of two lists that the other has, too, or of which it has one around them.
+export function commonOf(one, other) {
+  const [ones, others] = [one, other].map((list) => new Set(list.map((it) => it.number)));
+  const isIn = (it, numbers) => numbers.has(it.number) || around(it).some((number) => numbers.has(number));
+  return [...one.filter((it) => isIn(it, others)), ...other.filter((it) => isIn(it, ones) && !ones.has(it.number))];
+}
+
 // The face of a cell, its place on it and its size in cells of the finest level, and its corners on the plane.
 function made(number) {
   const level = FINEST - (31 - Math.clz32(number & -number)) / 2, face = number >>> 27, size = 1 << (FINEST - level);

@@ -18,8 +18,9 @@ const WIDTHS = { Contingent: 3.5, Nonconforming: 2, constraint: 1.4, Activated: 
 // Pixels of the ground's colour on both sides of an outline, with which it can be seen on the fill of a more urgent flight.
 const CASING = 2.4;
 const DASHES = { Nonconforming: [6, 4], constraint: [3, 3] };
-// Which stripes a pixel lies on: 1 for rising ones, 2 for falling ones.
-const STRIPE_OF = Uint8Array.from({ length: 64 }, (_, k) => (((k >> 3) + k) % 8 < 2 ? 1 : 0) + (((k >> 3) - k + 64) % 8 < 1 ? 2 : 0));
+// What a pixel lies on: 1 for rising stripes, 2 for falling ones, 4 for a dot.
+const STRIPE_OF = Uint8Array.from({ length: 64 }, (_, k) => (((k >> 3) + k) % 8 < 2 ? 1 : 0) + (((k >> 3) - k + 64) % 8 < 1 ? 2 : 0) + ((k & 7) < 3 && k >> 3 < 3 ? 4 : 0));
+const DOT = 4;
 
 const latitude = (y) => 2 * Math.atan(Math.exp((0.5 - y) * 2 * Math.PI)) / TILT - 90;
 const longitude = (x) => (x - 0.5) * 360;
@@ -47,7 +48,8 @@ export class Drawing {
     this.airspace = null;
     this.home = [];
     this.colourOf = (it) => `--${stateOf(it).toLowerCase()}`;
-    this.selected = this.hovered = null;
+    this.selected = this.partner = this.hovered = null;
+    this.shared = []; // the outline of the cells in which a selected pair meets
     this.watched = [];
     this.isDue = this.isOverDue = this.isMoving = this.usesKeys = false;
     this.built = "";
@@ -281,19 +283,21 @@ export class Drawing {
     this.edges = edgeRoom.subarray(0, count);
   }
 
-  // The styles of references: numbers from 1 on, each with four colours by stripes, and one of an outline.
+  // The styles of references: numbers from 1 on, each with colours by stripes and dots, and one of an outline. Flights of a USS
+  // that is Down have dots.
   styles() {
-    const { airspace, colourOf } = this, numbers = new Map(), fills = [0, 0, 0, 0, 0, 0, 0, 0], edges = [0, 0];
+    const { airspace, colourOf } = this, numbers = new Map(), fills = Array(16).fill(0), edges = [0, 0];
+    const dot = packed(this.colour("--ink"), 0.9);
     const isFar = this.finest < SMALL;
     const styleOf = new Uint16Array(airspace.references.length);
     airspace.references.forEach((it, k) => {
-      const state = stateOf(it), name = colourOf(it), key = state + name;
+      const state = stateOf(it), name = colourOf(it), isDown = it.uss_availability === "Down", key = state + name + isDown;
       if (!numbers.has(key)) {
         numbers.set(key, numbers.size + 1);
         const colour = this.colour(name), [stripe, ink] = STRIPES[state] ?? [0, 0];
         const fill = FILLS[state] + (isFar ? 0.35 : 0); // so small that they have no outline
         for (const isSure of [true, false]) {
-          for (let k = 0; k < 4; k++) fills.push(packed(colour, isSure ? k & stripe ? ink : fill : 0.12));
+          for (let k = 0; k < 8; k++) fills.push(isDown && k & DOT ? dot : packed(colour, isSure ? k & stripe ? ink : fill : 0.12));
           edges.push(packed(colour, isSure ? 0.95 : 0.5));
         }
       }
@@ -322,7 +326,7 @@ export class Drawing {
     const { rows } = this;
     for (let row = 0; row < height; row++) {
       const stripes = (row & 7) << 3, begin = row * width, end = rows[2 * row + 1];
-      for (let at = rows[2 * row]; at < end; at++) out[at] = fills[cells[ids[at]] << 2 | STRIPE_OF[stripes | (at - begin & 7)]];
+      for (let at = rows[2 * row]; at < end; at++) out[at] = fills[cells[ids[at]] << 3 | STRIPE_OF[stripes | (at - begin & 7)]];
     }
     this.isOutlined = this.flights <= OUTLINED && this.finest >= SMALL;
     if (!this.isOutlined) this.paintEdges(places, cells, edges);
@@ -365,7 +369,7 @@ export class Drawing {
     const { airspace, context } = this;
     if (!this.isOutlined) return;
     const paths = new Map();
-    const inView = this.airspace.references.filter((_, k) => airspace.there[k] && this.isInView(k));
+    const inView = this.airspace.references.filter((_, k) => airspace.isSeen(k) && this.isInView(k));
     for (const it of inView) {
       const key = `${STATES.length - STATES.indexOf(stateOf(it))} ${this.colourOf(it)}`;
       if (!paths.has(key)) paths.set(key, [stateOf(it), this.colourOf(it), new Path2D()]);
@@ -419,21 +423,38 @@ export class Drawing {
     context.clearRect(0, 0, this.over.width, this.over.height);
     context.setTransform(ratio, 0, 0, ratio, 0, 0);
     this.drawWatched(context);
-    for (const [it, colour, line] of [[this.hovered, "--ink", 3], [this.selected, "--focus", 4]]) {
-      if (!it || !this.airspace) continue;
-      const path = this.trace(this.airspace.outline(it), new Path2D());
-      context.lineJoin = "round";
-      context.strokeStyle = this.colour("--ground");
-      context.lineWidth = line + 3;
-      context.stroke(path);
-      context.strokeStyle = this.colour(colour);
-      context.lineWidth = line;
-      context.stroke(path);
-    }
-    this.over.dataset.hovered = this.hovered ? nameOf(this.hovered) : "";
-    this.over.dataset.selected = this.selected ? nameOf(this.selected) : "";
+    this.drawShared(context);
+    for (const [it, colour, line] of [[this.hovered, "--ink", 3], [this.partner, "--selected", 4], [this.selected, "--selected", 4]])
+      if (it && this.airspace) this.drawLine(context, this.airspace.outline(it), colour, line);
+    for (const it of ["hovered", "selected", "partner"]) this.over.dataset[it] = this[it] ? nameOf(this[it]) : "";
     this.drawLabels(context, width, height);
     this.drawMiddle(context);
+  }
+
+  // An outline with the ground's colour on both sides.
+  drawLine(context, rings, colour, line) {
+    const path = this.trace(rings, new Path2D());
+    context.lineJoin = "round";
+    context.strokeStyle = this.colour("--ground");
+    context.lineWidth = line + 3;
+    context.stroke(path);
+    context.strokeStyle = this.colour(colour);
+    context.lineWidth = line;
+    context.stroke(path);
+  }
+
+  // The cells in which a selected pair meets, filled below its outlines.
+  drawShared(context) {
+    this.over.dataset.shared = this.shared.length;
+    if (!this.shared.length || !this.airspace) return;
+    const path = this.trace(this.shared, new Path2D());
+    context.fillStyle = `${this.colour("--selected")}99`;
+    context.fill(path, "evenodd");
+    context.setLineDash([4, 4]);
+    context.strokeStyle = this.colour("--ink");
+    context.lineWidth = 2;
+    context.stroke(path);
+    context.setLineDash([]);
   }
 
   // Where subscriptions are, by lines of dots.

@@ -1,23 +1,33 @@
 // The page: who may look, what is asked of the gateway and when, the controls, and the lists beside the map.
 import { Airspace, nameOf, stateOf, volumesOf } from "./airspace.js";
-import { project, tokenOf } from "./cells.js";
+import { outlineOf, project, tokenOf } from "./cells.js";
+import { Conflicts } from "./conflicts.js";
 import { Drawing } from "./drawing.js";
+import { Filter } from "./filter.js";
 import { Ground, lineOf } from "./ground.js";
+import { Pointing } from "./pointing.js";
+import { hashOf, keepChoices, storedToken, storeToken, viewOf } from "./session.js";
+import { chosen, clock, duration, height, heights, stamp } from "./units.js";
+import { sound, Warnings } from "./warnings.js";
 
 const EVERY = 3000; // milliseconds between two readings
 const [LATE, STALE] = [6, 12]; // seconds of age from which data is amber, and red
 const FARTHEST = 7 * 86400; // seconds that the time can be ahead
 const [LISTED, MORE] = [20, 200];
 const MOST_GROUPS = 6;
-const UNBOUNDED = [-100000, 1000000]; // decimetres that the gateway puts in place of absent altitudes
+const [SLICE, HIDDEN_SLICE] = [6, 200]; // milliseconds at once in which conflicts are looked for; a hidden page is seldom let run
 const ALTITUDES = [null, ...range(0, 150, 10), ...range(150, 300, 25), ...range(300, 1000, 50), ...range(1000, 6001, 250)];
 
 const of = (id) => document.getElementById(id);
-const ground = new Ground(of("ground"));
+const ground = new Ground(of("ground")), filter = new Filter(ground);
 const drawing = new Drawing(of("map"), of("over"), ground);
 let token = "", airspace = null, data = null, ahead = 0, altitude = null, lastAnswer = 0, skew = 0, timer = 0, asking = null;
-let isDue = false, resting = 0, isFirst = true, linking = 0, wantedSelection = "";
-// What is selected: an item by its name, and the list or the map where it was chosen; also what else is in the cell there.
+let isDue = false, resting = 0, isFirst = true, linking = 0, wantedSelection = [];
+// The pairs that are listed and for what, those that warnings are of and for which data, and what is looked for.
+let pairs = null, pairsKey = "", warned = null, warnedOf = -1, finding = null, warnings = new Warnings();
+let isSettled = false; // whether the gateway had found all flights once
+// What is selected: an item by its name, and the list or the map where it was chosen; also what else is in the cell there, or
+// the other one of a pair.
 let selection = null;
 const opened = new Set();
 
@@ -45,7 +55,8 @@ async function look() {
   const query = isMoment ? `&at=${moment()}${altitude === null ? "" : `&altitude=${altitude}`}` : "";
   try {
     asking = read(`map/changes.json?since=${airspace?.version ?? ""}${query}`);
-    take(await asking);
+    const reply = await asking;
+    if (token) take(reply); // the viewer may have left meanwhile
   } catch (fault) {
     if (fault.status === 401) leave("The gateway does not know this token.");
     else tellFault(`The gateway does not answer${since(lastAnswer)}: ${fault.message}`);
@@ -65,6 +76,8 @@ function take(reply) {
   const isNew = !airspace;
   airspace ??= new Airspace();
   const isChanged = airspace.take(reply);
+  isSettled ||= reply.asked > 0 && !airspace.waiting;
+  if (isChanged) warnOfDown();
   if (isNew) begin(reply);
   const isSilent = reply.fault && reply.asked < reply.now - 2 || reply.asked && reply.asked < reply.now - STALE;
   tellFault(isSilent ? `The service does not answer${since(reply.asked)}${reply.fault ? `: ${reply.fault}` : ""}` : "");
@@ -84,6 +97,7 @@ function showFirst() {
 let shownAt = null;
 
 function begin(reply) {
+  storeToken(token);
   enter();
   lay("map/ground.geojson", false, (it) => ground.add(it));
   tellWhole(airspace.isWhole);
@@ -121,6 +135,7 @@ function tellWhole(isWhole) {
   of("with-subscriptions").hidden = of("watching").hidden = of("read-whole").hidden = !isWhole;
   of("read-by-queries").hidden = isWhole;
   of("pairs-title").textContent = isWhole ? "Conflicts" : "Sharing a cell";
+  of("overlaps-title").textContent = isWhole ? "Known overlaps" : "Sharing a cell, both planned";
 }
 
 // Lays a part of the ground. The map goes without one that cannot be read.
@@ -128,6 +143,7 @@ async function lay(path, isOpen, take) {
   try {
     take(await read(path, isOpen));
     if (!airspace) return;
+    if (filter.isOn) showOnMap();
     drawing.draw();
     listGroups();
   } catch (fault) {
@@ -161,8 +177,15 @@ function enter() {
 }
 
 function leave(why) {
+  clearTimeout(timer);
   token = "";
-  airspace = data = drawing.airspace = selection = null;
+  isSettled = false;
+  storeToken("");
+  airspace = data = drawing.airspace = drawing.selected = drawing.partner = selection = pairs = warned = finding = null;
+  pairsKey = "";
+  warnedOf = -1;
+  warnings = new Warnings();
+  tellWarnings();
   isFirst = true;
   of("entry").hidden = false;
   of("view").hidden = true;
@@ -178,41 +201,43 @@ of("entry").addEventListener("submit", (event) => {
   firstLook();
 });
 
+of("leave").addEventListener("click", () => leave(""));
+
 async function firstLook() {
   await look();
   if (!airspace && token) of("entry-fault").textContent = of("fault").textContent;
 }
 
-// ---- links to a view: #lat,lon,zoom,time,altitude,selection
+// ---- links to a view
 
 function link() {
   clearTimeout(linking);
   linking = setTimeout(() => {
     if (!airspace) return;
-    const [lng, lat] = drawing.place(), zoom = Math.log2(drawing.view.scale / 256);
-    const words = [lat.toFixed(5), lng.toFixed(5), zoom.toFixed(2), ahead ? moment() : "now", altitude ?? "all", selection ? encodeURIComponent(selection.name) : ""];
-    history.replaceState(null, "", `#${words.join()}`);
+    const [lng, lat] = drawing.place(), names = selection ? [selection.name, selection.partner].filter(Boolean) : wantedSelection;
+    const view = { lat, lng, zoom: Math.log2(drawing.view.scale / 256), time: ahead ? moment() : "now", altitude: altitude ?? "all", names };
+    history.replaceState(null, "", hashOf({ ...view, words: of("filter").value.trim(), off: filter.off }));
   }, 250);
 }
 drawing.onView = () => {
   link();
-  if (pointed) requestAnimationFrame(hover);
+  requestAnimationFrame(() => pointing.hover());
 };
 
 function follow() {
-  const [lat, lng, zoom, time, height, name] = location.hash.slice(1).split(",");
-  const numbers = [lat, lng, zoom].map(Number);
-  if (!zoom || numbers.some((it) => !Number.isFinite(it))) return;
+  const view = viewOf(location.hash);
+  if (!view) return;
   of("map").dataset.linked = "true";
   drawing.isHome = false;
-  drawing.goTo(numbers[1], numbers[0], 256 * 2 ** numbers[2]);
+  drawing.goTo(view.lng, view.lat, 256 * 2 ** view.zoom);
   boundTime();
-  const wanted = time === "now" ? 0 : Number(time) - now();
+  const wanted = view.time === null ? 0 : view.time - now();
   if (wanted > 0) of("time").max = Math.max(of("time").max, wanted);
   of("time").value = Math.max(0, wanted || 0);
-  const metres = height === "all" || !height ? null : Number(height);
-  of("altitude").value = Math.max(0, ALTITUDES.findIndex((it) => it === null ? metres === null : metres !== null && it >= metres));
-  wantedSelection = name ? decodeURIComponent(name) : "";
+  of("altitude").value = Math.max(0, ALTITUDES.findIndex((it) => it === null ? view.metres === null : view.metres !== null && it >= view.metres));
+  wantedSelection = view.names;
+  of("filter").value = view.words;
+  filter.set(view.words, view.off);
   ahead = Number(of("time").value);
   altitude = ALTITUDES[of("altitude").value];
   show();
@@ -220,18 +245,6 @@ function follow() {
 addEventListener("hashchange", () => { if (airspace) follow(); });
 
 // ---- time and altitude
-
-const two = (number) => String(number).padStart(2, "0");
-
-function clock(second) {
-  const it = new Date(second * 1000);
-  return `${two(it.getUTCHours())}:${two(it.getUTCMinutes())}:${two(it.getUTCSeconds())} UTC`;
-}
-
-function stamp(second) {
-  const text = new Date(second * 1000).toISOString();
-  return `${text.slice(0, 10)} ${text.slice(11, 19)} UTC`;
-}
 
 // From now to the last end.
 function boundTime() {
@@ -242,11 +255,10 @@ function boundTime() {
 }
 
 function tellMoment() {
-  const at = moment(), minutes = Math.round(ahead / 60);
-  const parts = [[Math.floor(minutes / 60), "h"], [minutes % 60, "min"]].filter(([count]) => count).map((it) => it.join(" "));
-  const text = ahead ? `in ${parts.join(" ")}, ${ahead > 43200 ? stamp(at) : clock(at)}` : "now";
-  const height = altitude === null ? "all" : `${altitude} m (WGS84)`;
-  for (const [id, it] of [["time", text], ["altitude", height]]) {
+  const at = moment();
+  const text = ahead ? `in ${duration(ahead)}, ${ahead > 43200 ? stamp(at) : clock(at)}` : "now";
+  const shownHeight = altitude === null ? "all" : `${height(altitude)} (WGS84)`;
+  for (const [id, it] of [["time", text], ["altitude", shownHeight]]) {
     of(`${id}-shown`).textContent = it;
     of(id).setAttribute("aria-valuetext", it);
   }
@@ -275,8 +287,14 @@ function change() {
 of("altitude").max = ALTITUDES.length - 1;
 of("time").addEventListener("input", change);
 of("altitude").addEventListener("input", change);
-of("by-supplier").addEventListener("change", show);
-of("subscriptions").addEventListener("change", show);
+keepChoices(["by-supplier", "subscriptions", "sound", "feet", "local"].map(of));
+for (const id of ["by-supplier", "subscriptions", "feet", "local"]) of(id).addEventListener("change", choose);
+
+function choose() {
+  Object.assign(chosen, { feet: of("feet").checked, local: of("local").checked });
+  show();
+}
+choose();
 
 // ---- showing
 
@@ -294,9 +312,11 @@ function swatch(colour, className) {
   return it;
 }
 
-const swatchOf = (it) => it.kind === "subscription" ? make("span") : swatch(colourOf(it), stateOf(it));
+const isDown = (it) => it.uss_availability === "Down";
+const swatchOf = (it) => it.kind === "subscription" ? make("span") : swatch(colourOf(it), `${stateOf(it)}${isDown(it) ? " down" : ""}`);
 const short = (id) => id.slice(0, 8);
-const title = (it) => `${it.kind === "subscription" ? "Subscription" : it.kind === "constraint" ? "Constraint" : it.state} ${short(it.id)} of ${it.manager}`;
+const title = (it) => `${it.kind === "subscription" ? "Subscription" : it.kind === "constraint" ? "Constraint" : it.state} ${short(it.id)} of ${it.manager}${isDown(it) ? " (Down)" : ""}`;
+const fits = (it) => filter.fits(it);
 const isWatching = (it) => it.volumes.some((one) => one.start <= shownAt && shownAt <= one.end);
 
 function show() {
@@ -307,39 +327,142 @@ function show() {
 
 function showOnMap() {
   shownAt = moment();
-  airspace.show(shownAt, altitude);
-  Object.assign(drawing, { colourOf, colourKey: of("by-supplier").checked, watched: of("subscriptions").checked ? airspace.subscriptions.filter(isWatching) : [] });
-  if (selection) drawing.selected = airspace.items.get(selection.name) ?? drawing.selected;
+  airspace.show(shownAt, altitude, filter.isOn ? filter.marks(airspace.references).fits : null);
+  Object.assign(drawing, { colourOf, colourKey: of("by-supplier").checked, watched: of("subscriptions").checked ? airspace.subscriptions.filter(isWatching).filter(fits) : [] });
+  outlineSelection();
   drawing.drawNow();
   tellMoment();
   of("asked").textContent = data.asked ? `As of ${clock(data.asked)}:` : "Not yet asked.";
   const parts = [`${airspace.shownCount} of ${airspace.references.length} are there`];
+  if (filter.isOn) parts.push("some are filtered out");
   if (airspace.waiting) parts.push(`${airspace.waiting} cells are yet to be looked into`);
   of("counts").textContent = data.asked ? parts.join(", ") : "";
 }
 
 function list() {
-  if (wantedSelection && airspace.items.has(wantedSelection)) select(wantedSelection, "link");
+  const [name, partner] = wantedSelection;
+  if (airspace.items.has(name)) select(name, "link", [], partner);
   listGroups();
   listLegend();
   listSuppliers();
   tellSelection();
-  const filter = of("filter").value.trim().toLowerCase();
-  const fits = (it) => !filter || [it.id, it.manager, stateOf(it) ?? it.kind].some((text) => String(text).toLowerCase().includes(filter));
-  const { pairs, hasMore } = airspace.pairs();
-  fill("pairs", pairs.filter(({ pair }) => pair.some(fits)), ({ pair, cell }) => row(pair.map(swatchOf), pair.map(title).join(" and "), `pairs ${pair.map(nameOf).join()}`, () => {
-    select(nameOf(pair[0]), `pairs ${pair.map(nameOf).join()}`, pair.slice(1));
-    drawing.reveal(boxOf(airspace.cells[cell].corners));
-  }));
-  of("pairs-count").textContent = hasMore ? `over ${pairs.length}` : pairs.length;
-  fill("all", airspace.shown.filter(fits), itemRow("all"));
-  of("all-count").textContent = airspace.shownCount;
+  listPairs();
+  findPairs();
+  const shown = airspace.shown;
+  fill("all", shown, itemRow("all"));
+  of("all-count").textContent = countOf(shown.length, airspace.shownCount);
   const watching = airspace.subscriptions.filter(isWatching);
-  fill("watching-list", watching.filter(fits), itemRow("watching"));
-  of("watching-count").textContent = watching.length;
+  const fitting = watching.filter(fits);
+  fill("watching-list", fitting, itemRow("watching"));
+  of("watching-count").textContent = countOf(fitting.length, watching.length);
 }
 
-of("filter").addEventListener("input", () => { if (airspace) list(); });
+const countOf = (count, total) => filter.isOn ? `${count} of ${total}` : total;
+
+// Finds the pairs from the moment that is shown on; and after a change those from now on, for warnings. The last ones stay
+// listed until all are found.
+function findPairs() {
+  const key = [airspace.taken, shownAt, altitude].join(), isAll = !ahead && altitude === null, isListed = isAll || warnedOf === airspace.taken;
+  if (finding || isListed && key === pairsKey) return;
+  finding = { found: isListed ? new Conflicts(airspace, shownAt, altitude) : new Conflicts(airspace, now(), null), isListed, isWarned: isAll || !isListed, isSettled };
+  if (isListed) pairsKey = key;
+  if (finding.isWarned) warnedOf = airspace.taken;
+  setTimeout(findMore);
+}
+
+function findMore() {
+  if (!finding) return;
+  const { found, isListed, isWarned } = finding;
+  if (!found.work(document.hidden ? HIDDEN_SLICE : SLICE)) return void setTimeout(findMore);
+  if (isListed) pairs = found;
+  setTimeout(() => {
+    if (!finding) return;
+    if (isWarned) warn(found, finding.isSettled);
+    finding = null;
+    listPairs();
+    findPairs();
+  });
+}
+
+function listPairs() {
+  if (!pairs) return;
+  const test = filter.isOn ? filter.pairTest(pairs.references) : null;
+  for (const [id, all, total] of [["pairs", pairs.conflicts, pairs.counts.slice(0, 3).reduce((a, b) => a + b)], ["overlaps", pairs.overlaps, pairs.counts[3]]]) {
+    const found = pairs.fitting(all, test);
+    fill(id, found, pairRow(id, pairs));
+    of(`${id}-count`).textContent = countOf(found.length, total);
+  }
+  const kinds = ["Contingent", "Nonconforming"].map((name, k) => [pairs.counts[k], name]).filter(([count]) => count);
+  of("pairs-kinds").textContent = kinds.map((it) => it.join(" with ")).join(", ");
+}
+
+// The seconds until a pair meets, from the moment that is looked at on.
+function waitOf(wait, isAhead) {
+  if (!wait) return isAhead ? "then" : "now";
+  return isAhead ? `${duration(wait)} later` : `in ${duration(wait)}`;
+}
+
+const pairRow = (id, found) => (number) => {
+  const { pair, wait } = found.pair(number), key = `${id} ${pair.map(nameOf).join()}`;
+  const it = row(pair.map(swatchOf), `${pair.map(title).join(" and ")}, ${waitOf(wait, ahead && found === pairs)}`, key, () => {
+    warnings.see(pair);
+    tellWarnings();
+    select(nameOf(pair[0]), key, [], nameOf(pair[1]));
+    const cells = airspace.sharedCells(...pair, shownAt);
+    if (cells.length) drawing.reveal(boxAround(cells));
+  });
+  if (warnings.isNew(pair)) it.firstChild.prepend(make("b", "new", { className: "new" }));
+  return it;
+};
+
+// ---- warnings: what is new since the viewer last looked
+
+// Where the gateway still looks for flights, what it finds is not new.
+function warn(found, isSettled) {
+  const fresh = warnings.takePairs(found);
+  if (!isSettled) warnings.known = null;
+  warned = found;
+  if (fresh.length) {
+    const { pair, wait } = found.pair(fresh[0]), first = `${pair.map(title).join(" and ")}, ${waitOf(wait)}`;
+    announce(fresh.length === 1 ? `New conflict: ${first}` : `${fresh.length} new conflicts. The most urgent: ${first}`);
+  }
+  tellWarnings();
+}
+
+function warnOfDown() {
+  const fresh = warnings.takeDown(airspace.suppliers.filter((it) => airspace.availabilityOf(it) === "Down"));
+  if (!isSettled) warnings.down = null;
+  if (fresh.length) announce(fresh.map((it) => `${it} is Down`).join(", "));
+  tellWarnings();
+}
+
+// Said once by a screen reader, and by a tone where that was chosen.
+function announce(text) {
+  const it = of("announced");
+  it.append(make("p", text));
+  while (it.children.length > 3) it.firstChild.remove();
+  if (of("sound").checked) sound();
+}
+
+function tellWarnings() {
+  document.title = warnings.count ? `(${warnings.count}) Airspace` : "Airspace";
+  of("warnings").hidden = !warnings.count;
+  if (of("warned").textContent !== warnings.text) of("warned").textContent = warnings.text;
+  fill("new-pairs", warnings.unseen.filter((it) => warnings.isNew(warned.pair(it).pair)), pairRow("new-pairs", warned));
+}
+
+of("see-all").addEventListener("click", () => {
+  warnings.seeAll();
+  tellWarnings();
+  list1();
+});
+of("sound").addEventListener("change", () => { if (of("sound").checked) sound(); });
+
+of("filter").addEventListener("input", () => {
+  filter.set(of("filter").value, filter.off);
+  show();
+  link();
+});
 
 const itemRow = (place) => (it) => row([swatchOf(it)], title(it), `${place} ${nameOf(it)}`, () => {
   select(nameOf(it), `${place} ${nameOf(it)}`);
@@ -349,7 +472,7 @@ const itemRow = (place) => (it) => row([swatchOf(it)], title(it), `${place} ${na
 // A list of twenty rows, and a button for more. What is made anew keeps the focus where it was.
 function fill(id, items, make1) {
   const list = of(id), focused = list.contains(document.activeElement) ? document.activeElement.dataset.key : null;
-  const most = opened.has(id) ? MORE : LISTED, rows = items.slice(0, most).map(make1);
+  const most = opened.has(id) ? MORE : LISTED, rows = Array.from(items.slice(0, most), make1);
   if (items.length > LISTED) {
     const text = opened.has(id) ? `Show ${LISTED} of ${items.length}` : `Show ${Math.min(MORE, items.length)} of ${items.length}`;
     rows.push(row([], text, `${id} more`, () => {
@@ -370,8 +493,7 @@ function row(swatches, text, key, act) {
   button.addEventListener("click", act);
   line.append(...swatches, button);
   it.append(line);
-  const item = selection?.key === key && airspace.items.get(selection.name);
-  if (item) it.append(detailsOf(item));
+  if (selection?.key === key) it.append(...selectedItems().map(detailsOf));
   return it;
 }
 
@@ -390,16 +512,33 @@ function listGroups() {
 }
 
 function listLegend() {
-  const rows = of("by-supplier").checked
-    ? airspace.suppliers.slice(0, 8).map((it, k) => [swatch(`--s${k % 8}`, ""), it])
-    : ["Accepted", "Activated", "Nonconforming", "Contingent", "constraint"].map((it) => [swatch(`--${it.toLowerCase()}`, it), it === "constraint" ? "Constraint" : it]);
+  const isBySupplier = of("by-supplier").checked;
+  const rows = ["Accepted", "Activated", "Nonconforming", "Contingent", "constraint"].map((it) => [stateSwitch(it, isBySupplier ? "--ink" : `--${it.toLowerCase()}`), ""]);
+  if (isBySupplier) rows.push(...airspace.suppliers.slice(0, 8).map((it, k) => [swatch(`--s${k % 8}`, ""), it]));
   rows.push([swatch("", "both"), "shared"]);
+  if (airspace.references.some(isDown)) rows.push([swatch("", "down"), "of a USS that is Down"]);
   if (!airspace.isWhole) rows.push([swatch("", "perhaps"), "perhaps"]);
+  const focused = document.activeElement?.dataset.state;
   of("legend").replaceChildren(...rows.map(([it, text]) => {
     const row = make("li");
     row.append(it, text);
     return row;
   }));
+  if (focused) of("legend").querySelector(`[data-state=${focused}]`).focus();
+}
+
+// A row of the legend that shows or hides a state, on the map and in the lists.
+function stateSwitch(state, colour) {
+  const it = make("button", "", { type: "button" });
+  it.append(swatch(colour, state), state === "constraint" ? "Constraint" : state);
+  it.dataset.state = state;
+  it.setAttribute("aria-pressed", String(!filter.off.has(state)));
+  it.addEventListener("click", () => {
+    filter.toggle(state);
+    show();
+    link();
+  });
+  return it;
 }
 
 function listSuppliers() {
@@ -408,6 +547,7 @@ function listSuppliers() {
   const rows = airspace.suppliers.map((uss) => {
     const cells = [uss, airspace.availabilityOf(uss), counts.get(uss) ?? 0], it = make("tr");
     it.append(...cells.map((text, k) => make("td", text, k === 1 ? { className: text } : {})));
+    if (warnings.suppliers.has(uss)) it.children[1].append(make("b", "new", { className: "new" }));
     return it;
   });
   of("suppliers").tBodies[0].replaceChildren(...rows);
@@ -426,14 +566,11 @@ function listOf(rows) {
   return list;
 }
 
-const metres = (decimetres) => UNBOUNDED.includes(decimetres) ? null : `${decimetres / 10}`;
-
 // With their reference, of the volumes that are there at the moment, or else of all.
 function altitudesOf(it) {
   if (!it.volumes) return "not known: queries do not tell (WGS84)";
   const there = it.volumes.filter((one) => one.start <= shownAt && shownAt <= one.end), all = there.length ? there : it.volumes;
-  const [low, high] = [metres(Math.min(...all.map((one) => one.lower))), metres(Math.max(...all.map((one) => one.upper)))];
-  return low === null && high === null ? "all (WGS84 ellipsoid)" : `${low ?? "below"} to ${high ?? "above"} m over the WGS84 ellipsoid`;
+  return heights(Math.min(...all.map((one) => one.lower)), Math.max(...all.map((one) => one.upper)));
 }
 
 // As its manager published it.
@@ -449,17 +586,33 @@ function detailsOf(it) {
 const boxOf = (corners) => [Math.min(corners[0], corners[2], corners[4], corners[6]), Math.min(corners[1], corners[3], corners[5], corners[7]),
   Math.max(corners[0], corners[2], corners[4], corners[6]), Math.max(corners[1], corners[3], corners[5], corners[7])];
 
-function revealItem(it) {
-  const boxes = volumesOf(it).flatMap((one) => one.cells).map((one) => boxOf(one.corners));
-  if (!boxes.length) return;
-  drawing.reveal([0, 1].map((k) => Math.min(...boxes.map((one) => one[k]))).concat([2, 3].map((k) => Math.max(...boxes.map((one) => one[k])))));
+function boxAround(cells) {
+  const boxes = cells.map((it) => boxOf(it.corners));
+  return [0, 1].map((k) => Math.min(...boxes.map((it) => it[k]))).concat([2, 3].map((k) => Math.max(...boxes.map((it) => it[k]))));
 }
 
-function select(name, key, others = []) {
+function revealItem(it) {
+  const cells = volumesOf(it).flatMap((one) => one.cells);
+  if (cells.length) drawing.reveal(boxAround(cells));
+}
+
+// The item that is selected, and the other one of a pair.
+const selectedItems = () => [selection.name, selection.partner].map((it) => airspace.items.get(it)).filter(Boolean);
+
+// Outlines what is selected, the other one of a pair, and the cells in which they meet from the moment that is shown on.
+function outlineSelection() {
+  const [item, partner] = [selection?.name, selection?.partner].map((it) => airspace.items.get(it) ?? null);
+  const cells = item && partner ? airspace.sharedCells(item, partner, shownAt) : [];
+  drawing.selected = item ?? (selection ? drawing.selected : null);
+  drawing.partner = partner;
+  drawing.shared = cells.length ? outlineOf(cells) : [];
+}
+
+function select(name, key, others = [], partner = "") {
   const isOther = selection?.key !== key || selection?.name !== name;
-  wantedSelection = "";
-  selection = { name, key, others: others.map(nameOf) };
-  drawing.selected = airspace.items.get(name) ?? null;
+  wantedSelection = [];
+  selection = { name, key, others: others.map(nameOf), partner };
+  outlineSelection();
   of("side").classList.add("open");
   of("sheet").setAttribute("aria-expanded", "true");
   cover();
@@ -472,11 +625,12 @@ function select(name, key, others = []) {
 function tellSelection() {
   of("selected").hidden = !selection;
   if (!selection) return;
-  const item = airspace.items.get(selection.name), isInList = /^(pairs|all|watching) /.test(selection.key);
-  of("selected-title").replaceChildren(...item ? [swatchOf(item), title(item)] : ["It has been deleted, or has ended"]);
-  const others = selection.others.map((it) => airspace.items.get(it)).filter(Boolean), parts = item ? [detailsOf(item)] : [];
+  const item = airspace.items.get(selection.name), isInList = /^(new-pairs|pairs|overlaps|all|watching) /.test(selection.key);
+  const items = selectedItems(), names = items.flatMap((it, k) => [k ? " and " : "", swatchOf(it), title(it)]);
+  of("selected-title").replaceChildren(...item ? names : ["It has been deleted, or has ended"]);
+  const others = selection.others.map((it) => airspace.items.get(it)).filter(Boolean), parts = item ? items.map(detailsOf) : [];
   // its row has them
-  if (isInList && !matchMedia("(max-width: 760px)").matches && of("lists").querySelector(`[data-key="${CSS.escape(selection.key)}"]`)) parts.length = 0;
+  if (isInList && !matchMedia("(max-width: 760px)").matches && of("side").querySelector(`.list [data-key="${CSS.escape(selection.key)}"]`)) parts.length = 0;
   if (others.length) {
     const also = make("ul");
     also.append(...others.slice(0, LISTED).map((it) => row([swatchOf(it)], title(it), `other ${nameOf(it)}`, () => {
@@ -509,9 +663,12 @@ async function askFor(cell, mine) {
 }
 
 function letGo() {
-  selection = drawing.selected = null;
-  wantedSelection = "";
-  if (airspace) list();
+  selection = null;
+  wantedSelection = [];
+  if (airspace) {
+    outlineSelection();
+    list();
+  }
   drawing.drawOverSoon();
   link();
 }
@@ -533,99 +690,14 @@ addEventListener("resize", cover);
 
 // ---- the pointer and the keyboard
 
-const pointers = new Map();
-let moved = 0, isHoverDue = false;
-
-function place(event) {
-  const box = of("map").getBoundingClientRect();
-  return [event.clientX - box.left, event.clientY - box.top];
-}
-
-function spread() {
-  const [a, b] = [...pointers.values()];
-  return [Math.hypot(a[0] - b[0], a[1] - b[1]), (a[0] + b[0]) / 2, (a[1] + b[1]) / 2];
-}
-
-of("map").addEventListener("pointerdown", (event) => {
-  of("map").setPointerCapture(event.pointerId);
-  drawing.usesKeys = false;
-  if (!pointers.size) moved = 0;
-  pointers.set(event.pointerId, place(event));
+const pointing = new Pointing({
+  map: of("map"), tip: of("tip"), drawing, title, selectAt, letGo, referenceAt: (px, py) => airspace && drawing.referenceAt(px, py),
 });
-
-of("map").addEventListener("pointermove", (event) => {
-  const from = pointers.get(event.pointerId);
-  if (event.pointerType === "mouse") {
-    const isFirst = !pointed;
-    pointed = from ? null : place(event);
-    if (from) hover();
-    else if (isFirst || !isHoverDue) {
-      isHoverDue = true;
-      requestAnimationFrame(() => {
-        isHoverDue = false;
-        hover();
-      });
-    }
-  }
-  if (!from) return;
-  const to = place(event), before = pointers.size === 2 ? spread() : null;
-  pointers.set(event.pointerId, to);
-  moved += Math.hypot(to[0] - from[0], to[1] - from[1]);
-  if (before) {
-    const [distance, px, py] = spread();
-    drawing.zoom(distance / Math.max(1, before[0]), px, py);
-    drawing.move(px - before[1], py - before[2]);
-  } else if (pointers.size === 1 && moved > 4) {
-    drawing.move(to[0] - from[0], to[1] - from[1]);
-  }
-});
-
-of("map").addEventListener("pointerup", (event) => {
-  if (pointers.size === 1 && moved <= 4) selectAt(...place(event));
-  pointers.delete(event.pointerId);
-});
-of("map").addEventListener("pointercancel", (event) => pointers.delete(event.pointerId));
-
-of("map").addEventListener("wheel", (event) => {
-  event.preventDefault();
-  drawing.zoom(2 ** (-event.deltaY / (event.deltaMode ? 6 : 300)), ...place(event));
-}, { passive: false });
-
-// The whole reference under the pointer is highlighted.
-let pointed = null;
-function hover() {
-  const it = airspace && pointed ? drawing.referenceAt(...pointed) : null;
-  if (it !== drawing.hovered) {
-    drawing.hovered = it;
-    drawing.drawOverSoon();
-    of("map").classList.toggle("hit", Boolean(it));
-    of("tip").textContent = it ? title(it) : "";
-    of("tip").hidden = !it;
-  }
-  if (it) {
-    const [x, y] = pointed, isLeft = x > drawing.width - 260;
-    of("tip").style.transform = `translate(${x + (isLeft ? -10 : 14)}px, ${y + 16}px) translateX(${isLeft ? -100 : 0}%)`;
-  }
-}
-of("map").addEventListener("pointerleave", () => {
-  pointed = null;
-  hover();
-});
-
-const KEYS = {
-  ArrowLeft: () => drawing.move(60, 0), ArrowRight: () => drawing.move(-60, 0), ArrowUp: () => drawing.move(0, 60), ArrowDown: () => drawing.move(0, -60),
-  "+": () => drawing.zoom(1.5), "=": () => drawing.zoom(1.5), "-": () => drawing.zoom(1 / 1.5), Home: () => drawing.showHome(),
-  Enter: () => selectAt(drawing.width / 2, drawing.height / 2), Escape: letGo,
-};
-of("map").addEventListener("keydown", (event) => {
-  if (!KEYS[event.key] || event.ctrlKey || event.metaKey || event.altKey) return;
-  event.preventDefault();
-  drawing.usesKeys = true;
-  KEYS[event.key]();
-});
-for (const name of ["focus", "blur"]) of("map").addEventListener(name, () => drawing.draw());
 
 of("nearer").addEventListener("click", () => drawing.zoom(1.5));
 of("farther").addEventListener("click", () => drawing.zoom(1 / 1.5));
 of("whole").addEventListener("click", () => drawing.showHome());
 document.addEventListener("visibilitychange", () => { if (!document.hidden && token && !asking) look(); });
+// After a reload, the token of this tab.
+token = storedToken();
+if (token) firstLook();

@@ -1,4 +1,5 @@
 """What the map's page shows, in Chromium without a window, if that is installed."""
+import colorsys
 import json
 import math
 import random
@@ -148,10 +149,10 @@ def lists_and_links(files, program):
             page.value("(() => { const it = document.getElementById('filter'); it.value = 'activ'; it.dispatchEvent(new Event('input')); })()")
             page.until("document.querySelectorAll('#all li').length === 1")
             page.value("document.querySelector('#all button').click()")
-            page.until(f"location.hash.endsWith(',now,all,i{name}')")
+            page.until(f"location.hash.endsWith(',now,all,i{name},activ')")
             slide(page, "time", "1800")
             slide(page, "altitude", "5")
-            page.until(f"/^#-33[.]9\\d+,18[.]\\d+,[\\d.]+,\\d{{10}},40,i{name}$/.test(location.hash)")
+            page.until(f"/^#-33[.]9\\d+,18[.]\\d+,[\\d.]+,\\d{{10}},40,i{name},activ$/.test(location.hash)")
             link = page.value("location.href")
         with opened(place) as page:
             page.open(link)
@@ -197,7 +198,8 @@ def age_of_the_data(files, program):
 
 
 def contrasts(files, program):
-    """Each state's colour has a contrast of 3:1 or more to land and water, in both themes."""
+    """The colours of states, of USSs and of what is selected have a contrast of 3:1 or more to land and water, in both
+    themes, and what is selected has a hue of its own."""
     css = (TOP / "gateway/page/map.css").read_text()
     for theme in css.split("@media (prefers-color-scheme: dark)")[:2]:
         colours = dict(re.findall(r"--(\w+): (#[0-9a-f]{6});", theme))
@@ -205,7 +207,12 @@ def contrasts(files, program):
         def light(name):
             parts = [int(colours[name][k : k + 2], 16) / 255 for k in (1, 3, 5)]
             return sum(w * (it / 12.92 if it <= 0.03928 else ((it + 0.055) / 1.055) ** 2.4) for w, it in zip((0.2126, 0.7152, 0.0722), parts))
-        for state in ("accepted", "activated", "nonconforming", "contingent", "constraint", *(f"s{k}" for k in range(8))):
+        hue = lambda name: colorsys.rgb_to_hls(*(int(colours[name][k : k + 2], 16) / 255 for k in (1, 3, 5)))
+        names = ("accepted", "activated", "nonconforming", "contingent", "constraint", *(f"s{k}" for k in range(8)))
+        for name in names:
+            apart = abs((hue(name)[0] - hue("selected")[0] + 0.5) % 1 - 0.5)
+            assert apart > 25 / 360 or hue(name)[2] < 0.2, (name, 360 * apart)
+        for state in (*names, "selected"):
             for ground in ("land", "water"):
                 a, b = sorted((light(state), light(ground)))
                 assert (b + 0.05) / (a + 0.05) >= 3, (state, ground, (b + 0.05) / (a + 0.05))

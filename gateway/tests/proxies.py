@@ -18,7 +18,7 @@ from cryptography.hazmat.primitives import hashes, serialization
 
 from flows import over_tables
 from maps import Skipped
-from world import FRONT, INTENTS, STRATEGIC, TOP, Counted, Gateway, free_port, key_pair, new_id, until, wait_for
+from world import FRONT, INTENTS, STRATEGIC, TOP, Counted, Gateway, conforms, free_port, key_pair, new_id, until, wait_for
 
 OVN = "0123456789abcdef-of-nobody-else"
 # Requests a second that a client sends without a break, over the 50 that the proxies allow, for so many seconds.
@@ -113,6 +113,7 @@ def answer(connection, token, method, path, body=None, fields=None):
     if got.status != 200:
         assert got.getheader("Content-Type") == "application/json", (got.status, text)
         assert json.loads(text)["message"].startswith("proxy: "), (got.status, text)
+        conforms.check(method, path, got.status, text)
         assert (got.getheader("Retry-After") is not None) == (got.status in (429, 503)), got.getheaders()
     return got.status
 

@@ -17,6 +17,7 @@ import flaws
 import flows
 import hostile
 import map_page
+import map_warns
 import mapping
 import maps
 import packaged
@@ -64,13 +65,13 @@ def run_named(name, built, sanitized):
     for case in (*proxies.ALL, *clients.ALL, *packaged.ALL):
         if case.__name__ == name:
             return [run(name, lambda: over_files(lambda files, _: case(files, built), plain))]
-    case = next(it for module in (bounds, flows, hostile, map_page, mapping, maps, walk) for it in module.ALL if it.__name__ == name)
+    case = next(it for module in (bounds, flows, hostile, map_page, map_warns, mapping, maps, walk) for it in module.ALL if it.__name__ == name)
     return [run(name, lambda: over_files(case, plain if case in PLAIN else tried))]
 
 
 def main(built, sanitized, *names):
     known = ["points_inside_are_covered", "flaws", "slow_clients_keep_nobody_out", "a_service_that_is_not_there", "any_body_is_answered_with_sanitizers"]
-    known += [it.__name__ for module in (bounds, proxies, clients, packaged, hostile, maps, map_page, flows, walk, properties, mapping) for it in module.ALL if it.__name__ not in known]
+    known += [it.__name__ for module in (bounds, proxies, clients, packaged, hostile, maps, map_page, map_warns, flows, walk, properties, mapping) for it in module.ALL if it.__name__ not in known]
     counts = {"passed": 0, "failed": 0, "skipped": 0}
     with concurrent.futures.ProcessPoolExecutor(int(os.environ.get("JOBS") or os.cpu_count())) as pool:
         asked = [pool.submit(run_named, it, built, sanitized) for it in names or known]

@@ -21,6 +21,7 @@ from cryptography.hazmat.primitives.asymmetric import rsa
 TOP = pathlib.Path(__file__).resolve().parents[2]
 # Ports that no other test and no connection takes before something listens there.
 sys.path.append(str(TOP / "tests" / "shared"))
+import conforms
 from ports import free_port
 
 ISSUER, AUDIENCE = "auth.example", "dss.example"
@@ -35,6 +36,8 @@ INTENTS, CONSTRAINTS, SUBSCRIPTIONS = (FRONT + it for it in ("operational_intent
 
 
 RUNNING = []
+# The ports of services that are real, whose responses docs/openapi.yaml has.
+REAL = set()
 
 
 def started(words, **more):
@@ -113,7 +116,7 @@ class Gateway:
     def __init__(self, program, files, service, *options, path=None, prepare=None):
         """Starts it on a port, or on a Unix socket at a path; `prepare` is called in its process before it begins."""
         self.port, self.log = free_port(), tempfile.TemporaryFile(mode="w+")
-        self.files = files
+        self.files, self.service = files, service
         words = {"socket": path} if path else {"port": self.port}
         words |= {"service": service, "issuer": ISSUER, "audience": AUDIENCE}
         words |= {name: files.folder / f for name, f in (("tokens", "tokens.toml"), ("keys", "keys.pem"), ("secret", "secret"))}
@@ -142,7 +145,10 @@ class Gateway:
         with contextlib.closing(connection):
             connection.request(method, path, body, fields)
             got = connection.getresponse()
-            return Answer(got.status, dict(got.getheaders()), got.read().decode())
+            answer = Answer(got.status, dict(got.getheaders()), got.read().decode())
+        if method != "HEAD" and self.service in REAL:
+            conforms.check_gateway(method, path, answer.status, answer.text)
+        return answer
 
     def raw(self, data, end=False):
         """Sends bytes on a separate connection, and returns all that arrives."""
@@ -164,6 +170,7 @@ class Service:
     def __init__(self, files, port=None, database="dss.db", admin=None, options=()):
         self.files, self.port, self.database = files, port or free_port(), files.folder / database
         self.options = [*options, *([] if admin is None else ["--admin-port", str(admin)])]
+        REAL.add(self.port)
         self.start()
 
     def start(self):
@@ -189,6 +196,7 @@ class Recorded:
             stdin=subprocess.PIPE, stdout=subprocess.PIPE)
         self.socket = socket.create_server(("127.0.0.1", 0))
         self.port = self.socket.getsockname()[1]
+        REAL.add(self.port)
         threading.Thread(target=self.serve, daemon=True).start()
 
     def end(self):
@@ -235,6 +243,7 @@ class Counted:
         self.lock, self.open = threading.Lock(), []
         self.socket = socket.create_server(("127.0.0.1", port or free_port()), backlog=100)
         self.port = self.socket.getsockname()[1]
+        REAL.discard(self.port)
         threading.Thread(target=self.accept, daemon=True).start()
 
     def accept(self):

@@ -7,6 +7,8 @@ STRATEGIC, MONITORING = "utm.strategic_coordination", "utm.conformance_monitorin
 PROCESSING, MANAGEMENT = "utm.constraint_processing", "utm.constraint_management"
 ARBITRATION = "utm.availability_arbitration"
 KNOWN = {STRATEGIC, MONITORING, PROCESSING, MANAGEMENT, ARBITRATION}
+# Seconds in which a command must print a token, on a busy machine too.
+PATIENCE = 600
 
 # The required callers: a name, the USS (0 and 1 are two that conflict, None any), and the exact scopes.
 ROLES = {
@@ -76,7 +78,7 @@ def mint_tokens(command, suppliers):
 
 def minted(command, uss, scopes):
     try:
-        done = subprocess.run([*command, uss, " ".join(sorted(scopes))], capture_output=True, text=True, timeout=60)
+        done = subprocess.run([*command, uss, " ".join(sorted(scopes))], capture_output=True, text=True, timeout=PATIENCE)
     except (OSError, subprocess.TimeoutExpired) as fault:
         raise Lacking(f"{command[0]}: gives no token: {fault}") from fault
     if done.returncode or len(done.stdout.split()) != 1:

@@ -11,6 +11,13 @@ ZERO = "00000000-0000-4000-8000-000000000000"
 URL = "https://uss-{}.qualify.example"
 # Seconds from the run's time: when an entity begins and ends, unless a check says otherwise.
 STARTS, ENDS = 900, 4500
+# Metres and seconds of a volume, and of others: each bound of these differs from the volume's own.
+MIDDLE = {"low": 100, "high": 200, "start": STARTS, "end": ENDS}
+OVERLAPPING = (
+    {"low": 50, "high": 150}, {"low": 150, "high": 250}, {"low": 50, "high": 250}, {"low": 120, "high": 180},
+    {"start": STARTS - 300, "end": STARTS + 300}, {"start": ENDS - 300, "end": ENDS + 300},
+    {"start": STARTS - 300, "end": ENDS + 300}, {"start": STARTS + 300, "end": ENDS - 300})
+BESIDE = ({"low": 0, "high": 80}, {"low": 220, "high": 300}, {"start": 300, "end": 600}, {"start": ENDS + 300, "end": ENDS + 600})
 
 # The level of the profile's grid at which cells are compared.
 LEVEL = 13

@@ -16,7 +16,9 @@ from suite.run import NoPlace, Run, chosen
 EPILOG = """
 The suite puts intents, constraints and subscriptions of its own far out in the South Pacific, in a place that it first finds empty, and
 deletes them. It sets the availability of one of its USSs, and resets it. For a service of the standard it needs tokens of at least two
-USSs. Exit status: 0 if all checks held, 1 if a check broke, 2 if the run could not begin.
+USSs. With several --url it tests instances that have one state. Changes go to the first URL, and reads to another one: each check runs
+for each other URL. With --write-at-each changes go to each URL in turn, and each check runs for each pair of two URLs. Exit status: 0 if
+all checks held, 1 if a check broke, 2 if the run could not begin.
 """
 
 
@@ -24,7 +26,9 @@ def arguments(words):
     parser = argparse.ArgumentParser(
         "qualify/run", description="Tests a discovery and synchronization service against the rules of this interface, or of the standard's.",
         epilog=EPILOG)
-    parser.add_argument("--url", help="base URL of the service, without /dss/v1: http://127.0.0.1:8080")
+    parser.add_argument("--url", action="append", help="base URL of the service, without /dss/v1: http://127.0.0.1:8080; repeat it for "
+                        "each further instance that must show the same state")
+    parser.add_argument("--write-at-each", action="store_true", help="send changes to each URL in turn [default: to the first]")
     parser.add_argument("--tokens", metavar="FILE", help="file with tokens of its USSs, in the format of the service's token file")
     parser.add_argument("--standard", action="store_true", help="test the DSS interface of ASTM F3548-21 instead of the profile")
     parser.add_argument("--mint", metavar="COMMAND", help="command that prints a token, called with two more arguments: a USS and its scopes")
@@ -34,8 +38,9 @@ def arguments(words):
                         "service has its own rules")
     parser.add_argument("--seed", help="seed of the place and of all drawn values [default: a new one in each run]")
     parser.add_argument("--rate", type=float, default=50, metavar="N", help="max requests a second [default: %(default)s]")
-    parser.add_argument("--requests", type=int, default=4000, metavar="N", help="max requests [default: %(default)s]")
-    parser.add_argument("--seconds", type=float, default=600, metavar="N", help="max seconds before the last check begins [default: %(default)s]")
+    parser.add_argument("--requests", type=int, default=4000, metavar="N", help="max requests, times the pairs of URLs [default: %(default)s]")
+    parser.add_argument("--seconds", type=float, default=600, metavar="N", help="max seconds before the last check begins, times the pairs of "
+                        "URLs [default: %(default)s]")
     parser.add_argument("--ca", metavar="FILE", help="CA certificates of the service, if the machine does not trust them")
     parser.add_argument("--result", default="qualify-result", metavar="DIR",
                         help="directory for result.html and result.xml [default: %(default)s]")
@@ -46,6 +51,10 @@ def arguments(words):
         return given
     if not given.url or not (given.mint if given.standard else given.tokens):
         parser.error("--url and " + ("--mint are" if given.standard else "--tokens are") + " required")
+    if len(set(given.url)) < len(given.url):
+        parser.error("--url: the same URL twice")
+    if given.write_at_each and len(given.url) < 2:
+        parser.error("--write-at-each: at least two --url are required")
     if given.rate <= 0 or given.requests < 1 or given.seconds <= 0:
         parser.error("--rate, --requests and --seconds must be above 0")
     unknown = [it for it in given.names if not any(it in (check.name, check.group) for check in CHECKS)]
@@ -75,7 +84,7 @@ def main(words):
     signal.signal(signal.SIGTERM, signal.default_int_handler)
     try:
         bounds = given.rate, given.requests, given.seconds
-        run = Run(given.url, callers_of(given), dialect, given.seed or secrets.token_hex(4), *bounds, given.ca)
+        run = Run(given.url, callers_of(given), dialect, given.seed or secrets.token_hex(4), *bounds, given.ca, given.write_at_each)
         run.settle()
     except (Lacking, NoPlace, ValueError, OSError) as fault:
         print(f"qualify: {fault}", file=sys.stderr)
@@ -87,8 +96,9 @@ def main(words):
     for result in run.results(checks):
         results.append(result)
         if result.why is not None:
+            at = f" [{report.place_of(result)}]" if len(run.urls) > 1 else ""
             print(f"qualify: BROKEN {result.check.name}: {result.check.sentence}. Expected: {result.why} "
-                  f"({report.sources(result.check, given.standard)})", flush=True)
+                  f"({report.sources(result.check, given.standard)}){at}", flush=True)
         if result.skipped is not None:
             print(f"qualify: skipped {result.check.name}: {result.skipped}", flush=True)
     return told(given, run, results)
@@ -104,7 +114,8 @@ def told(given, run, results):
     except OSError as fault:
         print(f"qualify: {fault}", file=sys.stderr)
         return 2
-    broken, skipped = sum(it.why is not None for it in results), sum(it.skipped is not None for it in results)
+    for pair in run.pairs if len(run.urls) > 1 else ():
+        print(f"qualify: {pair}: {report.counts([it for it in results if it.pair is pair])}")
     print(f"qualify: seed {run.seed}, {run.pace.sent} requests, {folder}/result.html, {folder}/result.xml")
-    print(f"{len(results) - broken - skipped} held, {broken} broken" + (f", {skipped} skipped" if skipped else ""))
-    return 1 if broken or not results else 0
+    print(report.counts(results))
+    return 1 if any(it.why is not None for it in results) or not results else 0

@@ -105,7 +105,7 @@ class Supplier:
         trial = self.trial
         if method == "PUT":
             trial.may_be_kept(self, path)
-        return trial.taken(self, trial.client.ask(self.caller, method, path, body, fields))
+        return trial.taken(self, trial.client_of(method, path).ask(self.caller, method, path, body, fields))
 
     def get(self, kind, id_):
         return self.ask("GET", f"{kind}/{id_}")
@@ -130,28 +130,30 @@ class Supplier:
         return self.put(SUBSCRIPTIONS, id_, self.trial.subscription_body(volume, **more), over)
 
     def availability(self, uss):
-        answer = self.ask("GET", f"{AVAILABILITY}/{uss}")
-        if answer.status == 200 and isinstance(answer.value, dict):
-            self.trial.seen.setdefault(uss, (answer.value.get("status") or {}).get("availability"))
-        return answer
+        return self.ask("GET", f"{AVAILABILITY}/{uss}")
 
     def set_availability(self, uss, availability, old):
-        self.trial.settings.setdefault(uss, self.trial.seen.get(uss))
+        self.trial.may_be_set(uss)
         return self.ask("PUT", f"{AVAILABILITY}/{uss}", {"availability": availability, "old_version": old})
 
 
 class Trial:
-    """A running check."""
+    """A running check, over a pair of URLs."""
 
-    def __init__(self, run):
-        self.run, self.client, self.dialect, self.knowledge = run, run.client, run.dialect, run.knowledge
+    def __init__(self, run, pair):
+        self.run, self.pair, self.dialect, self.knowledge = run, pair, run.dialect, run.knowledge
         # Entities to delete, and the availabilities that were set and their first values.
-        self.exchanges, self.kept, self.settings, self.seen = [], {}, {}, {}
-        self.is_watched = True
+        self.exchanges, self.kept, self.settings = [], {}, {}
+        self.is_watched, self.is_cleaning = True, False
         self.suppliers = {name: Supplier(self, it) for name, it in run.callers.items()}
         self.nobody = Supplier(self, None)
         self.a, self.b, self.b_processing, self.a_monitoring, self.b_monitoring, self.manager, self.arbiter = (
             self.suppliers[it] for it in ("A", "B", "B processing", "A monitoring", "B monitoring", "constraint manager", "arbiter"))
+
+    def client_of(self, method, path):
+        """Returns the client of the URL for a request. While it cleans up, it also reads where it writes."""
+        is_read = method == "GET" or path.endswith("/query")
+        return self.pair.reader if is_read and not self.is_cleaning else self.pair.writer
 
     # ---- puts
 
@@ -235,11 +237,19 @@ class Trial:
         if kind:
             id_ = path.removeprefix(f"{kind}/").partition("/")[0].lower()
             self.kept.setdefault((kind, id_), set()).add(supplier.caller.name if supplier.caller else "A")
-            self.client.pace.reserve = 3 * len(self.kept) + 9
+            self.run.pace.reserve = 3 * len(self.kept) + 9
+
+    def may_be_set(self, uss):
+        """Records the availability that a USS has before the check sets it, as the URL for changes has it."""
+        if uss not in self.settings:
+            exchange = self.pair.writer.ask(self.arbiter.caller, "GET", f"{AVAILABILITY}/{uss}")
+            status = exchange.value.get("status") if exchange.status == 200 and isinstance(exchange.value, dict) else None
+            self.settings[uss] = status.get("availability") if isinstance(status, dict) else None
 
     def clean(self):
         """Deletes what the check has put, and resets availabilities. Reports what cannot be deleted."""
-        self.is_watched, self.client.is_cleaning, shown = False, True, len(self.exchanges)
+        self.is_watched, shown, writer = False, len(self.exchanges), self.pair.writer
+        self.is_cleaning = writer.is_cleaning = True
         # Intents first, as they may reference subscriptions.
         order = [INTENTS, CONSTRAINTS, SUBSCRIPTIONS]
         left = dict.fromkeys(sorted(self.kept, key=lambda it: order.index(it[0])))
@@ -251,7 +261,8 @@ class Trial:
                     break
             for uss, before in self.settings.items():
                 self.put_back(uss, before)
-        self.client.is_cleaning, self.client.pace.reserve = False, 0
+        self.is_cleaning = writer.is_cleaning = False
+        self.run.pace.reserve = 0
         # Requests that clean up are not shown with the check.
         del self.exchanges[shown:]
         return [f"{kind.removeprefix(FRONT)}/{id_}" for kind, id_ in left]

@@ -1,6 +1,6 @@
 """Requests to the service under test, and its responses.
 
-It uses one connection at a time, and never exceeds the permitted rate, number and duration."""
+It uses one connection at a time to each URL, and never exceeds the permitted rate, number and duration."""
 import contextlib
 import dataclasses
 import http.client
@@ -39,6 +39,8 @@ class Exchange:
     expected: list = dataclasses.field(default_factory=list)
     # The number of the request on its connection, if that matters.
     number: int = None
+    # The base URL that it was sent to.
+    url: str = ""
 
     def take(self, status, fields, text):
         self.status, self.text = status, text
@@ -85,6 +87,7 @@ class Client:
         parts = urllib.parse.urlsplit(url)
         if parts.scheme not in ("http", "https") or not parts.hostname:
             raise ValueError(f"--url {url}: no URL of HTTP or HTTPS")
+        self.url = url
         self.is_tls, self.host, self.port = parts.scheme == "https", parts.hostname, parts.port
         self.front = parts.path.rstrip("/")
         self.context = ssl.create_default_context(cafile=ca) if self.is_tls else None
@@ -122,10 +125,14 @@ class Client:
         data = body.encode() if isinstance(body, str) else body
         connection.request(exchange.method, self.front + exchange.path, data, named | (fields or {}))
 
+    def exchange(self, caller, method, path, body=None, number=None):
+        """Returns an exchange that has no response yet."""
+        return Exchange(caller.name if caller else "nobody", method, path, body, number=number, url=self.url)
+
     def ask(self, caller, method, path, body=None, fields=None):
         """Sends one request and returns the exchange."""
         self.pace.wait(self.is_cleaning)
-        exchange = Exchange(caller.name if caller else "nobody", method, path, body)
+        exchange = self.exchange(caller, method, path, body)
         try:
             connection = self.connection()
             self.send(connection, caller, exchange, fields)
@@ -146,7 +153,7 @@ class Client:
         """Sends a request, waits until a response begins to arrive, and disconnects."""
         self.close()
         self.pace.wait(self.is_cleaning)
-        exchange = Exchange(caller.name, method, path, body)
+        exchange = self.exchange(caller, method, path, body)
         connection = self.open()
         with contextlib.closing(connection):
             try:
@@ -162,7 +169,7 @@ class Client:
         """The exchanges of requests (method, path, body) on one connection, each sent before the answer to the one before is read. The
         last two are sent together. Those that are not answered have no status."""
         self.close()
-        exchanges = [Exchange(caller.name, *it, number=number) for number, it in enumerate(asked, 1)]
+        exchanges = [self.exchange(caller, *it, number=number) for number, it in enumerate(asked, 1)]
         try:
             with self.socket() as connection, connection.makefile("rb") as reader:
                 with contextlib.suppress(OSError):
@@ -190,44 +197,13 @@ class Client:
             with self.context.wrap_socket(plain, server_hostname=self.host) if self.is_tls else plain as connection:
                 yield connection
 
-    def at_once(self, asked):
-        """Returns the exchanges of requests that are sent at once, each (caller, method, path, body) on a connection of
-        its own."""
-        self.close()
-        for _ in asked:
-            self.pace.wait(self.is_cleaning)
-        exchanges = [Exchange(caller.name, method, path, body) for caller, method, path, body in asked]
-        start = threading.Barrier(len(asked))
-
-        def one(caller, exchange):
-            with contextlib.closing(self.open()) as connection:
-                try:
-                    start.wait()
-                    self.send(connection, caller, exchange, {"Connection": "close"})
-                    answer = connection.getresponse()
-                    exchange.take(answer.status, answer.getheaders(), answer.read().decode("utf-8", "replace"))
-                except (OSError, http.client.HTTPException) as fault:
-                    exchange.fail(f"{type(fault).__name__}: {fault}")
-
-        threads = [threading.Thread(target=one, args=(it[0], exchange)) for it, exchange in zip(asked, exchanges)]
-        try:
-            for it in threads:
-                it.start()
-        finally:
-            # Also if the run is interrupted, so that sent requests are done before it cleans up.
-            for it in threads:
-                if it.ident:
-                    it.join()
-        self.pace.hold(len(asked) - 1)
-        return exchanges
-
     def many(self, caller, method, path, count):
         """Returns the exchanges of that many requests on one new connection, up to the response that closes it."""
         self.close()
         with contextlib.closing(self.open()) as connection:
             for number in range(1, count + 1):
                 self.pace.wait(self.is_cleaning)
-                exchange = Exchange(caller.name, method, path, number=number)
+                exchange = self.exchange(caller, method, path, number=number)
                 try:
                     self.send(connection, caller, exchange)
                     answer = connection.getresponse()
@@ -245,7 +221,7 @@ class Client:
         self.close()
         self.pace.wait(self.is_cleaning)
         method, path, *_ = [*head[0].split(" "), ""]
-        exchange = Exchange(caller.name if caller else "nobody", method, path, "; ".join(it[:100] for it in head[1:]) or None)
+        exchange = self.exchange(caller, method, path, "; ".join(it[:100] for it in head[1:]) or None)
         named = [f"Authorization: Bearer {caller.token}"] if caller else []
         first = head[0].replace("/dss/", f"{self.front}/dss/", 1)
         data = "\r\n".join([first, f"Host: {self.host}", *named, *head[1:], "", ""]).encode() + body
@@ -259,6 +235,38 @@ class Client:
         except (OSError, http.client.HTTPException) as fault:
             exchange.fail(f"{type(fault).__name__}: {fault}")
         return exchange
+
+
+def at_once(pace, asked):
+    """Returns the exchanges of requests that are sent at once, each (client, caller, method, path, body) on a connection
+    of its own."""
+    for client, *_ in asked:
+        client.close()
+        pace.wait(client.is_cleaning)
+    exchanges = [client.exchange(*words) for client, *words in asked]
+    start = threading.Barrier(len(asked))
+
+    def one(client, caller, exchange):
+        with contextlib.closing(client.open()) as connection:
+            try:
+                start.wait()
+                client.send(connection, caller, exchange, {"Connection": "close"})
+                answer = connection.getresponse()
+                exchange.take(answer.status, answer.getheaders(), answer.read().decode("utf-8", "replace"))
+            except (OSError, http.client.HTTPException) as fault:
+                exchange.fail(f"{type(fault).__name__}: {fault}")
+
+    threads = [threading.Thread(target=one, args=(*it[:2], exchange)) for it, exchange in zip(asked, exchanges)]
+    try:
+        for it in threads:
+            it.start()
+    finally:
+        # Also if the run is interrupted, so that sent requests are done before it cleans up.
+        for it in threads:
+            if it.ident:
+                it.join()
+    pace.hold(len(asked) - 1)
+    return exchanges
 
 
 def take_next(reader, exchange):

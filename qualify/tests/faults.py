@@ -577,7 +577,7 @@ def a_scope_of_a_state_that_is_not_asked_for(world, asked, pass_on):
     return answer
 
 
-@fault("an_update_names_anew", only="profile")
+@fault("an_update_names_anew")
 def a_named_subscription_that_stays(world, asked, pass_on):
     kind, id_, version = asked.words
     body = asked.value

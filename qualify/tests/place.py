@@ -79,15 +79,17 @@ class Place:
         self.start(self.service, TOP / "dss", "serve", "--tokens", self.folder / "tokens.toml", "--db", self.folder / "dss.db",
                    "--port", str(self.service), "--count", "1000000", *options)
 
-    def run(self, *words, port=None, seed="1", rate="100000"):
-        """Runs the suite over a port, or over the one of this place."""
+    def run(self, *words, port=None, urls=(), seed="1", rate="100000"):
+        """Runs the suite over URLs, over a port, or over the one of this place."""
         folder = pathlib.Path(tempfile.mkdtemp(dir=self.folder))
-        url = ["--url", f"http://127.0.0.1:{port or self.port}"]
-        words = [*url, *self.tokens, "--seed", seed, "--rate", rate, "--result", folder, *words]
+        urls = urls or [f"http://127.0.0.1:{port or self.port}"]
+        given = [word for url in urls for word in ("--url", url)]
+        # No run ends by its time on a busy machine, unless its case says so.
+        words = [*given, *self.tokens, "--seed", seed, "--rate", rate, "--seconds", "36000", "--result", folder, *words]
         self.suite = subprocess.Popen(
             [TOP / "qualify" / "run", *words], stdout=subprocess.PIPE, stderr=subprocess.PIPE, text=True, cwd=self.folder)
         with self.suite:
-            said = self.suite.communicate(timeout=1800)
+            said = self.suite.communicate(timeout=36000)
         return Held(self.suite.returncode, *said, folder)
 
     def over(self, fault, *words, **how):

@@ -4,6 +4,7 @@ import json
 import socket
 import threading
 import time
+import traceback
 
 KINDS = ("operational_intent_references", "constraint_references", "subscriptions", "uss_availability")
 ONE = {it: it.removesuffix("s") for it in KINDS[:3]}
@@ -119,11 +120,15 @@ class Proxy:
         self.upstream, self.fault, self.world, self.lock = port, fault, World(), threading.Lock()
         # The TLS context, if it uses TLS.
         self.context = context
-        # The times of requests.
-        self.times = []
+        # The times of requests, and the errors in the code of the fault, after which there is no response.
+        self.times, self.errors = [], []
         self.listening = socket.create_server(("127.0.0.1", 0))
         self.port = self.listening.getsockname()[1]
         threading.Thread(target=self.accept, daemon=True).start()
+
+    @property
+    def url(self):
+        return f"http://127.0.0.1:{self.port}"
 
     def end(self):
         with contextlib.suppress(OSError):
@@ -159,7 +164,13 @@ class Proxy:
                 with self.lock:
                     self.world.see(request, answer)
             return answer
-        return self.fault(self.world, asked, pass_on) if self.fault else pass_on(asked)
+        try:
+            return self.fault(self.world, asked, pass_on) if self.fault else pass_on(asked)
+        except OSError:
+            raise
+        except Exception:
+            self.errors.append(traceback.format_exc(limit=-3))
+            return None
 
 
 class Upstream:

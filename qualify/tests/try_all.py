@@ -14,7 +14,7 @@ import traceback
 sys.path.insert(1, str(pathlib.Path(__file__).resolve().parents[1]))
 
 import whole
-from faults import FAULTS
+from narrow_faults import FAULTS
 from place import Before, Plain
 
 # How many faults are tried over one service.
@@ -34,7 +34,8 @@ def try_case(name, case, *given):
 
 def is_named(place, name, checks):
     """Checks that a fault breaks each of its checks, and that the run reports it."""
-    held, _ = place.over(FAULTS[name].plant, *checks, seed=name)
+    held, proxy = place.over(FAULTS[name].plant, *checks, seed=name)
+    assert not proxy.errors, proxy.errors[0]
     assert held.status == 1 and held.broken == set(checks), f"broken: {sorted(held.broken)}, and not all of {checks}\n{held}"
     for check in checks:
         assert f"BROKEN {check}:" in held.text and f'id="{check}"' in held.page, held

@@ -1,4 +1,5 @@
-"""Cases of whole runs: all checks hold without faults, nothing is left behind, and bounds are kept."""
+"""Cases of whole runs: all checks hold without faults, nothing is left behind, bounds are kept, and instances agree."""
+import contextlib
 import html
 import re
 import signal
@@ -7,9 +8,10 @@ import ssl
 import subprocess
 import time
 
-from faults import FAULTS
+from faults import is_query
+from narrow_faults import FAULTS
 from place import TOP, Before, Plain, free_port
-from proxy import Proxy
+from proxy import KINDS, ONE, Proxy
 from suite import forms
 from suite.dialect import Standard
 
@@ -78,11 +80,10 @@ def all_holds_over_tls(gateway):
         context = ssl.SSLContext(ssl.PROTOCOL_TLS_SERVER)
         context.load_cert_chain(certificate, key)
         proxy = Proxy(place.port, context=context)
-        # Of arguments that are given twice the last one counts.
-        url = ["--url", f"https://127.0.0.1:{proxy.port}"]
-        place.run(*url, "--ca", certificate).must_hold(MIN["profile"])
+        urls = [f"https://127.0.0.1:{proxy.port}"]
+        place.run("--ca", certificate, urls=urls).must_hold(MIN["profile"])
         seen = len(proxy.times)
-        held = place.run(*url)
+        held = place.run(urls=urls)
         assert held.status == 2 and "CERTIFICATE_VERIFY_FAILED" in held.errors and len(proxy.times) == seen, held
         proxy.end()
 
@@ -203,7 +204,10 @@ def runs_that_cannot_begin(gateway):
             held = place.run(port=port)
             assert held.status == 2 and why in held.errors and held.errors.count("\n") == 1 and not held.page, (words, held)
         place.tokens = ["--tokens", good]
-        for words, why in ((["nonesuch"], "no such check"), (["--rate", "0"], "above 0"), (["--requests", "x"], "invalid")):
+        url = f"http://127.0.0.1:{place.port}"
+        for words, why in (
+                (["nonesuch"], "no such check"), (["--rate", "0"], "above 0"), (["--requests", "x"], "invalid"),
+                (["--url", url], "the same URL twice"), (["--write-at-each"], "at least two --url")):
             held = place.run(*words)
             assert held.status == 2 and why in held.errors, held
 
@@ -270,8 +274,138 @@ def a_token_that_is_not_ours(gateway):
         raise AssertionError("another address was asked")
 
 
+@contextlib.contextmanager
+def proxies(place, *faults):
+    """Yields proxies in front of one place, each with its fault."""
+    made = [Proxy(place.port, it) for it in faults]
+    try:
+        yield made
+    finally:
+        for it in made:
+            it.end()
+
+
+def noting(methods):
+    """Returns a proxy's function that plants no fault, and notes the method of each request, or QUERY."""
+    def noted(world, asked, pass_on):
+        methods.append("QUERY" if is_query(asked) else asked.method)
+        return pass_on(asked)
+    return noted
+
+
+def changes_go_to_the_first(gateway):
+    """Of three URLs the first gets all changes, and the others only reads. Each check runs for each of the others."""
+    with Plain() as place:
+        seen = [[], [], []]
+        with proxies(place, *map(noting, seen)) as three:
+            held = place.run("subscriptions", "repeats", "availability", urls=[it.url for it in three])
+        held.must_hold(2 * 25)
+        names = [it.get("name") for it in held.cases]
+        count = len(names) // 2
+        assert names == 2 * names[:count] and len(set(names)) == count, names
+        for it in seen[1:]:
+            assert it.count("GET") > 50 and it.count("QUERY") > 4 and {*it} == {"GET", "QUERY"}, it
+        assert seen[0].count("PUT") > 200 and seen[0].count("DELETE") > 100, seen[0]
+        for other in three[1:]:
+            said = f"writes at {three[0].url}, reads at {other.url}"
+            assert f"qualify: {said}: {count} held, 0 broken\n" in held.text, held
+            assert held.page.count(said) == count + 1 and f"at {other.url}</div>" in held.page, held.page
+        assert place.left() == []
+
+
+def changes_go_to_each(gateway):
+    """With --write-at-each all checks hold for each pair of two URLs of one service, and changes at once go to both."""
+    with Plain() as place:
+        seen = [[], []]
+        with proxies(place, *map(noting, seen)) as two:
+            held = place.run("--write-at-each", urls=[it.url for it in two])
+            held.must_hold(2 * MIN["profile"])
+            assert held.xml.count("<testsuite ") == 2 and held.page.count('id="one_of_two_is_kept-2"') == 1, held.page
+            for it in seen:
+                it.clear()
+            place.run("--write-at-each", "one_of_two_updates_is_done", urls=[it.url for it in two]).must_hold(2)
+            assert [it.count("PUT") for it in seen] == [3, 3], seen
+        assert place.left() == []
+
+
+class Behind:
+    """Two instances of one service, of which the second is one change behind: a read there shows what was changed last
+    as it was before. `first` and `second` are the functions of their proxies."""
+
+    def __init__(self):
+        self.last, self.before = None, None
+
+    def first(self, world, asked, pass_on):
+        kind, id_, _ = asked.words
+        if asked.method not in ("PUT", "DELETE") or kind not in KINDS:
+            return pass_on(asked)
+        fields = [it for it in asked.fields if it[0] not in ("Content-Length", "Content-Type")]
+        before = pass_on(type(asked)(f"GET /dss/v1/{kind}/{id_} HTTP/1.1", fields, b""))
+        answer = pass_on(asked)
+        if answer.status < 300:
+            self.last, self.before = (kind, id_, asked.all("authorization")), before
+        return answer
+
+    def second(self, world, asked, pass_on):
+        answer = pass_on(asked)
+        if self.last and asked.words[0] == self.last[0] and answer.status in (200, 404):
+            if asked.method == "GET" and asked.words[1] == self.last[1]:
+                return self.shown(answer, self.before.status, self.before.value, asked)
+            if is_query(asked) and answer.status == 200:
+                return self.shown(answer, 200, self.found(answer.value), asked)
+        return answer
+
+    def found(self, value):
+        """Returns the response to a query, with what was changed last as it was."""
+        (name, references), one = *value.items(), ONE[self.last[0]]
+        kept = [it for it in references if it["id"] != self.last[1]]
+        was = [self.before.value[one]] if self.before.status == 200 and len(kept) < len(references) else []
+        return {name: sorted(kept + was, key=lambda it: it["id"])}
+
+    def shown(self, answer, status, value, asked):
+        """Returns a response with what another one has. OVNs are shown only to the caller that made the change."""
+        if asked.all("authorization") != self.last[2] and isinstance(value, dict):
+            for it in (it for part in value.values() for it in (part if isinstance(part, list) else [part]) if isinstance(it, dict)):
+                if it.get("id") == self.last[1]:
+                    it.pop("ovn", None)
+        answer.put(value)
+        return answer.with_status(status)
+
+
+# What a read at an instance that is one change behind breaks, whatever the dialect.
+BREAKS_BEHIND = {
+    "an_intent_is_created_and_read", "an_update_replaces_an_intent", "an_old_ovn_changes_nothing", "a_deleted_intent_is_gone",
+    "a_query_finds_what_meets_its_area", "a_constraint_is_created_and_read", "a_constraint_is_updated_and_deleted",
+    "a_subscription_is_created_and_read", "a_subscription_is_updated", "a_subscription_is_deleted", "an_availability_is_set",
+    "a_lost_update_is_done_once"}
+
+
+def an_instance_behind_is_found(gateway):
+    """A second instance that is one change behind breaks each check that reads there what it changed, at that URL. A run
+    over the first URL holds, and so does one that changes at the second."""
+    for make in (Plain, lambda: Before(gateway)):
+        with make() as place:
+            behind = Behind()
+            with proxies(place, behind.first, behind.second) as two:
+                first, second = (it.url for it in two)
+                for urls in ([first], [second], [second, first]):
+                    behind.last = None
+                    place.run(*BREAKS_BEHIND, urls=urls).must_hold(len(BREAKS_BEHIND))
+                held = place.run(*BREAKS_BEHIND, urls=[first, second])
+                assert held.status == 1 and held.broken == BREAKS_BEHIND, (BREAKS_BEHIND - held.broken, held)
+                said = f"[writes at {first}, reads at {second}; seen at {second}]"
+                assert held.text.count(said) == len(BREAKS_BEHIND) == held.text.count("BROKEN "), held
+                texts = [it.find("failure").text for it in held.cases]
+                assert all(said[1:-1] in it for it in texts) and held.page.count(said) == len(BREAKS_BEHIND), texts
+                each = place.run("--write-at-each", *BREAKS_BEHIND, urls=[first, second])
+                assert len(each.cases) == 2 * len(BREAKS_BEHIND) and each.broken == BREAKS_BEHIND, each
+                assert f"writes at {second}, reads at {first}: {len(BREAKS_BEHIND)} held, 0 broken\n" in each.text, each
+                assert not two[0].errors and not two[1].errors, two[0].errors + two[1].errors
+            assert place.left() == []
+
+
 CASES = {it.__name__: it for it in (
     all_holds, no_explanations_are_skipped, all_holds_to_the_standard, each_check_can_break, all_holds_through_the_proxy, all_holds_over_tls,
     the_gateway_adds_no_member, nothing_is_left_where_checks_break, what_is_there_is_left_alone, bounds_are_kept,
     one_that_is_ended_cleans_up, a_service_that_goes, runs_that_cannot_begin, pages_stand_alone, answers_are_shown_as_text, what_is_wrong_is_named,
-    a_token_that_is_not_ours)}
+    a_token_that_is_not_ours, changes_go_to_the_first, changes_go_to_each, an_instance_behind_is_found)}

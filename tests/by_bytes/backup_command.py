@@ -17,7 +17,7 @@ DONE = (0, b"", b"")
 # The position of SQLite's lock, and a number of bytes that is less than a backup has and more than opening a database
 # writes.
 LOCK_AT, LOCK_LENGTH = 1 << 30, 512
-FEW_BYTES = 24_576
+FEW_BYTES = 8_192
 
 
 class Copied(Room):

@@ -76,7 +76,7 @@ def one_file():
 # Simulated cuts for each row and way to commit.
 CUTS = lengths.of(6, 100)
 # By the word in docs/OPERATE.md: whether cuts lost changes, by bench/README.md.
-LOSSES = {"keeps all": False, "kept all, by a checksum": False, "can lose the last change": True}
+LOSSES = {"keeps all": False, "kept all, by a checksum": False, "can lose the last change": True, "can damage the database": True}
 
 
 def rows_of(document, heading):

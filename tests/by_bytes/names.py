@@ -41,8 +41,9 @@ OTHERS = set(
     """String Vec Option ghost unfolding tactic auto plant wrote
     rattle-kit-13b rattle-kit-13f logic dac8208d650f15bf Intel Xeon Processor
     89c25907 89c25909 89c2590b Host Date oauth2 libs2-dev s2geometry S2RegionCoverer RegionCoverer S2CellId CellID
-    set_fixed_level set_max_cells min_level max_level max_cells GetCovering getCovering get_covering Covering region
-    ToToken toToken to_token s2sphere s2-geometry-library-java github.com/golang/geo/s2 outline_polygon outline_circle
+    set_fixed_level set_max_cells GetCovering getCovering Covering region
+    ToToken toToken s2-geometry-library-java github.com/golang/geo/s2 outline_polygon outline_circle
+    off_nominal_volumes operational_intent_id constraint_id /uss/v1/operational_intents /uss/v1/constraints /uss/v1/reports
     new_subscription 61 Start IsClosed open_from open_files Wary strace defrag ModRevision /health /metrics /airspace /backup /purge/resume /stop 8078""".split()
 )
 

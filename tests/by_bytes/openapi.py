@@ -14,6 +14,7 @@ import drawn_calls
 import openapi_bodies
 import wire
 import without_memory
+from conforms import METHODS, of_json_schema, whole
 from plain_policy import RULES
 from program import BUILT, TOP, first_difference, run, serve
 
@@ -22,45 +23,19 @@ DOCUMENT = TOP / "docs" / "openapi.yaml"
 # From Debian's package openapi-specification.
 SCHEMA = pathlib.Path("/usr/share/openapi-specification/schemas/v3.0/schema.yaml")
 DRAWN = range(1, 11)
-METHODS = ("get", "put", "post", "delete", "options", "head", "patch", "trace")
 
 # The USSs of the worked examples, and another one with constraints.
 TOKENS = drawn_calls.ALL_TOKENS
 
 DENIALS = {f"P{number} {name}": status for number, (status, name) in RULES.items()} | {
     "P15 LIMIT": 503, "H1 HEAD": 400, "H2 HEADSIZE": 431, "H3 TRANSFER": 501, "H4 LENGTH": 400, "H5 BODYSIZE": 413,
-    "fault": 500, "stopped": 503,
+    "fault": 500, "stopped": 503, "unreachable": 503, "unknown": 503, "unassigned": 503,
 }
-# Denials that no list of requests to a new service reaches: the maximum serial, and a space that broke.
-UNREACHED = {"P15", "stopped"}
-
-
-def whole(value, document):
-    """Returns a part of the document with each reference replaced by its target."""
-    if isinstance(value, list):
-        return [whole(it, document) for it in value]
-    if not isinstance(value, dict):
-        return value
-    if "$ref" in value:
-        part = document
-        for name in value["$ref"].removeprefix("#/").split("/"):
-            part = part[name]
-        return whole(part, document)
-    return {name: whole(it, document) for name, it in value.items()}
-
-
-def of_json_schema(schema):
-    """Converts a schema of OpenAPI 3.0 to JSON Schema: null by its type, and the `$` of ECMA 262 as Python writes it."""
-    if isinstance(schema, list):
-        return [of_json_schema(it) for it in schema]
-    if not isinstance(schema, dict):
-        return schema
-    made = {name: of_json_schema(it) for name, it in schema.items()}
-    if made.pop("nullable", False) is True:
-        made["type"] = [made["type"], "null"]
-    if isinstance(made.get("pattern"), str):
-        made["pattern"] = re.sub(r"\$$", r"\\Z", made["pattern"])
-    return made
+# Responses that no list of requests to a new service reaches: the maximum serial, a space that broke, and those of a pool.
+OF_POOL = {"unreachable", "unknown", "unassigned"}
+UNREACHED = {"P15", "stopped", *OF_POOL}
+# The files of the proxies, and the statuses that only HAProxy has.
+PROXIES, OF_HAPROXY = ("deploy/nginx.conf", "deploy/haproxy.cfg", "deploy/pool/haproxy.cfg"), {408, 411}
 
 
 class Document:
@@ -133,8 +108,9 @@ class Operation:
 
 
 def schema_and_examples(holder):
+    """Returns the validator of a body and its examples, without those of a proxy beside the service's."""
     content = holder["content"]["application/json"]
-    examples = {name: it["value"] for name, it in content["examples"].items()}
+    examples = {name: it["value"] for name, it in content["examples"].items() if "x-of-proxy" in holder or "x-of-proxy" not in it}
     return jsonschema.Draft4Validator(of_json_schema(content["schema"])), examples
 
 
@@ -170,31 +146,49 @@ def is_document():
     for kind, parts in document.text["components"].items():
         unused = {f"#/components/{kind}/{it}" for it in parts} - used
         found += [f"{it} is not used" for it in sorted(unused) if kind != "securitySchemes"]
-    found += hard_to_generate_from(document)
+    found += hard_to_generate_from(document) + other_messages(document)
     for operation in document.operations.values():
         words = set(re.findall(r"{(\w+)}", operation.path))
         found += [f"{operation.name}: other words than {words}"] if words != set(operation.words) else []
         found += examples_that_fail(operation)
         unreached = {it for it in operation.answers if it.partition(" ")[2] in UNREACHED}
-        wanted = {"503 stopped"} | ({"503 P15"} if operation.method in ("PUT", "DELETE") else set())
+        wanted = {"503 stopped", *(f"503 {it}" for it in OF_POOL)} | ({"503 P15"} if operation.method in ("PUT", "DELETE") else set())
         found += [f"{operation.name}: {unreached}, not {wanted}"] if unreached != wanted else []
     return found
 
 
+def other_messages(document):
+    """Returns how the messages of the schemas differ from those of the examples, which tables and the client have."""
+    parts = document.parts["components"]
+    told = {it["value"]["message"]: "x-of-proxy" in it for it in parts["examples"].values()}
+    allowed = set(parts["schemas"]["Denied"]["properties"]["message"]["enum"])
+    # a proxy's response has a schema of its own, unless the service has the same status
+    shared = {it["value"]["message"] for response in parts["responses"].values() if "x-of-proxy" not in response
+              for it in response["content"]["application/json"]["examples"].values()}
+    found = [f"Denied lacks {it}, or has it in excess" for it in sorted(allowed ^ shared)]
+    return found + [f"{it} is of no response" for it, is_of_proxy in told.items() if not is_of_proxy and it not in allowed]
+
+
 def of_proxies():
-    """Each response of a proxy has its form, and both configurations in deploy give it."""
-    document, found = the_document(), []
-    told = {status: it for path in document.parts["paths"].values() for method in METHODS if method in path
-            for status, it in path[method]["responses"].items() if it.get("x-of-proxy")}
-    for status, response in told.items():
-        schema, examples = schema_and_examples(response)
-        for it in (it for value in examples.values() for it in schema.iter_errors(value)):
-            found += [f"{status}: {it.message}"]
-        texts = [wire.compact(it) for it in examples.values()]
-        for file in "nginx.conf", "haproxy.cfg":
-            lines = [it for it in (TOP / "deploy" / file).read_text().splitlines() if re.search(rf"\b{status}\b", it)]
-            found += [f"{file} has no {status} {it}" for it in texts if not any(it in line for line in lines)]
-    return found + ([] if set(told) == {"429", "502", "504"} else [f"{set(told)}"])
+    """The document has exactly the responses that the files in deploy give, with their statuses."""
+    document, found, told = the_document(), [], set()
+    responses = [(status, it) for path in document.parts["paths"].values() for method in METHODS if method in path
+                 for status, it in path[method]["responses"].items()]
+    responses += [(it["x-status"], it) for it in document.parts["components"]["responses"].values() if "x-status" in it]
+    for status, response in responses:
+        content = response["content"]["application/json"]
+        values = [it["value"] for it in content["examples"].values() if "x-of-proxy" in it]
+        found += [f"{status}: {it.message}" for value in values for it in validator_of(content["schema"]).iter_errors(value)]
+        told |= {(int(status), wire.compact(it)) for it in values}
+    given = {}
+    for file in PROXIES:
+        text = (TOP / file).read_text()
+        pairs = re.findall(r"""(?:return|status) (\d{3}) (?:content-type application/json string )?'({"message":"proxy: [^']*)'""", text)
+        given[file] = {(int(status), body) for status, body in pairs}
+        lacking = {status for status, _ in told} - {status for status, _ in given[file]} - (OF_HAPROXY if "nginx" in file else set())
+        found += [f"{file} has no {it}" for it in sorted(lacking)]
+    found += [f"only one of the document and the files has {it}" for it in sorted(told ^ set().union(*given.values()))]
+    return found
 
 
 def schemas_in(value):

@@ -14,7 +14,7 @@ PAGES = sorted(it for pattern in ("*.md", "docs/*.md", "docs/*.yaml", "gateway/*
                for it in TOP.glob(pattern) if it.is_file() and it.suffix != ".pyc" and it.name != "CHANGELOG.md")
 VERSION = re.compile(r"(?<![\w.])(?!127\.)\d+\.\d+\.\d+(?!\.?\w)")
 # Versions of other programs and formats, with the words before them.
-OTHERS = {"Leaflet 1.7.1", "version 0.0.4", "openapi: 3.0.3"}
+OTHERS = {"version 0.0.4", "openapi: 3.0.3"}
 # The pages that say how to install a package, with its name.
 INSTALL = {"docs/OPERATE.md": "dss", "gateway/README.md": "dss-gateway"}
 # Replacements of scripts/package, which makes an empty file, and of sudo, which prints its arguments.

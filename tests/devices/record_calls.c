@@ -1,7 +1,8 @@
 /* Records the calls of a program that change its database, and its responses, in their order.
    It appends a record to the file that RECORDED names for each write, change of size and sync of a file whose name ends in
-   `.db` or `.db-wal`, and for each send on a socket. A record is a header, and the bytes of a write. It must be loaded before
-   the C library. */
+   `.db` or `.db-wal`, and for each send on a socket. A file that gets such a name by a link, which was synced under another
+   one, is a write of all its bytes and a sync. A record is a header, and the bytes of a write. It must be loaded before the C
+   library. */
 #define _GNU_SOURCE
 #include <fcntl.h>
 #include <limits.h>
@@ -43,6 +44,21 @@ static char which(int file) {
     ssize_t has = readlink(link, name, sizeof name - 1);
     name[has < 0 ? 0 : has] = 0;
     return ends_with(name, ".db") ? 'd' : ends_with(name, ".db-wal") ? 'l' : '-';
+}
+
+int link(const char *from, const char *to) {
+    char bytes[4096];
+    int status = syscall(SYS_link, from, to);
+    int file = status == 0 && ends_with(to, ".db") ? open(to, O_RDONLY | O_CLOEXEC) : -1;
+    ssize_t count = file < 0 ? -1 : read(file, bytes, sizeof bytes);
+    if (file < 0)
+        return status;
+    close(file);
+    if (count < 0 || count == sizeof bytes)
+        _exit(97);
+    note('w', 'd', 0, count, bytes);
+    note('s', 'd', 0, 0, NULL);
+    return status;
 }
 
 ssize_t pwrite(int file, const void *bytes, size_t count, off_t at) {

@@ -330,7 +330,7 @@ def marked(pool):
 
     def run(script):
         """Runs a script of deploy/pool. Returns what it printed."""
-        words = [TOP / "deploy" / "pool" / script, "a-file"]
+        words = [TOP / "deploy" / "pool" / script, "a0"]
         done = subprocess.run(words, env=given, stdin=subprocess.DEVNULL, capture_output=True, text=True, timeout=4 * LIMIT)
         assert done.returncode == 0, (script, done)
         return done.stdout
@@ -339,7 +339,7 @@ def marked(pool):
         door = pool.add(name, TOKENS, options=("--etcd-user", file, "--files", where))
         pool.ready([door])
         return door
-    mark = lambda: pool.cluster.control("--user", "root:r", "get", "mark/a-file", "--print-value-only").split()[:1]
+    mark = lambda: pool.cluster.control("--user", "root:r", "get", "mark/a0", "--print-value-only").split()[:1]
     # nothing has changed: there is one file, and no mark
     assert run("mark") == f"{first}\n" and names(folder) == [first] and mark() == []
     assert run("compact") == "compact: there is no mark yet\n"

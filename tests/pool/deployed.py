@@ -12,7 +12,9 @@ import ssl
 import subprocess
 import tempfile
 import time
+import urllib.request
 
+import conforms
 import drawn_calls
 import history
 import wire
@@ -21,6 +23,7 @@ from doors import PROGRAM, Exchange
 from file_cases import COMPACTED
 from machines import Failed, command, connect, until
 from pool import Skipped
+from ports import free_port
 from program import TOP
 from sites import ADMIN_PORT, BACK, DEPLOY, ETCD_PORT, NAMES, PORT, READ, code, kill, stop
 
@@ -75,7 +78,7 @@ def users(sites):
     name, password = (site.own / f"{SECOND}.user").read_text().strip().split(":")
     token = site.ask_member("/v3/auth/authenticate", {"name": name, "password": password})["token"]
     asked = lambda key, who: status_of(site, "/v3/kv/put", {"key": code(key), "value": code("no entry")}, who)
-    same([200, 403, 403, 403, 400], [asked("in/a2", token), asked("in/a", token), asked("in/", token), asked("x", token), asked("in/a2", None)],
+    same([200, 403, 403, 403, 400], [asked("in/a2", token), asked("in/a1", token), asked("in/", token), asked("x", token), asked("in/a2", None)],
          "who may write")
     same([403, 403], [asked("in/@suppliers", token), status_of(site, "/v3/kv/deleterange", {"key": code("in/@suppliers")}, token)], "who may write the list")
     read = lambda first, end, who: status_of(site, "/v3/kv/range", {"key": code(first), "range_end": code(end)}, who)
@@ -86,7 +89,7 @@ def users(sites):
     same(False, reaches(other, site.address, PORT) or reaches(other, site.address, ADMIN_PORT), "an instance is reached from another")
     same(True, speaks_tls(other, site.address, other.own), "members speak")
     same(False, speaks_tls(other, site.address), "a stranger speaks to a member")
-    same("0o600", oct((sites.room / "users" / "a.user").stat().st_mode & 0o777), "the mode of the user's file")
+    same("0o600", oct((sites.room / "users" / "a1.user").stat().st_mode & 0o777), "the mode of the user's file")
 
 
 def listed(sites):
@@ -101,7 +104,7 @@ def listed(sites):
     same(sorted(f"added: {it}" for it in file.read_text().splitlines()), sorted(said.splitlines()), "what the script added")
     same(file.read_text(), command(*words, f"ETCD_USER={site.own / SECOND}.user", DEPLOY / "suppliers", "--show"), "the list in force")
     (folder / "others.txt").write_text("a uss-x\n")
-    for given in ("others.txt",), ("--everyone",):
+    for given in ("--remove", "others.txt"), ("--everyone",):
         with contextlib.suppress(OSError):
             command(*words, f"ETCD_USER={site.own / SECOND}.user", DEPLOY / "suppliers", *given)
             raise Failed(f"suppliers {given} succeeded as {SECOND}")
@@ -113,12 +116,15 @@ def listed(sites):
 
 
 def later_users(sites):
-    """The script makes the user of a further instance, and keeps the others."""
+    """The script makes the user of a further instance, and keeps the others and those that it made before."""
     site, folder = sites.sites[0], sites.room / "users"
     words = ["nsenter", "-t", site.network.pid, "-n", "env", "-C", folder, DEPLOY / "make-users"]
     command(*words, SECOND)
     shutil.copy(folder / f"{SECOND}.user", site.own)
-    for wrong in ("a",), ("a/b",), ("root",), ():
+    before = [(folder / f"{it}.user").read_text() for it in ("a1", SECOND, "root")]
+    command(*words, "a1", SECOND)
+    same(before, [(folder / f"{it}.user").read_text() for it in ("a1", SECOND, "root")], "the files after a second run")
+    for wrong in ("a/b",), ("root",), ("a-file",), ():
         with contextlib.suppress(OSError):
             command(*words, *wrong)
             raise Failed(f"make-users {wrong} succeeded")
@@ -153,7 +159,9 @@ class Proxy:
         with contextlib.closing(connection):
             connection.request(method, target, body, {"Authorization": authorization})
             answer = connection.getresponse()
-            return answer.status, answer.read().decode()
+            text = answer.read().decode()
+        conforms.check(method, target, answer.status, text)
+        return answer.status, text
 
 
 def by_read(text, token):
@@ -422,13 +430,13 @@ def within(site, given, *words):
 
 def mark_of(sites, site):
     """Returns the revision in the mark of an organization, or None."""
-    line = control(sites, "get", f"mark/{site.name}-file", "--print-value-only").strip()
+    line = control(sites, "get", f"mark/{site.name}0", "--print-value-only").strip()
     return int(line.split()[0]) if line else None
 
 
 def marks(sites, site):
     """Runs `mark` of an organization. Returns the names of its files, the oldest first, whose last one it prints."""
-    folder, name = site.own / "files", f"{site.name}-file"
+    folder, name = site.own / "files", f"{site.name}0"
     folder.mkdir(exist_ok=True)
     given = {"FILES": folder, "TOKENS": site.own / "tokens.toml", "ETCD_USER": site.own / f"{name}.user", "DSS": PROGRAM}
     status, printed, errors = within(site, given, DEPLOY / "mark", name)
@@ -440,7 +448,7 @@ def marks(sites, site):
 
 def compacts(site, *words):
     """Runs `compact` of an organization."""
-    name = f"{site.name}-file"
+    name = f"{site.name}0"
     return within(site, {"ETCD_USER": site.own / f"{name}.user"}, DEPLOY / "compact", name, *words)
 
 
@@ -467,13 +475,13 @@ def files(sites):
     if not (site.own / f"{SECOND}.user").exists():
         later_users(sites)
     folder = sites.room / "users"
-    command("nsenter", "-t", site.network.pid, "-n", "env", "-C", folder, DEPLOY / "make-users", *(f"{it.name}-file" for it in sites.sites))
+    command("nsenter", "-t", site.network.pid, "-n", "env", "-C", folder, DEPLOY / "make-users", *(f"{it.name}0" for it in sites.sites))
     for it in sites.sites:
-        shutil.copy(folder / f"{it.name}-file.user", it.own)
-    name, password = (site.own / "a-file.user").read_text().strip().split(":")
+        shutil.copy(folder / f"{it.name}0.user", it.own)
+    name, password = (site.own / "a0.user").read_text().strip().split(":")
     token = site.ask_member("/v3/auth/authenticate", {"name": name, "password": password})["token"]
     asked = lambda key: status_of(site, "/v3/kv/put", {"key": code(key), "value": code("1 1")}, token)
-    same([403, 403, 403], [asked(it) for it in ("mark/b-file", "mark/", "in/a")], "which marks a user may put")
+    same([403, 403, 403], [asked(it) for it in ("mark/b0", "mark/", "in/a1")], "which marks a user may put")
     same((0, "compact: there is no mark yet\n", ""), compacts(site), "a compaction without marks")
     for number, it in enumerate(sites.sites):
         until(lambda: asks(site, put(6_000 + 2 * number))[0] == 201, "a change", BACK)
@@ -495,11 +503,11 @@ def files(sites):
     # values that are no marks
     wrong = {"nonsense": "nonsense is no mark", "1": "1 is no mark", "900000000 1": "etcd has not reached revision 900000000"}
     for number, (text, why) in enumerate(wrong.items(), 6_010):
-        control(sites, "put", "mark/b-file", text)
+        control(sites, "put", "mark/b0", text)
         until(lambda: asks(site, put(number))[0] == 201, "a change", BACK)
         marks(sites, site), marks(sites, sites.sites[2])
         least = min(mark_of(sites, it) for it in sites.sites if it is not other)
-        same((0, f"compact: the log begins behind revision {least}\n", f"compact: mark/b-file does not count: {why}\n"), compacts(site), text)
+        same((0, f"compact: the log begins behind revision {least}\n", f"compact: mark/b0 does not count: {why}\n"), compacts(site), text)
     # an organization without which the log is compacted
     takes_newest(other, site)
     until(lambda: asks(site, put(6_040))[0] == 201, "a change", BACK)
@@ -509,11 +517,11 @@ def files(sites):
         marks(sites, site), marks(sites, sites.sites[2])
     same((0, f"compact: the log begins behind revision {int(late[:20])}\n", ""), compacts(site), "with an organization that is late")
     least = min(mark_of(sites, it) for it in sites.sites if it is not other)
-    same((0, f"compact: the log begins behind revision {least}\n", ""), compacts(site, "--without", "b-file"), "without it")
-    gone = f"compact: mark/b-file does not count: the log begins behind revision {int(late[:20])}\n"
+    same((0, f"compact: the log begins behind revision {least}\n", ""), compacts(site, "--without", "b0"), "without it")
+    gone = f"compact: mark/b0 does not count: the log begins behind revision {int(late[:20])}\n"
     same((0, f"compact: the log begins behind revision {least}\n", gone), compacts(site), "after that")
     for it in sites.sites:
-        control(sites, "put", f"mark/{it.name}-file", "nonsense")
+        control(sites, "put", f"mark/{it.name}0", "nonsense")
     status, printed, errors = compacts(site)
     same((1, "", "compact: no mark counts"), (status, printed, errors.splitlines()[-1]), "no mark")
     takes_newest(other, site)
@@ -565,7 +573,7 @@ def left(sites):
     """An organization leaves: its instance and its member go, and its user. The others go on, and need each other."""
     site, rest = sites.sites[2], sites.sites[:2]
     kill(site.instance)
-    for words in ("user", "delete", site.name), ("role", "delete", site.name), ("member", "remove", member_id(sites, site.name)):
+    for words in ("user", "delete", f"{site.name}1"), ("role", "delete", f"{site.name}1"), ("member", "remove", member_id(sites, site.name)):
         controls(sites, *words)
     site.member.wait(BACK)
     until(lambda: asks(rest[0], put(3_020))[0] == 201, "a change of those that stay", BACK)
@@ -574,6 +582,8 @@ def left(sites):
 
 # ---- the alerts
 
+FAILED_UNIT = 'node_systemd_unit_state{name="dss-follow@a0.service",state="failed"}'
+TIMER = 'node_systemd_unit_state{{name="dss-{}@a0.timer",state="active"}}'
 # For each alert: the series that fire it, and those that do not, in promtool's notation; and the labels of the series that it has.
 ALERTS = {
     "DssPoolLogSilent": ({"dss_pool_silence_seconds": "0x35 11x5"}, {"dss_pool_silence_seconds": "11x20 10x20"}),
@@ -600,6 +610,24 @@ ALERTS = {
     "DssPoolManyLeaders": (
         {"etcd_server_leader_changes_seen_total": "0x30 1+1x10"}, {"etcd_server_leader_changes_seen_total": "0x38 3x2"},
     ),
+    "DssPoolMemberAway": ({"etcd_network_active_peers": "1x30 0x10"}, {"etcd_network_active_peers": "0x30 1x10"}),
+    # The tests of promtool begin at the time 0, and have a sample each minute.
+    "DssPoolClocksDiffer": ({"dss_pool_heard_time_seconds": "11+60x35 0x5"}, {"dss_pool_heard_time_seconds": "10+60x40"}),
+    "DssPoolClockUnsynced": (
+        {"node_timex_sync_status": "0x40", "node_timex_maxerror_seconds": "16x40"},
+        {"node_timex_sync_status": "0x20 1x20", "node_timex_maxerror_seconds": "16x40"},
+    ),
+    "DssPoolUnitFailed": (
+        {FAILED_UNIT: "1x20 0 1x4 0 1x14"}, {FAILED_UNIT: "1x20 0x20"}, {"name": "dss-follow@a0.service"},
+    ),
+    "DssPoolTimerStopped": (
+        {TIMER.format("follow"): "1x10 0x30", TIMER.format("compact"): "1x40"}, {TIMER.format("follow"): "1x40", TIMER.format("compact"): "1x40"},
+    ),
+    "DssPoolDiskFull": (
+        {'node_filesystem_avail_bytes{mountpoint="/"}': "9x40", 'node_filesystem_size_bytes{mountpoint="/"}': "100x40"},
+        {'node_filesystem_avail_bytes{mountpoint="/"}': "10x40", 'node_filesystem_size_bytes{mountpoint="/"}': "100x40"},
+        {"mountpoint": "/"},
+    ),
 }
 
 
@@ -622,10 +650,10 @@ def alerts(_sites):
             given = [{"series": name, "values": values} for name, values in series.items()]
             tests.append({"interval": "1m", "input_series": given, "alert_rule_test": [asked]})
     with tempfile.TemporaryDirectory() as room:
-        for name, file in (("prometheus.yaml", DEPLOY), ("prometheus-rules.yaml", DEPLOY.parent)):
+        for name, file in (("prometheus.yml", DEPLOY), ("prometheus-rules.yaml", DEPLOY.parent)):
             shutil.copy(file / name, room)
         shutil.copy(DEPLOY / "prometheus-rules.yaml", f"{room}/pool-rules.yaml")
-        command("promtool", "check", "config", f"{room}/prometheus.yaml")
+        command("promtool", "check", "config", f"{room}/prometheus.yml")
         file = pathlib.Path(room, "tests.yaml")
         file.write_text(yaml.safe_dump({"rule_files": ["pool-rules.yaml"], "evaluation_interval": "1m", "tests": tests}))
         command("promtool", "test", "rules", file)
@@ -636,8 +664,32 @@ def metrics(sites):
     site = sites.sites[0]
     had = {it.split("{")[0].split()[0] for port in (ADMIN_PORT, ETCD_PORT) for it in asked(site, port, "/metrics").splitlines() if it}
     named = {it for series in ALERTS.values() for it in (name.split("{")[0] for name in series[0])}
-    # Prometheus makes this one itself
-    same([], sorted(named - had - {"up"}), "metrics that nothing has")
+    # Prometheus makes the first one itself. An instance has the second one once it was given a call of another organization. node_exporter
+    # has the others.
+    others = {"up", "dss_pool_heard_time_seconds"}
+    same([], sorted(it for it in named - had - others if not it.startswith("node_")), "metrics that nothing has")
+
+
+def node_metrics(_sites):
+    """Debian's node_exporter has the metrics of the alerts, except that of units, for which it needs systemd."""
+    program = shutil.which("prometheus-node-exporter")
+    if not program:
+        raise Skipped("the package prometheus-node-exporter is missing")
+    listening = f"127.0.0.1:{free_port()}"
+    process = subprocess.Popen([program, f"--web.listen-address={listening}"], stdout=subprocess.DEVNULL, stderr=subprocess.DEVNULL)
+    try:
+        text = until(lambda: page_of(listening), "node_exporter answers", BACK)
+    finally:
+        kill(process)
+    had = {it.split("{")[0].split()[0] for it in text.splitlines() if it}
+    named = {name.split("{")[0] for series in ALERTS.values() for name in series[0] if name.startswith("node_")}
+    same(["node_systemd_unit_state"], sorted(named - had | {"node_systemd_unit_state"}), "metrics that node_exporter lacks")
+
+
+def page_of(address):
+    with contextlib.suppress(OSError):
+        return urllib.request.urlopen(f"http://{address}/metrics", timeout=BACK).read().decode()
+    return ""
 
 
 def unit(_sites):
@@ -656,8 +708,8 @@ def unit(_sites):
             (folder / f"{name}@.service").write_text(text.replace(f"/usr/local/lib/dss/{script}", "/bin/true"))
             shutil.copy(DEPLOY / f"{name}@.timer", folder)
             for kind in "service", "timer":
-                (folder / f"{name}@a-file.{kind}").symlink_to(f"{name}@.{kind}")
-                units.append(folder / f"{name}@a-file.{kind}")
+                (folder / f"{name}@a0.{kind}").symlink_to(f"{name}@.{kind}")
+                units.append(folder / f"{name}@a0.{kind}")
         if packaged.exists():
             units.append(folder / "etcd.service")
             shutil.copy(packaged, folder)

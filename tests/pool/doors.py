@@ -1,4 +1,5 @@
 """Instances of a pool over members of etcd on this machine: `dss serve --pool`."""
+import collections
 import os
 import pathlib
 import re
@@ -8,6 +9,7 @@ import subprocess
 import threading
 import time
 
+import conforms
 import wire
 from freezing import freeze
 from ports import free_port
@@ -111,6 +113,8 @@ class Exchange:
 
     def __init__(self, door, limit=LIMIT):
         self.door, self.limit, self.connection, self.left = door, limit, None, 0
+        # what was sent and has no response yet
+        self.open = collections.deque()
 
     def send(self, call):
         if self.connection is None or not self.left:
@@ -118,6 +122,7 @@ class Exchange:
             self.connection, self.left = self.door.connect(self.limit), wire.MAX_REQUESTS
         self.left -= 1
         self.connection.sendall(wire.request(*call))
+        self.open.append(call[:2])
 
     def ask(self, call):
         """Returns the status and the body of a response."""
@@ -142,7 +147,11 @@ class Exchange:
                 if not lengths or len(rest) >= int(lengths[0].partition(b":")[2]):
                     if b"\r\nconnection: close" in head.lower():
                         self.left = 0
-                    return int(head.split()[1]), rest
+                    status = int(head.split()[1])
+                    # a test that sends bytes by itself notes no call
+                    if self.open:
+                        conforms.check(*self.open.popleft(), status, rest)
+                    return status, rest
             piece = self.connection.recv(1 << 16)
             if not piece:
                 raise OSError("the connection ended")
@@ -152,6 +161,7 @@ class Exchange:
         if self.connection:
             self.connection.close()
         self.connection = None
+        self.open.clear()
 
 
 def until(holds, why, limit=LIMIT):
@@ -215,7 +225,7 @@ class Pool:
         self.doors.append(door)
         raise AssertionError(f"{name} listens")
 
-    def start_follow(self, folder, tokens, salt=wire.SALT, name="a-file", options=(), **more):
+    def start_follow(self, folder, tokens, salt=wire.SALT, name="a0", options=(), **more):
         """Starts `dss follow`, which writes a file of the pool to a directory."""
         file = pathlib.Path(self.room) / f"{name}.toml"
         file.write_text(wire.token_file(tokens, salt))

@@ -22,7 +22,7 @@ class Log:
         self.room = pathlib.Path(room)
         self.cluster = Cluster(room)
         # etcd without users takes any user
-        (self.room / "user").write_text("a-file:none\n")
+        (self.room / "user").write_text("a0:none\n")
 
     def put(self, key, value):
         """Puts a value. Returns the revision of the change."""
@@ -38,7 +38,7 @@ class Log:
         with concurrent.futures.ThreadPoolExecutor(16) as threads:
             return max(threads.map(lambda _: self.put("in/x", "no entry"), range(count)))
 
-    def compact(self, *words, name="a-file", **more):
+    def compact(self, *words, name="a0", **more):
         """Returns the status, the output and the lines of the error of a run."""
         given = {"ETCD_USER": str(self.room / "user"), "ENDPOINTS": self.cluster.addresses(), "LIMIT": str(LIMIT)} | more
         done = subprocess.run(
@@ -84,7 +84,7 @@ def foreign(log):
     nameless = "mark/a b does not count: it has no name of a user"
     status, printed, errors = log.compact()
     assert (status, printed, errors) == (1, "", [f"compact: {it}" for it in (nameless, *said, "no mark counts")]), errors
-    log.mark("a-file", last)
+    log.mark("a0", last)
     log.mark("j", first)
     log.begins(first, nameless, *said)
     # a mark before the beginning of the log holds nothing
@@ -95,57 +95,57 @@ def foreign(log):
 def clocks(log):
     """No clock makes a mark count or not."""
     first = log.fill(20)
-    for name, revision, ahead in ("a-file", first - 1, HALF_A_DAY), ("b-file", first - 2, 0), ("c-file", first - 3, -99 * HALF_A_DAY):
+    for name, revision, ahead in ("a0", first - 1, HALF_A_DAY), ("b0", first - 2, 0), ("c0", first - 3, -99 * HALF_A_DAY):
         log.mark(name, revision, ahead)
     log.begins(first - 3)
-    log.mark("c-file", first, 10**11)
+    log.mark("c0", first, 10**11)
     log.begins(first - 2)
 
 
 def behind(log):
     """A mark that stands behind keeps the log, and is reported, until it is released."""
     first = log.fill(10)
-    log.put("mark/c-file", f"{first} 999999999999")
-    log.mark("b-file", first + 1)
+    log.put("mark/c0", f"{first} 999999999999")
+    log.mark("b0", first + 1)
     last = log.fill(AHEAD + 10)
     # The own mark was not put often enough since: the organization has just come back.
     for _ in range(LIMIT):
-        log.mark("a-file", last)
-    log.mark("b-file", last)
+        log.mark("a0", last)
+    log.mark("b0", last)
     log.begins(first)
-    log.mark("a-file", last)
-    said = lambda puts: f"mark/c-file stands behind: mark/a-file was put {puts} times since revision {first}; ask its organization, or run compact --without c-file"
+    log.mark("a0", last)
+    said = lambda puts: f"mark/c0 stands behind: mark/a0 was put {puts} times since revision {first}; ask its organization, or run compact --without c0"
     log.begins(first, said(LIMIT + 1), status=1)
     # also if it is put again and again
-    log.mark("c-file", first)
-    log.mark("a-file", last)
+    log.mark("c0", first)
+    log.mark("a0", last)
     log.begins(first, said(LIMIT + 2), status=1)
     # a mark that is a few files behind, as in a pool with few changes, does not stand behind
-    log.mark("b-file", last - AHEAD)
+    log.mark("b0", last - AHEAD)
     log.begins(first, said(LIMIT + 2), status=1)
-    log.begins(last - AHEAD, words=("--without", "c-file"))
-    gone = f"mark/c-file does not count: the log begins behind revision {first}"
+    log.begins(last - AHEAD, words=("--without", "c0"))
+    gone = f"mark/c0 does not count: the log begins behind revision {first}"
     log.begins(last - AHEAD, gone)
-    log.mark("b-file", last)
+    log.mark("b0", last)
     log.begins(last, gone)
-    log.mark("c-file", last)
+    log.mark("c0", last)
     log.begins(last)
-    for words in ("--without", "d-file"), ("--without",), ("--without", "a b"), ("b-file",), ("--other",):
+    for words in ("--without", "d0"), ("--without",), ("--without", "a b"), ("b0",), ("--other",):
         assert log.compact(*words)[:2] == (1, ""), words
-    assert log.compact("--without", "d-file")[2] == ["compact: there is no mark/d-file"]
+    assert log.compact("--without", "d0")[2] == ["compact: there is no mark/d0"]
 
 
 def first_file(log):
     """A mark of the first file of a pool keeps the whole log, and does not stand behind before the own one is far ahead."""
     last = log.fill(10)
-    log.mark("b-file", 0)
+    log.mark("b0", 0)
     for _ in range(LIMIT + 2):
-        log.mark("a-file", last)
+        log.mark("a0", last)
     log.begins(0)
-    log.mark("b-file", last - 1)
+    log.mark("b0", last - 1)
     log.begins(last - 1)
-    log.mark("b-file", 0)
-    log.begins(last, "mark/b-file does not count: the log begins behind revision 0")
+    log.mark("b0", 0)
+    log.begins(last, "mark/b0 does not count: the log begins behind revision 0")
 
 
 CASES = {

@@ -10,7 +10,7 @@ from deployed import (
 from doors import PROGRAM
 from machines import Failed, command, until
 from pool import Skipped
-from sites import BACK, ETCD_PORT, NAMES, kill, stop
+from sites import BACK, ETCD_PORT, INSTANCES, NAMES, kill, stop
 
 
 def lost_since(sites):
@@ -134,7 +134,7 @@ def lost_etcd(sites):
     for it in sites.sites:
         it.start_member(ETCD_INITIAL_CLUSTER_TOKEN="dss-pool-2")
     sites.await_leader()
-    sites.make_users("users-2", (*NAMES, *(f"{it}-file" for it in NAMES)))
+    sites.make_users("users-2", (*INSTANCES, *(f"{it}0" for it in NAMES)))
     words = ["--tokens", site.own / "tokens.toml", "--db", site.own / "files.old" / newest.name, "--files", site.own / "files"]
     first = command(PROGRAM, "begin", *words).strip()
     for it in sites.sites:

@@ -8,6 +8,7 @@ import json
 import os
 import pathlib
 import shutil
+import string
 import struct
 import subprocess
 import tempfile
@@ -23,6 +24,7 @@ from program import TOP
 
 DEPLOY = TOP / "deploy" / "pool"
 NAMES = ("a", "b", "c")
+INSTANCES = tuple(f"{it}1" for it in NAMES)
 PORT, ADMIN_PORT, ETCD_PORT = 8080, 8078, 2379
 PACKAGES = ("etcd-server", "etcd-client", "iproute2", "openssl", "gcc", "libc6-dev")
 READ = ("GET", f"{wire.AVAILABILITY}/uss-n", "Bearer tok-v", None)
@@ -81,7 +83,7 @@ class Network:
 
 
 class Site:
-    """An organization: its network, its member of etcd and its instance, which has the same name."""
+    """An organization: its network, its member of etcd and its instance, whose name is that of the organization and 1."""
 
     def __init__(self, room, at, switch):
         self.name, self.address, self.switch = NAMES[at], f"10.78.0.{at + 1}", switch
@@ -143,7 +145,7 @@ class Site:
 
     def start_instance(self, *more):
         environment = {"LD_PRELOAD": self.preload, "CLOCK_FILE": str(self.clock)}
-        words = [*self.words(self.name, PORT, ADMIN_PORT), *more]
+        words = [*self.words(f"{self.name}1", PORT, ADMIN_PORT), *more]
         self.instance = self.network.start(words, self.own / "dss.log", environment)
 
     def move_clock(self, seconds):
@@ -249,14 +251,14 @@ class Sites:
                 shutil.copy(keeper / name, it.own / given)
             (it.own / f"{it.name}.key").rename(it.own / "member.key")
 
-    def make_users(self, name="users", names=NAMES):
+    def make_users(self, name="users", names=INSTANCES):
         folder = self.room / name
         folder.mkdir()
         words = ["nsenter", "-t", self.sites[0].network.pid, "-n", "env", "-C", folder, DEPLOY / "make-users", *names]
         command(*words)
         for it in self.sites:
             for made in names:
-                if made.split("-")[0] == it.name:
+                if made.rstrip(string.digits) == it.name:
                     shutil.copy(folder / f"{made}.user", it.own)
         self.root = (folder / "root.user").read_text().strip().split(":")
 

@@ -554,13 +554,20 @@ def by_script(pool):
     empty = "suppliers: the list is empty: every organization may act for every USS\n"
     put_list = lambda *words, **more: run("suppliers", *words, **more)
     assert put_list("--show") == (1, "", "suppliers: cannot read root.user; ETCD_USER names the file with NAME:PASSWORD\n")
-    assert run("make-users", "a1", "b-file")[0] == 0
+    for wrong in "b", "b-file", "12":
+        why = f"make-users: {wrong}: a name ends with digits, and without them is the name of the organization, as b0 or b1\n"
+        assert run("make-users", "a1", wrong) == (1, "", why), wrong
+    assert run("make-users", "a1", "b0")[0] == 0
     assert put_list("--show") == (0, "", empty) and kept() == ""
     assert put_list(file("a uss-a\nb uss-b\na uss.c_2-x")) == (0, "added: a uss-a\nadded: a uss.c_2-x\nadded: b uss-b\n", "")
     assert kept() == "a uss-a\nb uss-b\na uss.c_2-x\n"
     assert put_list("--show") == (0, kept(), "")
     assert put_list(file("b uss-b\na uss-a\na uss.c_2-x\n")) == (0, "suppliers: nothing changes\n", "")
-    assert put_list(file("a uss-a\n.Org- uss-b\n")) == (0, "added: .Org- uss-b\nremoved: a uss.c_2-x\nremoved: b uss-b\n", "")
+    changed, before = "added: .Org- uss-b\nremoved: a uss.c_2-x\nremoved: b uss-b\n", kept()
+    refused = "suppliers: nothing was put: the list removes lines, whose USSs would no longer be served; to put it, run: suppliers --remove list\n"
+    assert put_list(file("a uss-a\n.Org- uss-b\n")) == (1, "", changed + refused) and kept() == before
+    assert put_list("--remove", "list") == (0, changed, "")
+    assert put_list("--remove", "--everyone") == (1, "", "suppliers: --remove takes a file\n")
     wrong = {
         "a uss-a\nb uss-b\n\n": "list:3: a blank line", "a uss-a\nb uss-b\na uss-a\n": "list:3: the same as line 1",
         "a uss-a\na1 uss-a\n": "list:2: a1 is no organization: it is the name of its instances without the digits at the end",
@@ -578,14 +585,14 @@ def by_script(pool):
     assert put_list("none") == (1, "", "suppliers: cannot read none\n")
     assert kept() == before
     # a user of an instance, or of dss follow, shows the list and cannot put it
-    for user in "a1.user", "b-file.user":
+    for user in "a1.user", "b0.user":
         assert put_list("--show", ETCD_USER=user) == (0, before, "")
-        for words in ("--everyone",), (file("a uss-x\n"),):
+        for words in ("--everyone",), ("--remove", file("a uss-x\n")):
             status, printed, errors = put_list(*words, ETCD_USER=user)
             assert (status, printed) == (1, "") and "permission denied" in errors, (words, status, printed, errors)
     assert put_list("--show") == (0, before, "")
     one = pool.add("a1", TOKENS, options=("--etcd-user", room / "a1.user"))
-    assert put_list(file(list_of("a", a=["uss-a"])))[0] == 0
+    assert put_list("--remove", file(list_of("a", a=["uss-a"])))[0] == 0
     pool.ready([one])
     assert (ask(one, intent(1, "tok-a"))[0], ask(one, intent(1, "tok-b"))) == (404, UNASSIGNED)
     status, printed, errors = put_list("--everyone")

@@ -72,6 +72,8 @@ class Fake:
         self.draw, self.rate = draw, rate
         self.users, self.tokens = users or {}, set()
         self.requests, self.closed = [], False
+        # The seconds before each line with changes, and between its eighths.
+        self.silence, self.pause = 0, 0
         # A request with the fault "held" has come, may be answered, and was answered.
         self.held, self.released, self.answered = threading.Event(), threading.Event(), threading.Event()
         self.listeners = []
@@ -348,6 +350,16 @@ class Fake:
         for part in ([raw[at : at + 1] for at in range(len(raw))] if bytewise else [raw]):
             conn.sendall(f"{len(part):x}\r\n".encode() + part + b"\r\n")
 
+    def slowly(self, conn, line):
+        """Sends a line with changes in eighths, after the silence and with the pauses that are wanted."""
+        time.sleep(self.silence)
+        raw = json.dumps(line, separators=(",", ":")).encode() + b"\n"
+        size = len(raw) // 8 + 1
+        for at in range(0, len(raw), size):
+            part = raw[at : at + size]
+            conn.sendall(f"{len(part):x}\r\n".encode() + part + b"\r\n")
+            time.sleep(self.pause)
+
     def tell(self, conn, header, events):
         """Sends changes. Returns True if the watch goes on."""
         fault = self.fault("watch")
@@ -383,6 +395,8 @@ class Fake:
             progress = {"result": {"header": header}}
             alone = [{"result": {"header": header, "events": [it]}} for it in events]
             self.chunk(conn, [progress, *alone, progress])
+        elif self.silence or self.pause:
+            self.slowly(conn, line)
         else:
             self.chunk(conn, [line])
         return True

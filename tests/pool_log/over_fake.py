@@ -806,6 +806,20 @@ def many_entries(shape):
     one.close()
 
 
+def lines_in_pieces():
+    """The limit of a watch counts from its last byte, so a line that comes in pieces is awaited."""
+    fake = Fake()
+    fake.pause = 0.5
+    offer_all(Instance(fake.addresses(), "a"), fake, 1)
+
+
+def silent_watches():
+    """A member that is always silent for longer than the limit before changes gets more time with each watch."""
+    fake = Fake()
+    fake.silence = 5
+    offer_all(Instance(fake.addresses(), "a"), fake, 1)
+
+
 def drawn_faults(seed):
     """Three instances, with faults drawn by a seed."""
     draw = random.Random(seed)
@@ -836,6 +850,7 @@ def cases(seeds=6):
         counts_behind_a_revision, no_end_before_the_fence, refused_puts, batches_that_end, batches_that_were_made, starts_in_the_middle,
         removed_beginnings, shortened_logs, tokens,
         endpoints_in_turn, long_batches, supplier_lists, lists_behind_a_revision, lists_that_are_gone, own_entries_that_do_not_count,
+        lines_in_pieces, silent_watches,
     )}
     for words in GAPS:
         found[f"gap: {words}"] = lambda words=words: changes_left_out(words)

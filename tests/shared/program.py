@@ -4,6 +4,7 @@ import pathlib
 import subprocess
 import tempfile
 
+import conforms
 import wire
 
 TOP = pathlib.Path(__file__).resolve().parents[2]
@@ -34,7 +35,9 @@ def serve(requests, now, tokens=None, more=None):
     with tempfile.TemporaryDirectory() as room:
         file = pathlib.Path(room, "tokens.toml")
         file.write_bytes((wire.token_file() if tokens is None else tokens).encode())
-        return run([BUILT, "run", "--tokens", str(file), "--now", str(now), "-"], requests, more=more)
+        status, output, error = run([BUILT, "run", "--tokens", str(file), "--now", str(now), "-"], requests, more=more)
+    conforms.check_stream(wire.answers_of(output))
+    return status, output, error
 
 
 def first_difference(wanted, got):

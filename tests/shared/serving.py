@@ -8,6 +8,7 @@ import subprocess
 import tempfile
 import time
 
+import conforms
 import wire
 from ports import free_port
 from program import BUILT, SECONDS
@@ -113,7 +114,9 @@ class Service:
 
     def ask(self, requests):
         """Returns the responses to requests over one connection."""
-        return wire.answers_of(self.exchange(b"".join(requests)))
+        answers = wire.answers_of(self.exchange(b"".join(requests)))
+        conforms.check_stream(answers)
+        return answers
 
     @contextlib.contextmanager
     def paused(self):

@@ -9,6 +9,7 @@ import pathlib
 import threading
 import time
 
+import conforms
 import drawn_calls
 import plain_policy
 import tables
@@ -35,7 +36,9 @@ def exchange(connection, call):
         if mark:
             lengths = [it for it in head.lower().split(b"\r\n") if it.startswith(b"content-length:")]
             if not lengths or len(rest) >= int(lengths[0].partition(b":")[2]):
-                return int(head.split()[1]), rest
+                status = int(head.split()[1])
+                conforms.check(*call[:2], status, rest)
+                return status, rest
         piece = connection.recv(1 << 16)
         if not piece:
             return None

@@ -1,8 +1,8 @@
 """A client of the dss discovery and synchronization service. docs/CLIENTS.md explains the interface."""
 from .client import Client, Id, Known, Reference, Retry
 from .errors import (
-    BadResponse, Denial, DssError, Fault, IgnoredMembers, MissingKey, ProxyError, ResponseError, Stopped, Unanswered,
-    Unreachable)
+    BadResponse, Denial, DssError, Failure, Fault, IgnoredMembers, LogUnreachable, MissingKey, ProxyError, ResponseError,
+    Stopped, Unanswered, Unassigned, UnknownOutcome, Unreachable)
 from .models import (
     NO_SUBSCRIPTION, Area, Availability, AvailabilityTold, Constraint, ConstraintChanged, ConstraintPut, Intent,
     IntentChanged, IntentPut, State, Subscriber, Subscription, SubscriptionIndex, SubscriptionPut,
@@ -12,8 +12,9 @@ from .subscriptions import Refresh, Subscriptions, Tracked
 
 __all__ = [
     "NO_SUBSCRIPTION", "Area", "Availability", "AvailabilityTold", "BadResponse", "Client", "Constraint",
-    "ConstraintChanged", "ConstraintPut", "Denial", "DssError", "Fault", "Id", "IgnoredMembers", "Intent",
-    "IntentChanged", "IntentPut", "Known", "MissingKey", "Peers", "ProxyError", "Reference", "Refresh",
+    "ConstraintChanged", "ConstraintPut", "Denial", "DssError", "Failure", "Fault", "Id", "IgnoredMembers", "Intent",
+    "IntentChanged", "IntentPut", "Known", "LogUnreachable", "MissingKey", "Peers", "ProxyError", "Reference", "Refresh",
     "ResponseError", "Retry", "State", "Stopped", "Subscriber", "Subscription", "SubscriptionIndex",
-    "SubscriptionPut", "SubscriptionStored", "Subscriptions", "Tracked", "Unanswered", "Unreachable", "Volume",
+    "SubscriptionPut", "SubscriptionStored", "Subscriptions", "Tracked", "Unanswered", "Unassigned", "UnknownOutcome",
+    "Unreachable", "Volume",
 ]

@@ -32,17 +32,19 @@ Reference = Union[Intent, Constraint]
 class Retry:
     """How often a request is sent, and the seconds between two tries, which double each time.
 
-    A `Retry-After` of a proxy is obeyed up to `patience` seconds. Beyond that the error is raised at once."""
+    A `Retry-After` of a proxy is obeyed up to `patience` seconds. Beyond that the error is raised at once. A change that
+    is open is sent again for `settle` seconds, however many tries that are."""
 
     tries: int = 5
     first: float = 0.2
     longest: float = 5.0
     patience: float = 30.0
+    settle: float = 60.0
 
     def pause(self, number: int, error: DssError) -> float:
         """Returns the seconds to wait after so many tries."""
         least = error.retry_after if isinstance(error, ProxyError) and error.retry_after is not None else 0.0
-        return max(least, random.uniform(0.5, 1.0) * min(self.longest, self.first * 2.0 ** (number - 1)))
+        return max(least, random.uniform(0.5, 1.0) * min(self.longest, self.first * 2.0 ** min(number - 1, 64)))
 
 
 @dataclasses.dataclass(frozen=True)
@@ -57,9 +59,10 @@ class Known:
 class Client:
     """Calls a service with one token. Any number of threads may share it.
 
-    A request that fails for a time is sent again, unchanged. If a change was made and its response was lost, the client
-    finds that out as docs/CLIENTS.md says under "Retrying requests": it reads the entity, and puts the same content
-    again, because only the response to a put says whom to notify.
+    A request that fails for a time is sent again, unchanged. If the outcome of a change is open, since its response was lost
+    or is `unknown`, the client settles it as docs/CLIENTS.md says under "Retrying requests". If it was made, the client reads
+    the entity, and puts the same content again, because only the response to a put says whom to notify. So a change returns,
+    or raises an error without `maybe_made`, only if its outcome is final. For that, the URL must lead to one instance.
 
     `token` is the bearer token, or a function that returns the present one."""
 
@@ -98,6 +101,7 @@ class Client:
                 raise
             found = self.read_intent(id)
             if not _is_next(found, put, over) or (found.state, found.subscription_id) != (put.state, _referenced(put)):
+                denial.maybe_made = _may_be_before(found, over)
                 raise
         try:
             return self.put_intent(id, put, found)
@@ -153,6 +157,7 @@ class Client:
                 raise
             found = self.read_constraint(id)
             if not _is_next(found, put, over):
+                denial.maybe_made = _may_be_before(found, over)
                 raise
         return self.put_constraint(id, put, found)
 
@@ -177,6 +182,7 @@ class Client:
                 raise
             found = self._own_subscription(id)
             if found is None or not _has_content(found, put):
+                denial.maybe_made = found is not None
                 raise
         return self.put_subscription(id, put, found)
 
@@ -234,17 +240,23 @@ class Client:
             raise
 
     def _call(self, method: str, path: str, body: Any, form: Type[Model]) -> Model:
-        """Sends a request until there is a response that is no transient failure, and at most `Retry.tries` times."""
+        """Sends a request until there is a response that is no transient failure, and at most `Retry.tries` times. Sends a
+        change whose outcome is open for `Retry.settle` seconds."""
         data = None if body is None else json.dumps(models.encode(body)).encode()
         is_change = method in ("PUT", "DELETE")
-        maybe_made, number = False, 0
+        # until when a change that is open is sent again
+        until: Optional[float] = None
+        number = 0
         while True:
             number += 1
             try:
                 return self._try(method, path, data, form)
             except DssError as error:
-                maybe_made = error.maybe_made = is_change and (maybe_made or error.maybe_made)
-                if not error.is_transient or number >= self._retry.tries:
+                error.maybe_made = is_change and (error.maybe_made or until is not None and not _was_not_made(error))
+                if error.maybe_made and until is None:
+                    until = time.monotonic() + self._retry.settle
+                is_late = until is None or time.monotonic() >= until
+                if not error.is_transient or number >= self._retry.tries and is_late:
                     raise
                 pause = self._retry.pause(number, error)
                 if pause > self._retry.patience:
@@ -293,9 +305,24 @@ def _name(reference: Reference) -> Tuple[type, str]:
     return type(reference), reference.id
 
 
+# The denials that a request gets only if an earlier one, the same, was not made. The service evaluates them in the state, after
+# those that the request gets if it was made: P7, P8 and P10.
+_OF_STATE = frozenset(("P9", "P11", "P12", "P13", "P14", "P15", "P16", "P17"))
+
+
+def _was_not_made(error: DssError) -> bool:
+    """Returns True if the error shows that no earlier try of the request made the change."""
+    return isinstance(error, Denial) and error.rule in _OF_STATE
+
+
 def _may_be_done(denial: Denial, over: object) -> bool:
     """Returns True if the denial is what a second put gets if the first one was made and its response was lost."""
     return denial.maybe_made and denial.rule == ("P10" if over else "P8")
+
+
+def _may_be_before(found: Reference, over: Optional[Reference]) -> bool:
+    """Returns True if a put over a version, which is not the one that was found, may have been made before that one."""
+    return found.ovn is not None and found.version > (over.version + 1 if over else 1)
 
 
 def _is_next(found: Reference, put: Union[IntentPut, ConstraintPut], over: Optional[Reference]) -> bool:

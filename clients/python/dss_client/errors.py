@@ -3,10 +3,11 @@ from __future__ import annotations
 
 import json
 import re
-from typing import Any, Optional, Sequence
+from typing import Any, Dict, Optional, Sequence, Type
 
 from .models import BadForm, Constraint, Intent, KeyMissing, decode
 from .pool import Response
+from .responses import MESSAGES
 
 # The gateway says after the rule what to do.
 RULE = re.compile(r"([PH]\d+) ([A-Z]+)(?:: .*)?")
@@ -59,7 +60,7 @@ class Denial(ResponseError):
 
     `explanation` says what is wrong with the request, if the service was started with `--explain`. `value` is the whole
     body. The gateway has messages of its own, whose `rule` is empty. `maybe_made` is True if an earlier try of the same
-    request was not answered. That try may have made the change."""
+    request left the change open, and this denial does not show that it was not made."""
 
     def __init__(self, message: str, response: Response, value: Any) -> None:
         self.explanation: Sequence[str] = _texts(value)
@@ -81,14 +82,44 @@ class MissingKey(Denial):
         self.over: Optional[Intent] = None
 
 
-class Fault(ResponseError):
+class Failure(ResponseError):
+    """The service failed, as the table in docs/CLIENTS.md (Retrying requests) says."""
+
+    def __init__(self, message: str, response: Response) -> None:
+        super().__init__(message, response, MESSAGES[message][1])
+
+
+class Fault(Failure):
     """The service failed and changed nothing. At its quota a USS must delete something first."""
 
     is_transient = True
 
 
-class Stopped(ResponseError):
-    """The service cannot tell what it stores. Read after its restart whether the change was made."""
+class Stopped(Failure):
+    """The service cannot tell what it stores. After its restart, settle the change: send it again."""
+
+
+class LogUnreachable(Failure):
+    """503 `unreachable`: the instance of a pool did not reach the log in time. Nothing was changed."""
+
+    is_transient = True
+
+
+class UnknownOutcome(Failure):
+    """503 `unknown`: the change was made, will be made, or will not be. The client has sent it again for `Retry.settle` seconds.
+
+    Settle it at the same instance, or as docs/CLIENTS.md says for another one."""
+
+    is_transient = True
+
+
+class Unassigned(Failure):
+    """503 `unassigned`: the organization of the instance may not act for this USS. Use an instance of another one."""
+
+
+FAILURES: Dict[str, Type[Failure]] = {
+    "fault": Fault, "stopped": Stopped, "unreachable": LogUnreachable, "unknown": UnknownOutcome, "unassigned": Unassigned,
+}
 
 
 class ProxyError(ResponseError):
@@ -114,12 +145,12 @@ def error_of(response: Response) -> Optional[ResponseError]:
     if not isinstance(message, str):
         return ProxyError(response, response.status >= 500)
     if message.startswith(OF_PROXY):
-        # With 429, 503 and every 4xx, the proxy did not pass the request on.
-        return ProxyError(response, response.status in (502, 504))
-    if message == "fault":
-        return Fault(message, response)
-    if message == "stopped":
-        return Stopped(message, response, True)
+        # With another message than those in deploy, 429, 503 and every 4xx, too, say that the proxy did not pass the request on.
+        return ProxyError(response, MESSAGES[message][1] if message in MESSAGES else response.status in (502, 504))
+    # the gateway says after the name what to do
+    name = message.partition(":")[0]
+    if name in FAILURES and response.status == MESSAGES[name][0]:
+        return FAILURES[name](name, response)
     if message == "P14 KEY":
         try:
             return MissingKey(decode(KeyMissing, value), response, value)

@@ -13,6 +13,7 @@ sys.path[1:1] = [str(HERE.parent), str(TOP / "tests" / "shared")]
 
 import wire
 from ports import free_port
+from program import SECONDS
 from serving import Service
 
 # one token with all scopes of each USS, beside those of the examples

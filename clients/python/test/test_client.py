@@ -12,11 +12,15 @@ import warnings
 
 import places
 from dss_client import (
-    NO_SUBSCRIPTION, Area, BadResponse, Client, ConstraintPut, Denial, IgnoredMembers, IntentPut, Known, MissingKey, Peers,
-    ProxyError, Retry, SubscriptionPut, Subscriptions, Unanswered, Unreachable, Volume, pool)
+    NO_SUBSCRIPTION, Area, BadResponse, Client, ConstraintPut, Denial, IgnoredMembers, IntentPut, Known, LogUnreachable,
+    MissingKey, Peers, ProxyError, Retry, Stopped, SubscriptionPut, Subscriptions, Unanswered, Unassigned, UnknownOutcome,
+    Unreachable, Volume, pool)
 
 NOW = int(time.time())
-FAST = Retry(tries=4, first=0.001)
+FAST = Retry(tries=4, first=0.001, settle=0.0)
+# One that waits for an outcome as long as that takes.
+PATIENT = Retry(tries=2, first=0.001, longest=0.01, settle=places.SECONDS)
+UNKNOWN, UNREACHABLE, UNASSIGNED = ((503, {}, b'{"message":"%s"}' % it) for it in (b"unknown", b"unreachable", b"unassigned"))
 HTML = {"Content-Type": "text/html"}
 URL = "https://uss-{}.example"
 
@@ -33,7 +37,7 @@ class OverService(unittest.TestCase):
         cls.cells = iter(f"89c2{number:03x}4" for number in range(0x100, 0x200))
 
     def client(self, token, url=None, **more):
-        client = Client(url or self.url, token, retry=FAST, **more)
+        client = Client(url or self.url, token, **{"retry": FAST, **more})
         self.addCleanup(client.close)
         return client
 
@@ -189,7 +193,7 @@ class OverService(unittest.TestCase):
         through = self.client("tok-a", proxy.url)
         theirs = self.b.put_intent(id, self.intent("b")).operational_intent_reference
         proxy.script = ["refuse"]
-        self.assertTrue(self.denied("P8", through.put_intent, id, self.intent()).maybe_made)
+        self.assertFalse(self.denied("P8", through.put_intent, id, self.intent()).maybe_made)
         self.assertEqual(self.b.read_intent(id), theirs)
         proxy.script = ["refuse"]
         own = uuid.uuid4()
@@ -197,7 +201,7 @@ class OverService(unittest.TestCase):
         made = self.a.put_intent(own, self.intent(key=key)).operational_intent_reference
         self.a.put_intent(own, self.intent(key=key, state="Activated"), made)
         # another update came first: it is not taken for this one
-        self.denied("P10", through.put_intent, own, self.intent(key=key), made)
+        self.assertFalse(self.denied("P10", through.put_intent, own, self.intent(key=key), made).maybe_made)
 
     def test_lost_constraints_subscriptions_and_availabilities(self):
         proxy = self.proxy()
@@ -239,6 +243,58 @@ class OverService(unittest.TestCase):
         with self.assertRaises(Unreachable) as caught:
             self.client("tok-a", f"http://127.0.0.1:{places.free_port()}").read_availability("uss-a")
         self.assertFalse(caught.exception.maybe_made)
+
+    # ---- open changes of a pool
+
+    def test_an_open_change_is_settled(self):
+        """After `unknown` a change is sent again, unchanged, until it is made or shown to be made, beyond `tries`."""
+        proxy, id = self.proxy(), uuid.uuid4()
+        through = self.client("tok-a", proxy.url, retry=PATIENT)
+        proxy.script = [UNKNOWN, UNREACHABLE, "refuse", UNKNOWN, UNREACHABLE]
+        made = through.put_intent(id, self.intent()).operational_intent_reference
+        self.assertEqual((made.version, [it[0] for it in proxy.seen]), (1, ["PUT"] * 6))
+        self.assertEqual(len({it[1:] for it in proxy.seen}), 1)
+        # it was made
+        proxy.script = ["lose", UNKNOWN, UNREACHABLE]
+        changed = through.put_intent(id, self.intent(state="Activated"), made).operational_intent_reference
+        self.assertEqual(changed.version, 3)
+        proxy.script = ["lose", UNREACHABLE, UNREACHABLE]
+        self.assertIsNone(through.delete_intent(changed))
+        proxy.script = [UNKNOWN, UNKNOWN, UNKNOWN]
+        made = through.put_intent(id, self.intent()).operational_intent_reference
+        proxy.script = [UNKNOWN, UNREACHABLE, UNKNOWN]
+        self.assertEqual(through.delete_intent(made).operational_intent_reference, made)
+
+    def test_a_denial_settles_an_open_change(self):
+        proxy = self.proxy()
+        through, id = self.client("tok-a", proxy.url, retry=PATIENT), uuid.uuid4()
+        self.b.put_intent(uuid.uuid4(), self.intent("b"))
+        proxy.script = [UNKNOWN, UNREACHABLE]
+        self.assertFalse(self.denied("P14", through.put_intent, id, self.intent()).maybe_made)
+        # these come before the log, and say nothing of the earlier try
+        proxy.script = [UNKNOWN, (401, {}, b'{"message":"P3 TOKEN"}')]
+        self.assertTrue(self.denied("P3", through.put_intent, id, self.intent()).maybe_made)
+        proxy.script = [UNKNOWN, UNASSIGNED]
+        with self.assertRaises(Unassigned) as caught:
+            through.put_intent(id, self.intent())
+        self.assertTrue(caught.exception.maybe_made)
+
+    def test_the_failures_of_a_pool(self):
+        """Each of the three is an error of its own, and only `unknown` leaves the change open."""
+        proxy, id = self.proxy(), uuid.uuid4()
+        through = self.client("tok-a", proxy.url)
+        stopped = 503, {}, b'{"message":"stopped"}'
+        of_gateway = 503, {}, b'{"message":"unknown: so was the subscription answered that the intent asks for"}'
+        for response, kind, is_open, tries in (
+            (UNKNOWN, UnknownOutcome, True, FAST.tries), (of_gateway, UnknownOutcome, True, FAST.tries),
+            (UNREACHABLE, LogUnreachable, False, FAST.tries), (UNASSIGNED, Unassigned, False, 1), (stopped, Stopped, True, 1),
+        ):
+            before = len(proxy.seen)
+            proxy.script = [response] * tries
+            with self.assertRaises(kind) as caught:
+                through.put_intent(id, self.intent())
+            self.assertEqual((caught.exception.maybe_made, caught.exception.status), (is_open, 503))
+            self.assertEqual(len(proxy.seen), before + tries)
 
     # ---- proxies and failures
 

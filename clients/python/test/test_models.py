@@ -73,11 +73,16 @@ class Models(unittest.TestCase):
                             read = models.decode(getattr(models, name), example["value"])
                             self.assertEqual(models.encode(read), example["value"])
         self.assertGreater(len(seen), 8)
+
+    def test_each_failure_is_an_error(self):
+        """Each message is an error of its kind, which knows whether the change is open."""
         for name, example in self.document["components"]["examples"].items():
-            error = errors.error_of(Response(500, {}, json.dumps(example["value"]).encode()))
-            wanted = {"fault": errors.Fault, "stopped": errors.Stopped}.get(name, errors.Denial)
+            status, is_open = errors.MESSAGES[example["value"]["message"]]
+            error = errors.error_of(Response(status, {}, json.dumps(example["value"]).encode()))
+            wanted = errors.ProxyError if "x-of-proxy" in example else errors.FAILURES.get(name, errors.Denial)
             self.assertIs(type(error), wanted)
-            self.assertEqual(getattr(error, "rule", name), name)
+            self.assertEqual((getattr(error, "rule", name), error.maybe_made), (name, example.get("x-made") == "open"))
+            self.assertEqual(is_open, error.maybe_made)
 
     def test_other_forms_are_refused(self):
         good = {"status": {"availability": "Down", "uss": "uss-b"}, "version": ""}

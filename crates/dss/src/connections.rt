@@ -4,7 +4,7 @@ use crate::cause::Cause;
 use crate::change_time::paths_of;
 use crate::clock::SystemClock;
 use crate::clock_file::{read_time, remove_time, write_time};
-use crate::private::make_database;
+use crate::new_database::make_database;
 use crate::serving::{Ports, admin_listener, clients_of, explaining, log_of, served_tokens};
 use crate::tokens::TokenFile;
 use admin_backup::folder::BackupDir;

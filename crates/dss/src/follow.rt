@@ -3,9 +3,9 @@
 use crate::cause::Cause;
 use crate::etcd_io::EtcdIo;
 use crate::etcd_waiting::EtcdWaiting;
+use crate::new_database::make_database;
 use crate::pool_files::{FileName, PoolFiles, beginning_of, print_name};
 use crate::pool_log::{LogArgs, new_poll, open_log, settings_of, with_loss};
-use crate::private::make_database;
 use crate::serving::served_tokens;
 use dss_args::follow_args::FollowArgs;
 use dss_command::fault::{Fault, io_fault};

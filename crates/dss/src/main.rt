@@ -19,6 +19,7 @@ mod live;
 mod log_file;
 mod loopback;
 mod machine;
+mod new_database;
 mod pool;
 mod pool_file_check;
 mod pool_files;

@@ -23,8 +23,8 @@ const LOCK: &str = "lock";
 // The name of the file that is locked while another one is loaded, and while others are removed.
 const TURN: &str = "turn";
 
-// The suffixes of what can lie beside a database: its log, and what a stopped copy left.
-const BESIDE: [&str; 3] = ["-wal", "-journal", ".begun"];
+// The suffixes of what can lie beside a database: its log, and what a stopped process left.
+const BESIDE: [&str; 4] = ["-wal", "-journal", ".begun", ".new"];
 
 // The number of digits of a number in a name.
 const DIGITS: usize = 20;

@@ -5,8 +5,8 @@ use std::fs::OpenOptions;
 use std::io::ErrorKind;
 use std::os::unix::fs::OpenOptionsExt;
 
-// The mode of a new database.
-const DATABASE: u32 = 0o600;
+/// The mode of a new database.
+pub(crate) const DATABASE: u32 = 0o600;
 
 /// The mode of a new access log, which a group of those who read logs can read.
 pub(crate) const LOG: u32 = 0o640;
@@ -14,15 +14,8 @@ pub(crate) const LOG: u32 = 0o640;
 /// The bits of the owner and of the group. A copy of a file has only these of the file's mode.
 pub(crate) const NO_OTHERS: u32 = 0o660;
 
-// The name that SQLite does not take for that of a file.
-const IN_MEMORY: &str = ":memory:";
-
-/// Makes an empty file that only its owner can read and write, if nothing has that name. SQLite
-/// gives the database's mode to the files that it makes beside it. An existing file keeps its own.
-pub(crate) fn make_database(rt: &HostRuntime, name: &str) -> Result<(), Fault> {
-    if name == IN_MEMORY {
-        return Ok(());
-    }
+/// Makes an empty file that only its owner can read and write, if nothing has that name.
+pub(crate) fn make_empty(rt: &HostRuntime, name: &str) -> Result<(), Fault> {
     match OpenOptions::new()
         .write(true)
         .create_new(true)

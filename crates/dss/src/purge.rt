@@ -1,6 +1,6 @@
 //! The command `purge`: removes what has ended from a database.
 use crate::clock::SystemClock;
-use crate::private::make_database;
+use crate::new_database::make_database;
 use dss_command::fault::Fault;
 use dss_command::moment::check_not_in_future;
 use dss_database::files;

@@ -1,6 +1,6 @@
 //! The commands `report` and `upgrade`, which leave the airspace of a database as it is.
 use crate::change_time::ChangeTimes;
-use crate::private::make_database;
+use crate::new_database::make_database;
 use dss_command::fault::Fault;
 use dss_database::files;
 use sqlite::Start;

@@ -2,7 +2,7 @@
 ghost use Rattle.std.specs.Prelude.{◌≡◌};
 ghost use Rattle.token_conf.specs.TokenFile.{salt_of};
 
-use crate::private::make_database;
+use crate::new_database::make_database;
 use crate::tokens::token_table;
 use dss_command::fault::{Fault, io_fault};
 use dss_command::stream::serve_in_memory;

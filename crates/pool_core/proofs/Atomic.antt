@@ -4,7 +4,7 @@ use Rattle.std.specs.Prelude.{Contains, if◌then◌else◌}
 use Rattle.std.proofs.lemmas.List.{append-nil, length-map, map-append, take-append-drop, take-append-le}
 use Rattle.std.proofs.lemmas.List.Elements.{Contains-push_cases, filter-append}
 use Rattle.pool_core.specs.Atomic.{Accepts, AtomicLog, AtomicLogIsPool, Gives, Happens, IsFree, Starts, Tells}
-use Rattle.pool_core.specs.Events.{Answers, AsksForEnd, Batch, Fails, Gets, InstanceEvent, LearnsEnd, Offers, PoolEvent, Receives, batches_offered, entries_given, entry_in, events_at}
+use Rattle.pool_core.specs.Events.{Answers, AsksForEnd, Batch, Drops, Fails, Gets, InstanceEvent, LearnsEnd, Offers, PoolEvent, Receives, batches_offered, entries_given, entry_in, events_at}
 use Rattle.pool_core.specs.Log.{LogEntry}
 use Rattle.pool_core.specs.Pool.{Begins, EndIsNotBefore, batches_by, count_given, count_offered, entry_of_batch}
 use Rattle.pool_core.proofs.Given.{given_more}
@@ -26,27 +26,27 @@ split_rest xs x before after (y ∷ r) h k =
     let n = no_more r after (tails x y [] (r ++ after) k) in
     inr (h ∙ ap (λ v. xs ++ v ∷ r) (sym (heads x y [] (r ++ after) k)) ∙ ap (λ v. xs ++ x ∷ v) n.0, n.1)
 
-split_last : {X : Type 0} (xs : List X) (x : X) (before after : List X) → xs ++ x ∷ [] ≡ before ++ after
+pub split_last : {X : Type 0} (xs : List X) (x : X) (before after : List X) → xs ++ x ∷ [] ≡ before ++ after
     → ((rest : List X) × (xs ≡ before ++ rest) × (after ≡ rest ++ x ∷ [])) ⊎ ((before ≡ xs ++ x ∷ []) × (after ≡ []))
 split_last xs x before after h = elim (prefixes before after xs (x ∷ []) (sym h)) [
   | inl u ↦ inl (u.0, u.1, u.2)
   | inr u ↦ split_rest xs x before after u.0 u.1 u.2
 ]
 
-given_last : (i : ℕ) (events : List PoolEvent) (e : PoolEvent) → entries_given (events_at i (events ++ e ∷ [])) ≡ entries_given (events_at i events) ++ entries_given (events_at i (e ∷ []))
+pub given_last : (i : ℕ) (events : List PoolEvent) (e : PoolEvent) → entries_given (events_at i (events ++ e ∷ [])) ≡ entries_given (events_at i events) ++ entries_given (events_at i (e ∷ []))
 given_last i events e = ap (λ v. entries_given v) (at_append i events (e ∷ [])) ∙ given_append (events_at i events) (events_at i (e ∷ []))
 
-offered_last : (i : ℕ) (events : List PoolEvent) (e : PoolEvent) → batches_offered i (events_at i (events ++ e ∷ [])) ≡ batches_offered i (events_at i events) ++ batches_offered i (events_at i (e ∷ []))
+pub offered_last : (i : ℕ) (events : List PoolEvent) (e : PoolEvent) → batches_offered i (events_at i (events ++ e ∷ [])) ≡ batches_offered i (events_at i events) ++ batches_offered i (events_at i (e ∷ []))
 offered_last i events e = ap (λ v. batches_offered i v) (at_append i events (e ∷ [])) ∙ offered_append i (events_at i events) (events_at i (e ∷ []))
 
 none_in : (b : Bool) (event : InstanceEvent) → entry_in event ≡ [] → entries_given ((if b then event ∷ [] else []) ++ []) ≡ []
 none_in true event h = ap (λ v. v ++ []) h
 none_in false event h = refl
 
-none_given : (i : ℕ) (e : PoolEvent) → entry_in e.event ≡ [] → entries_given (events_at i (e ∷ [])) ≡ []
+pub none_given : (i : ℕ) (e : PoolEvent) → entry_in e.event ≡ [] → entries_given (events_at i (e ∷ [])) ≡ []
 none_given i e h = none_in (i == e.instance) e.event h
 
-free_gives : (event : InstanceEvent) → IsFree event → entry_in event ≡ []
+pub free_gives : (event : InstanceEvent) → IsFree event → entry_in event ≡ []
 free_gives (Receives id call) h = refl
 free_gives (Offers ids bytes) h = refl
 free_gives (Gets entry) h = absurd h
@@ -54,6 +54,7 @@ free_gives (AsksForEnd question) h = refl
 free_gives (LearnsEnd question count) h = absurd h
 free_gives (Answers id basis reply) h = refl
 free_gives (Fails id) h = refl
+free_gives (Drops id) h = refl
 
 -- ---- the parts of a pool
 
@@ -74,7 +75,7 @@ part_of_log w n log =
     omega (arith, ap (λ v. length v) e, length-append (batches_by w (take n log)) (batches_by w (drop n log)))
 
 -- At the end of the events, causality follows from what each instance offered.
-caused_now : (events : List PoolEvent) (log : List Batch) → ((i : ℕ) → Begins (batches_by i log) (batches_offered i (events_at i events))) → (n w : ℕ) → length (batches_by w (take n log)) ≤ count_offered w events
+pub caused_now : (events : List PoolEvent) (log : List Batch) → ((i : ℕ) → Begins (batches_by i log) (batches_offered i (events_at i events))) → (n w : ℕ) → length (batches_by w (take n log)) ≤ count_offered w events
 caused_now events log own n w = omega (arith, part_of_log w n log, ap (λ v. length v) (own w).1, length-append (batches_by w log) (own w).0)
 
 own_more : (events : List PoolEvent) (log : List Batch) (e : PoolEvent) → Shares events log → (i : ℕ) → Begins (batches_by i log) (batches_offered i (events_at i (events ++ e ∷ [])))
@@ -93,7 +94,7 @@ caused_more events log e s before after split i w = elim (split_last events e be
 ]
 
 -- The last event, or an earlier one.
-last_or : {X : Type 0} (y : X) (after rest : List X) (x : X) → y ∷ after ≡ rest ++ x ∷ [] → ((more : List X) × (rest ≡ y ∷ more)) ⊎ ((y ≡ x) × (rest ≡ []))
+pub last_or : {X : Type 0} (y : X) (after rest : List X) (x : X) → y ∷ after ≡ rest ++ x ∷ [] → ((more : List X) × (rest ≡ y ∷ more)) ⊎ ((y ≡ x) × (rest ≡ []))
 last_or y after [] x h = inr (heads y x after [] h, refl)
 last_or y after (z ∷ rest) x h = inl (rest, ap (λ v. v ∷ rest) (sym (heads y z after (rest ++ x ∷ []) h)))
 

@@ -9,7 +9,7 @@ use Rattle.entity_core.specs.Airspace.{Airspace}
 use Rattle.service_step.specs.declared.reply.Reply.{Reply}
 use Rattle.service_calls.specs.Run.{TimedCall}
 use Rattle.pool_core.specs.Acts.{Act, Makes, airspace_by}
-use Rattle.pool_core.specs.Events.{Answers, Basis, Batch, Fails, InstanceEvent, Offers, PoolEvent, Receives, entries_given, events_at}
+use Rattle.pool_core.specs.Events.{Answers, Basis, Batch, Drops, InstanceEvent, Offers, PoolEvent, Receives, entries_given, events_at}
 use Rattle.pool_core.specs.OneList.{AnsweredBefore, FailedUnsent, IsOneList, ListedAct, PoolIsOneList, RequestName, Stands, StandsWith, at, listed_acts}
 use Rattle.pool_core.specs.Pool.{IsPool, count_given, entry_of_batch}
 use Rattle.pool_core.specs.Serves.{ServesPool, airspace_at, acts_in}
@@ -90,8 +90,8 @@ module _ (acts_of : List ℕ → List Act) (salt : List ℕ) (start : Airspace) 
   unsent : (x : RequestName) → serves x.instance ≡ true → FailedUnsent events x → (n : ℕ) → Stands whole x n → ⊥
   unsent x s f n a =
       let i = x.instance in
-      let split : events_at i events ≡ events_at i f.before ++ Fails x.id ∷ events_at i f.after = ap (λ v. events_at i v) f.split ∙ at_split i (Fails x.id) f.before f.after in
-      let none = never_used acts_of salt start i x.id (events_at i events) (events_at i f.before) (events_at i f.after) (served i s) split f.unoffered in
+      let split : events_at i events ≡ events_at i f.before ++ Drops x.id ∷ events_at i f.after = ap (λ v. events_at i v) f.split ∙ at_split i (Drops x.id) f.before f.after in
+      let none = never_used acts_of salt start i x.id (events_at i events) (events_at i f.before) (events_at i f.after) (served i s) split in
       omega (arith, none, bound x, counted (is_request x) whole n a.listed a.there (request_same x a.listed a.of))
 
   -- ---- order
@@ -127,7 +127,7 @@ module _ (acts_of : List ℕ → List Act) (salt : List ℕ) (start : Airspace) 
 
   -- ---- airspaces
 
-  log_held : (count : ℕ) → count ≤ length pool.log → (n : ℕ) × (airspace_by salt start (listed_acts (take n whole)) ≡ state acts_of salt start events pool count)
+  pub log_held : (count : ℕ) → count ≤ length pool.log → (n : ℕ) × (airspace_by salt start (listed_acts (take n whole)) ≡ state acts_of salt start events pool count)
   log_held count le =
       let xs = take count pool.log in
       let ys = drop count pool.log in

@@ -18,5 +18,11 @@ pub mod Unlogged
 pub mod Starts
 pub mod Blind
 pub mod Unseen
+pub mod Retold
+pub mod Shared
+pub mod Shifted
+pub mod Timed
+pub mod FromFiles
+pub mod AtomicFrom
 pub mod Histories
 pub mod Purges

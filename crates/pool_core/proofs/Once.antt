@@ -5,7 +5,7 @@ use Rattle.std.specs.List.{flat_map}
 use Rattle.std.proofs.lemmas.List.{append-nil}
 use Rattle.std.proofs.lemmas.List.Concat.{flat_map-append}
 use Rattle.pool_core.specs.Acts.{Act}
-use Rattle.pool_core.specs.Events.{Answers, AsksForEnd, Batch, Fails, Gets, InstanceEvent, LearnsEnd, Offers, PoolEvent, Receives, batch_in, batches_offered, events_at}
+use Rattle.pool_core.specs.Events.{Answers, AsksForEnd, Batch, Drops, Fails, Gets, InstanceEvent, LearnsEnd, Offers, PoolEvent, Receives, batch_in, batches_offered, events_at}
 use Rattle.pool_core.specs.OneList.{ListedAct, RequestName}
 use Rattle.pool_core.specs.Pool.{batches_by}
 use Rattle.pool_core.specs.Serves.{ids_offered, offered_in, times}
@@ -110,6 +110,7 @@ offered_one i (AsksForEnd question) = refl
 offered_one i (LearnsEnd question count) = refl
 offered_one i (Answers id basis reply) = refl
 offered_one i (Fails id) = refl
+offered_one i (Drops id) = refl
 
 pub offered_ids : (i : ℕ) (es : List InstanceEvent) → flat_map (λ b. b.ids) (batches_offered i es) ≡ ids_offered es
 offered_ids i [] = refl

@@ -44,7 +44,7 @@ lift_other i x xs p e q none l = record {
   afters = l.afters;
 }
 
-same_from_test : (i : ℕ) (x : PoolEvent) → (i == x.instance) ≡ true → x ≡ event_of i x.event
+pub same_from_test : (i : ℕ) (x : PoolEvent) → (i == x.instance) ≡ true → x ≡ event_of i x.event
 same_from_test i x h = let e : i ≡ x.instance = grind (arith, h) in ap (λ v. event_of v x.event) (sym e)
 
 lift_case : (i : ℕ) (x : PoolEvent) (xs : List PoolEvent) (p : List InstanceEvent) (e : InstanceEvent) (q : List InstanceEvent)

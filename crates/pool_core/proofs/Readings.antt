@@ -9,7 +9,7 @@ use Rattle.std.proofs.lemmas.List.Elements.{Contains-append_cases}
 use Rattle.service_step.specs.declared.reply.Reply.{Reply}
 use Rattle.service_calls.specs.Run.{TimedCall}
 use Rattle.pool_core.specs.Acts.{Act, Makes}
-use Rattle.pool_core.specs.Events.{AfterFirst, Answers, AsksForEnd, AtOnce, Basis, Fails, Gets, InPlace, InstanceEvent, LearnsEnd, Offers, PoolEvent, Receives, entries_given, events_at}
+use Rattle.pool_core.specs.Events.{AfterFirst, Answers, AsksForEnd, AtOnce, Basis, Drops, Fails, Gets, InPlace, InstanceEvent, LearnsEnd, Offers, PoolEvent, Receives, entries_given, events_at}
 use Rattle.pool_core.specs.OneList.{ListedAct, RequestName}
 use Rattle.pool_core.specs.Pool.{count_given}
 use Rattle.pool_core.specs.Serves.{times}
@@ -161,6 +161,7 @@ module _ (serves : ℕ → Bool) where
   source_one before i (AsksForEnd question) es r h = contains_none r h
   source_one before i (LearnsEnd question count) es r h = contains_none r h
   source_one before i (Fails id) es r h = contains_none r h
+  source_one before i (Drops id) es r h = contains_none r h
   source_one before i (Answers id InPlace reply) es r h = contains_none r h
   source_one before i (Answers id (AfterFirst count timed) reply) es r h =
       source_if before i id (AfterFirst count timed) reply es (reading i id count timed) r (refl, refl) refl refl (serves i) refl h
@@ -203,6 +204,7 @@ module _ (serves : ℕ → Bool) where
   read_one x before i (AsksForEnd question) = omega arith
   read_one x before i (LearnsEnd question count) = omega arith
   read_one x before i (Fails id) = omega arith
+  read_one x before i (Drops id) = omega arith
   read_one x before i (Answers id InPlace reply) = omega arith
   read_one x before i (Answers id (AfterFirst count timed) reply) =
       subst (λ v. count_by (λ r. is_request x r.call) (if_serves i (reading i id count timed)) ≤ times x.id v) (sym (at_if (Answers id (AfterFirst count timed) reply) (id ∷ []) (x.instance == i) refl))

@@ -6,7 +6,7 @@ use Rattle.std.proofs.lemmas.List.Concat.{flat_map-append}
 use Rattle.entity_core.specs.Airspace.{Airspace}
 use Rattle.policy_core.specs.declared.call.Call.{Call}
 use Rattle.pool_core.specs.Acts.{Act, Makes, Purges}
-use Rattle.pool_core.specs.Events.{AfterFirst, Answers, AsksForEnd, AtOnce, Fails, Gets, InPlace, InstanceEvent, LearnsEnd, Offers, Receives}
+use Rattle.pool_core.specs.Events.{AfterFirst, Answers, AsksForEnd, AtOnce, Drops, Fails, Gets, InPlace, InstanceEvent, LearnsEnd, Offers, Receives}
 use Rattle.pool_core.specs.Serves.{AllMayFollow, AreOpen, IsOpen, MayFollow, ServesPool, ended_in, ids_ended, ids_offered, offered_in, times}
 use Rattle.pool_core.proofs.Lists.{count_append, count_no, count_yes}
 use Rattle.pool_core.proofs.Projections.{same_number}
@@ -70,6 +70,7 @@ read_one id (Answers x InPlace reply) = omega arith
 read_one id (Answers x (AfterFirst count timed) reply) = omega arith
 read_one id (Answers x (AtOnce timed) reply) = omega arith
 read_one id (Fails x) = omega arith
+read_one id (Drops x) = omega arith
 
 read_ended : (id : ℕ) (events : List InstanceEvent) → times id (ids_read events) ≤ times id (ids_ended events)
 read_ended id [] = omega arith
@@ -130,6 +131,7 @@ module _ (acts_of : List ℕ → List Act) (salt : List ℕ) (start : Airspace) 
   once_more before (Answers x (AfterFirst count timed) reply) h le = omega (arith, reads_once before id x h.0.unended h.1.unoffered le (id == x) refl)
   once_more before (Answers x (AtOnce timed) reply) h le = omega (arith, reads_once before id x h.0.unended h.1.unoffered le (id == x) refl)
   once_more before (Fails x) h le = omega (arith, le)
+  once_more before (Drops x) h le = omega (arith, le)
 
   uses_more : (before : List InstanceEvent) (e : InstanceEvent) → uses id (before ++ e ∷ []) ≡ times id (offered_in e) + times id (read_in e) + uses id before
   uses_more before e = omega (arith, times_more id offered_in before e, times_more id read_in before e)
@@ -155,6 +157,7 @@ module _ (acts_of : List ℕ → List Act) (salt : List ℕ) (start : Airspace) 
   none_more before (Answers x (AfterFirst count timed) reply) h ended = omega (arith, none_read before id x h.0.unended ended (id == x) refl)
   none_more before (Answers x (AtOnce timed) reply) h ended = omega (arith, none_read before id x h.0.unended ended (id == x) refl)
   none_more before (Fails x) h ended = omega arith
+  none_more before (Drops x) h ended = omega arith
 
   unused_after : (before es : List InstanceEvent) → AllMayFollow acts_of salt start me before es → 1 ≤ ends id before → uses id (before ++ es) ≡ uses id before
   unused_after before [] h ended = ap (λ v. uses id v) (append-nil before)
@@ -164,13 +167,14 @@ module _ (acts_of : List ℕ → List Act) (salt : List ℕ) (start : Airspace) 
       sym (ap (λ v. uses id v) (append_assoc before (e ∷ []) es)) ∙ unused_after (before ++ e ∷ []) es h.1 still ∙ same
 
   -- A request that failed before it was offered is never used.
-  pub never_used : (events p q : List InstanceEvent) → ServesPool acts_of salt start me events → events ≡ p ++ Fails id ∷ q → times id (ids_offered p) ≡ 0 → uses id events ≡ 0
-  never_used events p q h split unoffered =
-      let all = subst (λ v. ServesPool acts_of salt start me v) (split ∙ sym (append_assoc p (Fails id ∷ []) q)) h in
-      let failed : ends id (p ++ Fails id ∷ []) ≡ ends id p + times id (id ∷ []) = times_more id ended_in p (Fails id) in
+  pub never_used : (events p q : List InstanceEvent) → ServesPool acts_of salt start me events → events ≡ p ++ Drops id ∷ q → uses id events ≡ 0
+  never_used events p q h split =
+      let all = subst (λ v. ServesPool acts_of salt start me v) (split ∙ sym (append_assoc p (Drops id ∷ []) q)) h in
+      let failed : ends id (p ++ Drops id ∷ []) ≡ ends id p + times id (id ∷ []) = times_more id ended_in p (Drops id) in
       let one : times id (id ∷ []) ≡ 1 = count_yes (λ k. id == k) id [] (same_number id) in
-      let unended : ends id p ≡ 0 = (follows_at acts_of salt start me events p (Fails id) q h split).1.unended in
-      let same : uses id (p ++ Fails id ∷ []) ≡ uses id p = omega (arith, uses_more p (Fails id)) in
-      ap (λ v. uses id v) (split ∙ sym (append_assoc p (Fails id ∷ []) q))
-      ∙ unused_after (p ++ Fails id ∷ []) q (serves_after acts_of salt start me (p ++ Fails id ∷ []) q all) (omega (arith, failed, one))
-      ∙ same ∙ omega (arith, unoffered, unended, read_ended id p)
+      let follows = follows_at acts_of salt start me events p (Drops id) q h split in
+      let unended : ends id p ≡ 0 = follows.0.1.unended in
+      let same : uses id (p ++ Drops id ∷ []) ≡ uses id p = omega (arith, uses_more p (Drops id)) in
+      ap (λ v. uses id v) (split ∙ sym (append_assoc p (Drops id ∷ []) q))
+      ∙ unused_after (p ++ Drops id ∷ []) q (serves_after acts_of salt start me (p ++ Drops id ∷ []) q all) (omega (arith, failed, one))
+      ∙ same ∙ omega (arith, follows.1, unended, read_ended id p)

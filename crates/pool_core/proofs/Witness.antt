@@ -18,45 +18,45 @@ bit_fits : (b : Bool) → 0 + cond b 1 0 ≤ 1
 bit_fits true = omega arith
 bit_fits false = omega arith
 
-is_open : (call : Call) (more : List InstanceEvent) → Contains (Receives 1 call ∷ more) (Receives 1 call)
+pub is_open : (call : Call) (more : List InstanceEvent) → Contains (Receives 1 call ∷ more) (Receives 1 call)
 is_open call more = contains_head (Receives 1 call) more
 
 -- The first instance writes an entry of one act. The second one answers a reading after it.
 module _ (acts_of : List ℕ → List Act) (salt : List ℕ) (start : Airspace) (bytes : List ℕ) (act : Act) (read : TimedCall) (spells : acts_of bytes ≡ act ∷ []) where
-  abbrev entry : LogEntry
+  abbrev pub entry : LogEntry
   entry = record { writer = 1; bytes = bytes }
 
-  abbrev batch : List ℕ → Batch
+  abbrev pub batch : List ℕ → Batch
   batch ids = record { writer = 1; ids = ids; bytes = bytes }
 
-  abbrev middle : Airspace
+  abbrev pub middle : Airspace
   middle = (act_step salt start act).0
 
-  abbrev second : Airspace × Reply
+  abbrev pub second : Airspace × Reply
   second = step salt middle read.0 read.1
 
-  abbrev one_offers : List ℕ → PoolEvent
+  abbrev pub one_offers : List ℕ → PoolEvent
   one_offers ids = event_of 1 (Offers ids bytes)
 
-  abbrev one_gets : PoolEvent
+  abbrev pub one_gets : PoolEvent
   one_gets = event_of 1 (Gets entry)
 
-  abbrev two_receives : PoolEvent
+  abbrev pub two_receives : PoolEvent
   two_receives = event_of 2 (Receives 1 read.1)
 
-  abbrev two_asks : PoolEvent
+  abbrev pub two_asks : PoolEvent
   two_asks = event_of 2 (AsksForEnd 7)
 
-  abbrev two_learns : PoolEvent
+  abbrev pub two_learns : PoolEvent
   two_learns = event_of 2 (LearnsEnd 7 1)
 
-  abbrev two_gets : PoolEvent
+  abbrev pub two_gets : PoolEvent
   two_gets = event_of 2 (Gets entry)
 
-  abbrev two_answers : PoolEvent
+  abbrev pub two_answers : PoolEvent
   two_answers = event_of 2 (Answers 1 (AfterFirst 1 read) second.1)
 
-  abbrev by_two : List PoolEvent
+  abbrev pub by_two : List PoolEvent
   by_two = two_receives ∷ two_asks ∷ two_learns ∷ two_gets ∷ two_answers ∷ []
 
   two_serves : second.0 ≡ middle → ServesPool acts_of salt start 2 (events_at 2 by_two)
@@ -88,22 +88,22 @@ module _ (acts_of : List ℕ → List Act) (salt : List ℕ) (start : Airspace) 
 -- ---- a call
 
 module _ (acts_of : List ℕ → List Act) (salt : List ℕ) (start : Airspace) (bytes : List ℕ) (timed read : TimedCall) (spells : acts_of bytes ≡ Makes timed ∷ []) where
-  abbrev make : Act
+  abbrev pub make : Act
   make = Makes timed
 
-  abbrev one_receives : PoolEvent
+  abbrev pub one_receives : PoolEvent
   one_receives = event_of 1 (Receives 1 timed.1)
 
-  abbrev one_answers : PoolEvent
+  abbrev pub one_answers : PoolEvent
   one_answers = event_of 1 (Answers 1 InPlace (step salt start timed.0 timed.1).1)
 
-  abbrev calls_by_one : List PoolEvent
+  abbrev pub calls_by_one : List PoolEvent
   calls_by_one = one_receives ∷ one_offers acts_of salt start bytes make read spells (1 ∷ []) ∷ one_gets acts_of salt start bytes make read spells ∷ one_answers ∷ []
 
-  abbrev calls : List PoolEvent
+  abbrev pub calls : List PoolEvent
   calls = calls_by_one ++ by_two acts_of salt start bytes make read spells
 
-  abbrev called : Batch
+  abbrev pub called : Batch
   called = batch acts_of salt start bytes make read spells (1 ∷ [])
 
   calls_atomic : AtomicLog calls (called ∷ [])
@@ -125,7 +125,7 @@ module _ (acts_of : List ℕ → List Act) (salt : List ℕ) (start : Airspace) 
       let also = Gives (calls_by_one ++ receives ∷ asks ∷ learns ∷ []) (called ∷ []) 2 called refl told in
       Happens (calls_by_one ++ receives ∷ asks ∷ learns ∷ also_gets ∷ []) (called ∷ []) answers tt also
 
-  one_calls : ServesPool acts_of salt start 1 (events_at 1 calls)
+  pub one_calls : ServesPool acts_of salt start 1 (events_at 1 calls)
   one_calls = (
     λ other h. contains_none (Receives 1 other) h,
     (

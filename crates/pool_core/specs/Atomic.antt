@@ -5,7 +5,7 @@ use Rattle.entity_purge.specs.Purge.{purged}
 use Rattle.service_calls.specs.Run.{TimedCall}
 use Rattle.service_step.specs.Step.{step}
 use Rattle.pool_core.specs.Acts.{Act, Makes, Purges}
-use Rattle.pool_core.specs.Events.{AfterFirst, Answers, AsksForEnd, Batch, Fails, Gets, InPlace, InstanceEvent, LearnsEnd, Offers, PoolEvent, Receives, batches_offered, events_at}
+use Rattle.pool_core.specs.Events.{AfterFirst, Answers, AsksForEnd, Batch, Drops, Fails, Gets, InPlace, InstanceEvent, LearnsEnd, Offers, PoolEvent, Receives, batches_offered, events_at}
 use Rattle.pool_core.specs.Pool.{IsPool, batches_by, count_given, entry_of_batch}
 use Rattle.pool_core.specs.Serves.{ServesPool}
 
@@ -18,6 +18,7 @@ IsFree (AsksForEnd question) = Unit {0}
 IsFree (LearnsEnd question count) = ⊥
 IsFree (Answers id basis reply) = Unit {0}
 IsFree (Fails id) = Unit {0}
+IsFree (Drops id) = Unit {0}
 
 -- Holds if the events can happen at instances of a log that takes one step at a time. It accepts
 -- the next batch of some instance, gives some instance its next entry, or tells how many entries

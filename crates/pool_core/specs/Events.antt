@@ -16,7 +16,8 @@ pub data Basis : Type 0 where
 -- An event at one instance. A request, which has an id, was received whole and makes this call. A
 -- batch of the calls of these requests was offered to the log, in these bytes, or a purge, which
 -- has no requests. The log gave its next entry, was asked for its end, or answered. A request got
--- this reply, or failed: then its client learns nothing about its effect.
+-- this reply, or failed: then its client learns nothing about its effect. Or it failed and was never
+-- offered: then it has no effect.
 pub data InstanceEvent : Type 0 where
   Receives : (id : ℕ) → (call : Call) → InstanceEvent
   Offers : (ids : List ℕ) → (bytes : List ℕ) → InstanceEvent
@@ -25,6 +26,7 @@ pub data InstanceEvent : Type 0 where
   LearnsEnd : (question : ℕ) → (count : ℕ) → InstanceEvent
   Answers : (id : ℕ) → (basis : Basis) → (reply : Reply) → InstanceEvent
   Fails : (id : ℕ) → InstanceEvent
+  Drops : (id : ℕ) → InstanceEvent
 
 -- An event of a pool: the number of the instance, and the event there.
 pub record PoolEvent : Type 0 where
@@ -43,6 +45,7 @@ log_events_in (AsksForEnd question) = AsksEnd question ∷ []
 log_events_in (LearnsEnd question count) = TellsEnd question count ∷ []
 log_events_in (Answers id basis reply) = []
 log_events_in (Fails id) = []
+log_events_in (Drops id) = []
 
 -- The history of the log at an instance with these events.
 abbrev pub log_events : List InstanceEvent → List LogEvent

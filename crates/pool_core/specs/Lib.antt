@@ -8,6 +8,9 @@ pub mod FromEmpty
 pub mod Atomic
 pub mod Unlogged
 pub mod Starts
+pub mod Timed
+pub mod FromFiles
+pub mod AtomicFrom
 pub mod Blind
 pub mod Unseen
 pub mod Purging

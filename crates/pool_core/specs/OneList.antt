@@ -5,9 +5,9 @@ use Rattle.policy_core.specs.declared.call.Call.{Call}
 use Rattle.service_step.specs.declared.reply.Reply.{Reply}
 use Rattle.service_calls.specs.Run.{TimedCall}
 use Rattle.pool_core.specs.Acts.{Act, Makes, airspace_by, replies_by}
-use Rattle.pool_core.specs.Events.{Answers, Basis, Batch, Fails, InstanceEvent, PoolEvent, Receives, entries_given, events_at}
+use Rattle.pool_core.specs.Events.{Answers, Basis, Batch, Drops, InstanceEvent, PoolEvent, Receives, entries_given, events_at}
 use Rattle.pool_core.specs.Pool.{IsPool, count_given, entry_of_batch}
-use Rattle.pool_core.specs.Serves.{ServesPool, airspace_at, acts_in, ids_offered, times}
+use Rattle.pool_core.specs.Serves.{ServesPool, airspace_at, acts_in}
 
 -- A request of a pool: the instance that received it, and its id there.
 pub record RequestName : Type 0 where
@@ -45,12 +45,11 @@ pub record AnsweredBefore (events : List PoolEvent) (x y : RequestName) : Type 0
   pub split : events ≡ before ++ at x (Answers x.id basis reply)
       ∷ (between ++ at y (Receives y.id call) ∷ after)
 
--- Holds if a request failed before its call was offered.
+-- Holds if a request failed and was never offered.
 pub record FailedUnsent (events : List PoolEvent) (x : RequestName) : Type 0 where
   pub before : List PoolEvent
   pub after : List PoolEvent
-  pub split : events ≡ before ++ at x (Fails x.id) ∷ after
-  pub unoffered : times x.id (ids_offered (events_at x.instance before)) ≡ 0
+  pub split : events ≡ before ++ at x (Drops x.id) ∷ after
 
 module _ (acts_of : List ℕ → List Act) (salt : List ℕ) (start : Airspace) where
   -- Holds if a request is at some position, and its reply is that of the policy there.
@@ -79,7 +78,7 @@ module _ (acts_of : List ℕ → List Act) (salt : List ℕ) (start : Airspace) 
     -- A request that was answered is in the list, and its reply is that of the policy there.
     pub answered : (x : RequestName) (basis : Basis) (reply : Reply) → serves x.instance ≡ true
         → Contains events (at x (Answers x.id basis reply)) → StandsWith list x reply
-    -- A request is in the list once at most, and not if it failed before it was offered.
+    -- A request is in the list once at most, and not if it failed and was never offered.
     pub once : (x : RequestName) → serves x.instance ≡ true → (n k : ℕ) → Stands list x n
         → Stands list x k → n ≡ k
     pub unsent : (x : RequestName) → serves x.instance ≡ true → FailedUnsent events x → (n : ℕ)

@@ -7,7 +7,7 @@ use Rattle.service_step.specs.declared.reply.Reply.{Reply}
 use Rattle.service_step.specs.Step.{step}
 use Rattle.service_calls.specs.Run.{TimedCall}
 use Rattle.pool_core.specs.Acts.{Act, Makes, Purges, airspace_by, replies_by}
-use Rattle.pool_core.specs.Events.{AfterFirst, Answers, AsksForEnd, AtOnce, Basis, Batch, Fails, Gets, InPlace, InstanceEvent, LearnsEnd, Offers, Receives, batches_offered, entries_given}
+use Rattle.pool_core.specs.Events.{AfterFirst, Answers, AsksForEnd, AtOnce, Basis, Batch, Drops, Fails, Gets, InPlace, InstanceEvent, LearnsEnd, Offers, Receives, batches_offered, entries_given}
 use Rattle.pool_core.specs.Log.{LogEntry}
 
 -- ---- requests
@@ -23,6 +23,7 @@ ids_offered events = flat_map offered_in events
 abbrev pub ended_in : InstanceEvent → List ℕ
 ended_in (Answers id basis reply) = id ∷ []
 ended_in (Fails id) = id ∷ []
+ended_in (Drops id) = id ∷ []
 ended_in event = []
 
 -- The ids of the requests that got a reply or failed.
@@ -130,6 +131,8 @@ module _ (acts_of : List ℕ → List Act) (salt : List ℕ) (start : Airspace) 
     MayFollow before (LearnsEnd question count) = Unit {0}
     MayFollow before (Answers id basis reply) = IsReplyBy before id basis reply
     MayFollow before (Fails id) = (call : Call) × IsOpen before id call
+    MayFollow before (Drops id) = ((call : Call) × IsOpen before id call)
+        × (times id (ids_offered before) ≡ 0)
 
     -- Holds if each of these events may follow those before it.
     abbrev pub AllMayFollow : List InstanceEvent → List InstanceEvent → Type 0

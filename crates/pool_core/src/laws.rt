@@ -1,9 +1,12 @@
 //! Laws of a pool. Each is the contract of a function that does nothing.
 ghost use Rattle.pool_core.specs.Acts.{ActsInOrder, CallsAreActs, OnlyCallsGetReplies};
 ghost use Rattle.pool_core.specs.Atomic.{AtomicLogIsPool, PoolCanAnswer, PoolCanPurge};
+ghost use Rattle.pool_core.specs.AtomicFrom.{AtomicLogFromIsPool, FromFileCanAnswer};
 ghost use Rattle.pool_core.specs.Blind.{ActsAreBlind, PurgeIsBlind};
 ghost use Rattle.pool_core.specs.FromEmpty.{CallsAreKnown, ListedStaleIsRefused, ListsAreKnown};
 ghost use Rattle.pool_core.specs.FromEmpty.{PoolIsKnown};
+ghost use Rattle.pool_core.specs.FromFiles.{FilesFollow, FromBeginning, FromFilesIsKnown};
+ghost use Rattle.pool_core.specs.FromFiles.{ListHasTimes, PoolFromFiles};
 ghost use Rattle.pool_core.specs.OneList.{PoolIsOneList};
 ghost use Rattle.pool_core.specs.Starts.{MayStartBehind};
 ghost use Rattle.pool_core.specs.Unlogged.{DenialChangesNothing, EarlyIsAnywhere};
@@ -86,13 +89,28 @@ pub fn instance_may_start_behind()
     ensures { MayStartBehind }
 {}
 
+/// States that the calls and purges of a pool are one list also if its instances start from files.
+///
+/// A file has the airspace after the first entries of the log. The events are those that happened:
+/// the counts in them begin behind the file of their instance.
+pub fn pool_from_files()
+    ensures list { PoolFromFiles }
+    ensures times { ListHasTimes }
+    ensures known { FromFilesIsKnown }
+    ensures files { FilesFollow }
+    ensures beginning { FromBeginning }
+{}
+
 /// States that the premises of these laws can be met.
 ///
 /// Any events at an atomic log are those of a pool. At such a log, two instances can answer any
 /// call in its place, and any reading after it. One can purge, and the other can answer any reading
-/// after the purge.
+/// after the purge. The same holds of instances that start from files: one of them can answer the
+/// reading with no entry given to it.
 pub fn pools_exist()
     ensures atomic { AtomicLogIsPool }
     ensures answers { PoolCanAnswer }
     ensures purges { PoolCanPurge }
+    ensures from { AtomicLogFromIsPool }
+    ensures behind { FromFileCanAnswer }
 {}

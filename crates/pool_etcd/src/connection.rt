@@ -17,6 +17,8 @@ const TURNS: usize = 64;
 /// What arrived.
 #[derive(Clone, Copy, Debug, PartialEq, Eq)]
 pub(crate) enum Arrived {
+    /// No byte.
+    Nothing,
     /// Everything that is there.
     All,
     /// A part of it.
@@ -77,12 +79,13 @@ impl Connection {
 
     /// Receives what has arrived.
     pub(crate) fn receive(&mut self) -> Result<Arrived, EtcdFault> {
+        let mut arrived = Arrived::Nothing;
         for _ in 0..TURNS {
             match self.exchange.read_from(&mut self.stream, CHUNK) {
                 Ok(0) => return Ok(Arrived::Ended),
-                Ok(_) => {}
+                Ok(_) => arrived = Arrived::All,
                 Err(error) => match error.kind() {
-                    ErrorKind::WouldBlock => return Ok(Arrived::All),
+                    ErrorKind::WouldBlock => return Ok(arrived),
                     ErrorKind::Interrupted => {}
                     ErrorKind::OutOfMemory => return Err(EtcdFault::Memory),
                     _ => return Err(EtcdFault::Connection),

@@ -27,6 +27,9 @@ pub const MAX_BATCH: usize = 1_100_000;
 // The maximum time, in milliseconds, until `advance` has to be called again.
 const MAX_PATIENCE: u64 = 500;
 
+// If `advance` is called after a longer time, in milliseconds, the process did not run meanwhile.
+const MAX_GAP: u64 = 1_000;
+
 // How long the log counts as silent at least, in milliseconds, before it was read up to the own
 // fence.
 const UNREAD: u64 = 4_000;
@@ -154,6 +157,8 @@ pub struct EtcdLog {
     pub(crate) queue: VecDeque<Payload>,
     requests: RequestLane,
     watch: WatchLane,
+    // When `advance` was called last.
+    advanced: Duration,
     // The last faults of requests and of the watch that were not returned yet.
     request_fault: Option<EndpointFault>,
     watch_fault: Option<EndpointFault>,
@@ -221,6 +226,7 @@ impl EtcdLog {
             queue: VecDeque::new(alloc),
             requests: RequestLane::new(requests),
             watch: WatchLane::new(alloc, watch),
+            advanced: Duration::ZERO,
             request_fault: None,
             watch_fault: None,
         })
@@ -231,6 +237,7 @@ impl EtcdLog {
     pub fn advance(&mut self, net: &impl Net, registry: &Registry, now: Duration) -> Duration
         ensures { self.new.number ≡ self.old.number }
     {
+        self.extend_limits(now);
         self.offer_next(now);
         if self.state.loss.is_none() {
             if let Err(fault) = self.requests.advance(net, registry, &mut self.state, now) {
@@ -261,6 +268,19 @@ impl EtcdLog {
         let patience = self.requests.patience(&self.state, now);
         let patience = patience.min(self.watch.patience(&self.state, now));
         patience.min(Duration::from_millis(MAX_PATIENCE))
+    }
+
+    // Extends the limits by the time in which the process did not run, if there was any.
+    fn extend_limits(&mut self, now: Duration)
+        ensures { self.new.number ≡ self.old.number }
+    {
+        let gap = now.saturating_sub(self.advanced);
+        self.advanced = now;
+        let missed = gap.saturating_sub(Duration::from_millis(MAX_GAP));
+        if !missed.is_zero() {
+            self.requests.extend_limit(missed);
+            self.watch.extend_limits(&mut self.state, missed);
+        }
     }
 
     // Offers the next batch, if it may be sent.

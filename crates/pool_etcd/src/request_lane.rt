@@ -216,6 +216,13 @@ impl RequestLane {
         Ok(step)
     }
 
+    /// Extends the limit by a time in which the process did not run.
+    pub(crate) fn extend_limit(&mut self, missed: Duration) {
+        if let Some((kind, limit)) = self.pending {
+            self.pending = Some((kind, limit.saturating_add(missed)));
+        }
+    }
+
     /// Returns the address of the endpoint that is used, or tried next.
     pub(crate) fn address(&self, state: &LogState) -> Option<SocketAddr> {
         self.lane.address(state.endpoints.as_slice())

@@ -15,8 +15,11 @@ use std::net::{Net, SocketAddr};
 use std::time::Duration;
 
 // The time limit until the first line of a watch, and for a change that was made to come, in
-// milliseconds.
+// milliseconds from the last byte.
 const TIME_LIMIT: u64 = 2000;
+
+// After each watch that was too slow the limit is longer by as much, up to so many times.
+const MAX_FACTOR: u64 = 10;
 
 // The maximum length of a line.
 const MAX_LINE: usize = 16_000_000;
@@ -38,6 +41,8 @@ pub(crate) struct WatchLane {
     status: u16,
     // Until when the first line has to come, if it has not.
     limit: Option<Duration>,
+    // The number of watches that were too slow since the last change.
+    slow: u64,
     // True if there may be more to read.
     partly_read: bool,
 }
@@ -50,8 +55,14 @@ impl WatchLane {
             lines: Lines::new(alloc),
             status: 0,
             limit: None,
+            slow: 0,
             partly_read: false,
         }
+    }
+
+    // Returns the time limit, in milliseconds.
+    fn time_limit(&self) -> u64 {
+        TIME_LIMIT * (self.slow.min(MAX_FACTOR - 1) + 1)
     }
 
     /// Sends and receives what is there.
@@ -77,20 +88,42 @@ impl WatchLane {
     }
 
     // Fails if no line has come, or not the changes that were made.
-    fn check_limits(&self, state: &mut LogState, now: Duration) -> Result<(), EtcdFault> {
+    fn check_limits(&mut self, state: &mut LogState, now: Duration) -> Result<(), EtcdFault> {
         if let Some(limit) = self.limit
             && now >= limit
         {
+            self.slow = self.slow.saturating_add(1);
             return Err(EtcdFault::TimeLimit);
         }
         if let Some((revision, since)) = state.ahead {
             if state.following.revision >= revision {
                 state.ahead = None;
-            } else if now >= later(since, TIME_LIMIT) {
+            } else if now >= later(since, self.time_limit()) {
+                self.slow = self.slow.saturating_add(1);
                 return Err(EtcdFault::WatchBehind);
             }
         }
         Ok(())
+    }
+
+    // Counts the limits from now, since bytes have arrived.
+    fn renew_limits(&mut self, state: &mut LogState, now: Duration) {
+        if self.limit.is_some() {
+            self.limit = Some(later(now, self.time_limit()));
+        }
+        if let Some((revision, _)) = state.ahead {
+            state.ahead = Some((revision, now));
+        }
+    }
+
+    /// Extends the limits by a time in which the process did not run.
+    pub(crate) fn extend_limits(&mut self, state: &mut LogState, missed: Duration) {
+        if let Some(limit) = self.limit {
+            self.limit = Some(limit.saturating_add(missed));
+        }
+        if let Some((revision, since)) = state.ahead {
+            state.ahead = Some((revision, since.saturating_add(missed)));
+        }
     }
 
     // Begins the watch behind the last change.
@@ -115,7 +148,7 @@ impl WatchLane {
         };
         self.lines = Lines::new(state.alloc);
         self.status = 0;
-        self.limit = Some(later(now, TIME_LIMIT));
+        self.limit = Some(later(now, self.time_limit()));
         match &mut self.lane.connection {
             Some(connection) => connection.begin(&request),
             None => Err(EtcdFault::Connection),
@@ -129,6 +162,9 @@ impl WatchLane {
         };
         connection.send()?;
         let arrived = connection.receive()?;
+        if arrived != Arrived::Nothing {
+            self.renew_limits(state, now);
+        }
         self.partly_read = true;
         for _ in 0..MAX_STEPS {
             if self.step(state)? == Step::NeedsInput {
@@ -208,9 +244,8 @@ impl WatchLane {
                 self.limit = None;
                 self.lane.succeed();
                 state.checked = now;
-                // a log that is long comes in many lines
-                if let Some((revision, _)) = state.ahead {
-                    state.ahead = Some((revision, now));
+                if !changes.items().is_empty() {
+                    self.slow = 0;
                 }
                 match state.following.receive(state.alloc, changes.items()) {
                     Ok(()) => Ok(()),
@@ -272,7 +307,7 @@ impl WatchLane {
             next = self.lane.resume;
         }
         if let Some((_, since)) = state.ahead {
-            next = next.min(later(since, TIME_LIMIT));
+            next = next.min(later(since, self.time_limit()));
         }
         next.saturating_sub(now)
     }

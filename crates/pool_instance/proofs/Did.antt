@@ -16,9 +16,9 @@ use Rattle.service_step.specs.declared.reply.Reply.{Reply}
 use Rattle.service_step.specs.declared.reply.Reply.TheVariants.{Denied}
 use Rattle.service_calls.specs.Held.{is_shut, salt_of, space_of}
 use Rattle.service_calls.specs.declared.service.Service.{Service}
-use Rattle.pool_core.specs.Events.{Answers, AsksForEnd, AtOnce, Fails, InstanceEvent, LearnsEnd, Receives, batches_offered, log_events}
+use Rattle.pool_core.specs.Events.{Answers, AsksForEnd, AtOnce, Drops, Fails, InstanceEvent, LearnsEnd, Receives, batches_offered, log_events}
 use Rattle.pool_core.specs.Log.{AsksEnd, Continues, LogEvent, TellsEnd}
-use Rattle.pool_core.specs.Serves.{AllMayFollow, IsOpen, times}
+use Rattle.pool_core.specs.Serves.{AllMayFollow, IsOpen, ids_offered, times}
 use Rattle.pool_core.specs.Unlogged.{reads}
 use Rattle.pool_core.specs.declared.log.Log as logs
 use Rattle.pool_core.proofs.Lists.{contains_at, contains_same}
@@ -270,6 +270,9 @@ module _ {L S : Type 0} (gl : logs.Ghosts L) (gs : spaces.Ghosts S) where
   fails_no_receipt : (id : ℕ) → IsNoReceipt (Fails id)
   fails_no_receipt id k call h = cc
 
+  drops_no_receipt : (id : ℕ) → IsNoReceipt (Drops id)
+  drops_no_receipt id k call h = cc
+
   module _ (old new : Instance L S) (id : ℕ) (k : Kept old new []) (n : new.received ≡ old.received) where
     abbrev fails : List InstanceEvent
     fails = Fails id ∷ []
@@ -282,30 +285,42 @@ module _ {L S : Type 0} (gl : logs.Ghosts L) (gs : spaces.Ghosts S) where
         did_kept old new fails k (record { given = refl; offered = refl }) flight
         (λ start events all. (is_open events all, tt)) requests
 
+    -- The same of a request that was never offered.
+    abbrev drops : List InstanceEvent
+    drops = Drops id ∷ []
+
+    drops_by : ((events : List InstanceEvent) → IsInFlight (gl.writer (log_of old)) events old.in_flight → IsInFlight (gl.writer (log_of old)) events new.in_flight)
+        → ((events : List InstanceEvent) → AreRequests events (readings_in old) (unsent_in old) (sent_in old) old.received → ((call : Call) × IsOpen events id call) × (times id (ids_offered events) ≡ 0))
+        → ((events : List InstanceEvent) → AreRequests events (readings_in old) (unsent_in old) (sent_in old) old.received → AreRequests (events ++ drops) (readings_in new) (unsent_in new) (sent_in new) new.received)
+        → Did gl gs old drops new
+    drops_by flight is_dropped requests =
+        did_kept old new drops k (record { given = refl; offered = refl }) flight
+        (λ start events all. (is_dropped events all, tt)) requests
+
     pub did_fail_reading : new.in_flight ≡ old.in_flight → (front : List Reading) (r : Reading) (back : List Reading) → readings_in old ≡ front ++ r ∷ back → readings_in new ≡ front ++ back → unsent_in new ≡ unsent_in old → r.held.id ≡ id
-        → Did gl gs old fails new
+        → Did gl gs old drops new
     did_fail_reading flight front r back was rs hs number =
-        fails_by (λ events h. subst (λ v. IsInFlight (gl.writer (log_of old)) events v) (sym flight) h)
+        drops_by (λ events h. subst (λ v. IsInFlight (gl.writer (log_of old)) events v) (sym flight) h)
         (λ events all.
         let w = waiting_at events (readings_in old) (unsent_in old) (sent_in old) old.received all r (contains_same (readings_in old) (front ++ r ∷ back) r was (contains_at front r back)) in
-        (call_of r.held.request, subst (λ (v : ℕ). IsOpen events v (call_of r.held.request)) number w.held.opens))
+        ((call_of r.held.request, subst (λ (v : ℕ). IsOpen events v (call_of r.held.request)) number w.held.opens), subst (λ (v : ℕ). times v (ids_offered events) ≡ 0) number w.held.unoffered))
         (λ events all.
-        requests_same (events ++ fails) (events ++ fails) (front ++ back) (readings_in new) (unsent_in old) (unsent_in new) (sent_in old) (sent_in new) old.received new.received
+        requests_same (events ++ drops) (events ++ drops) (front ++ back) (readings_in new) (unsent_in old) (unsent_in new) (sent_in old) (sent_in new) old.received new.received
         refl rs hs (ap (λ v. sent_by v) flight) n
-        (reading_ends events (Fails id) (fails_no_receipt id) refl front r back (unsent_in old) (sent_in old) old.received
+        (reading_ends events (Drops id) (drops_no_receipt id) refl front r back (unsent_in old) (sent_in old) old.received
         (subst (λ (v : List Reading). AreRequests events v (unsent_in old) (sent_in old) old.received) was all) (ap (λ v. v ∷ []) (sym number))))
 
     pub did_fail_change : new.in_flight ≡ old.in_flight → (front : List Held) (x : Held) (back : List Held) → unsent_in old ≡ front ++ x ∷ back → unsent_in new ≡ front ++ back → readings_in new ≡ readings_in old → x.id ≡ id
-        → Did gl gs old fails new
+        → Did gl gs old drops new
     did_fail_change flight front x back was hs rs number =
-        fails_by (λ events h. subst (λ v. IsInFlight (gl.writer (log_of old)) events v) (sym flight) h)
+        drops_by (λ events h. subst (λ v. IsInFlight (gl.writer (log_of old)) events v) (sym flight) h)
         (λ events all.
         let w = held_at events (readings_in old) (unsent_in old) (sent_in old) old.received all x (contains_same (unsent_in old) (front ++ x ∷ back) x was (contains_at front x back)) in
-        (call_of x.request, subst (λ (v : ℕ). IsOpen events v (call_of x.request)) number w.opens))
+        ((call_of x.request, subst (λ (v : ℕ). IsOpen events v (call_of x.request)) number w.opens), subst (λ (v : ℕ). times v (ids_offered events) ≡ 0) number w.unoffered))
         (λ events all.
-        requests_same (events ++ fails) (events ++ fails) (readings_in old) (readings_in new) (front ++ back) (unsent_in new) (sent_in old) (sent_in new) old.received new.received
+        requests_same (events ++ drops) (events ++ drops) (readings_in old) (readings_in new) (front ++ back) (unsent_in new) (sent_in old) (sent_in new) old.received new.received
         refl rs hs (ap (λ v. sent_by v) flight) n
-        (change_ends events (Fails id) (fails_no_receipt id) refl (readings_in old) front x back (sent_in old) old.received
+        (change_ends events (Drops id) (drops_no_receipt id) refl (readings_in old) front x back (sent_in old) old.received
         (subst (λ (v : List Held). AreRequests events (readings_in old) v (sent_in old) old.received) was all) (ap (λ v. v ∷ []) (sym number))))
 
     -- The parts of a batch in flight from which a request was removed.

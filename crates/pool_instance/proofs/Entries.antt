@@ -17,7 +17,7 @@ use Rattle.service_calls.specs.Held.{is_shut, salt_of, space_of}
 use Rattle.service_calls.specs.Run.{IsReplyTo}
 use Rattle.pool_core.specs.Acts.{airspace_by, replies_by}
 use Rattle.service_calls.specs.Service.{Leaves}
-use Rattle.pool_core.specs.Events.{AfterFirst, Answers, Fails, Gets, InstanceEvent, Offers, batches_offered, entries_given}
+use Rattle.pool_core.specs.Events.{AfterFirst, Answers, Drops, Fails, Gets, InstanceEvent, Offers, batches_offered, entries_given}
 use Rattle.pool_core.specs.Log.{Continues, GivesEntry, LogEntry, TakesBatch}
 use Rattle.pool_core.specs.Serves.{AllMayFollow, AreOpen, ReachesEnd, airspace_at, acts_in, ended_in, ids_offered, offered_in}
 use Rattle.pool_core.specs.Unlogged.{reads}
@@ -250,7 +250,7 @@ module _ {L S : Type 0} (gl : logs.Ghosts L) (gs : spaces.Ghosts S) where
   reply_no_receipt : (id count now : ℕ) (call : Call) (reply : Reply) → IsNoReceipt (Answers id (AfterFirst count (now, call)) reply)
   reply_no_receipt id count now call reply k c h = cc
 
-  fail_no_receipt : (id : ℕ) → IsNoReceipt (Fails id)
+  fail_no_receipt : (id : ℕ) → IsNoReceipt (Drops id)
   fail_no_receipt id k c h = cc
 
   module _ (old new : Instance L S) (now : ℕ) (front : List Reading) (r : Reading) (back : List Reading) (reply : Reply) (going : is_ended old ≡ false) (was : readings_in old ≡ front ++ r ∷ back)
@@ -288,17 +288,17 @@ module _ {L S : Type 0} (gl : logs.Ghosts L) (gs : spaces.Ghosts S) where
         (reading_ends events e plain none front r back (unsent_in old) (sent_in old) old.received (subst (λ (v : List Reading). AreRequests events v (unsent_in old) (sent_in old) old.received) was all) ends)
 
     -- The request failed.
-    pub did_fail : Did gl gs old (Fails r.held.id ∷ []) new
+    pub did_fail : Did gl gs old (Drops r.held.id ∷ []) new
     did_fail =
-        did_by gl gs old new (Fails r.held.id ∷ []) reply_stayed (λ h. ended ∙ h)
+        did_by gl gs old new (Drops r.held.id ∷ []) reply_stayed (λ h. ended ∙ h)
         (λ past start events is.
         let w = waits events is.requests in
         record {
-          follows = λ sound. ((call, w.held.opens), tt);
-          up = λ goes. reply_up start events (Fails r.held.id ∷ []) (record { given = refl; offered = refl }) (is.up_to_date going) w;
-          requests = reply_requests events (Fails r.held.id) (fail_no_receipt r.held.id) refl refl is.requests;
-          heard = still_heard (gl.writer (log_of old)) events (Fails r.held.id ∷ []) (heard_in old) (heard_in new) heard is.heard;
-          agreed = none_agreed (retention_in old) (gl.writer (log_of old)) events (Fails r.held.id ∷ []) refl;
+          follows = λ sound. (((call, w.held.opens), w.held.unoffered), tt);
+          up = λ goes. reply_up start events (Drops r.held.id ∷ []) (record { given = refl; offered = refl }) (is.up_to_date going) w;
+          requests = reply_requests events (Drops r.held.id) (fail_no_receipt r.held.id) refl refl is.requests;
+          heard = still_heard (gl.writer (log_of old)) events (Drops r.held.id ∷ []) (heard_in old) (heard_in new) heard is.heard;
+          agreed = none_agreed (retention_in old) (gl.writer (log_of old)) events (Drops r.held.id ∷ []) refl;
         })
 
     -- The request got its reply.

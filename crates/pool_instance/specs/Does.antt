@@ -9,7 +9,7 @@ use Rattle.service_calls.specs.Run.{IsReplyTo}
 use Rattle.service_step.specs.declared.reply.Reply.{Reply}
 use Rattle.service_step.specs.declared.reply.Reply.TheVariants as replies
 use Rattle.pool_core.specs.Acts.{Makes, Purges}
-use Rattle.pool_core.specs.Events.{AfterFirst, Answers, AsksForEnd, AtOnce, Fails, Gets, InPlace, InstanceEvent, LearnsEnd, Offers, Receives}
+use Rattle.pool_core.specs.Events.{AfterFirst, Answers, AsksForEnd, AtOnce, Drops, Fails, Gets, InPlace, InstanceEvent, LearnsEnd, Offers, Receives}
 use Rattle.pool_core.specs.Log.{LogEntry, LogEvent}
 use Rattle.pool_core.specs.declared.log.Log as logs
 use Rattle.pool_entry.specs.Acts.{acts_of}
@@ -166,7 +166,7 @@ module _ {L S : Type 0} (gl : logs.Ghosts L) (gs : spaces.Ghosts S) where
       × All (λ r. is_due (count_taken old) r ≡ false) (readings_in old)
   AnsweredSo now old new (Ok (Some (Replied id reply))) = (call : Call)
       × Did old (Answers id (AfterFirst (count_taken old) (now, call)) reply ∷ []) new
-  AnsweredSo now old new (Ok (Some (Failed id))) = Did old (Fails id ∷ []) new
+  AnsweredSo now old new (Ok (Some (Failed id))) = Did old (Drops id ∷ []) new
       × ((r : Reading) × Contains (readings_in old) r × (r.held.id ≡ id)
       × IsReplyTo gs old.service new.service now (call_of r.held.request) replies.Fault)
   AnsweredSo now old new (Err fault) = FailedSo old new fault
@@ -176,5 +176,5 @@ module _ {L S : Type 0} (gl : logs.Ghosts L) (gs : spaces.Ghosts S) where
   -- Holds if the instance failed a request that had no reply.
   abbrev pub GaveUpSo : (id : ℕ) → Instance L S → Instance L S → Option Unanswered → Type 0
   GaveUpSo id old new None = DidNothing old new × (Contains (ids_in old) id → ⊥)
-  GaveUpSo id old new (Some Unsent) = Did old (Fails id ∷ []) new × Contains (ids_unsent old) id
+  GaveUpSo id old new (Some Unsent) = Did old (Drops id ∷ []) new × Contains (ids_unsent old) id
   GaveUpSo id old new (Some Unknown) = Did old (Fails id ∷ []) new × Contains (ids_sent old) id

@@ -6,7 +6,7 @@ use Rattle.std.proofs.lemmas.List.Elements.{All-append, All-cons, All-nil}
 use Rattle.service_step.specs.declared.reply.Reply.{Reply}
 use Rattle.space_core.specs.declared.space.Space as spaces
 use Rattle.pool_core.specs.Acts.{Purges}
-use Rattle.pool_core.specs.Events.{AsksForEnd, Fails, Gets, InstanceEvent, LearnsEnd}
+use Rattle.pool_core.specs.Events.{AsksForEnd, Drops, Fails, Gets, InstanceEvent, LearnsEnd}
 use Rattle.pool_core.specs.declared.log.Log as logs
 use Rattle.pool_instance.specs.Does.{AnsweredSo, AskedSo, Did, DidNothing, FailedSo, GaveUpSo, LearnedSo, OfferedSo, PurgeOfferedSo, TookSo, in_place}
 use Rattle.pool_instance.specs.Parts.{retention_in, unsent_in}
@@ -98,10 +98,10 @@ module _ {L S : Type 0} (gl : logs.Ghosts L) (gs : spaces.Ghosts S) (moment : �
   pub own_answered : (old new : Instance L S) (r : Result (Option Outcome) InstanceFault) → AnsweredSo gl gs moment old new r → WorksOwn gl gs moment old new
   own_answered old new (Ok None) h = own_nothing old new h.0
   own_answered old new (Ok (Some (Replied id reply))) h = own_one old _ new h.1 tt refl
-  own_answered old new (Ok (Some (Failed id))) h = own_one old (Fails id) new h.0 tt tt
+  own_answered old new (Ok (Some (Failed id))) h = own_one old (Drops id) new h.0 tt tt
   own_answered old new (Err fault) h = own_failed old new fault h
 
   pub own_gave_up : (id : ℕ) (old new : Instance L S) (r : Option Unanswered) → GaveUpSo gl gs id old new r → WorksOwn gl gs moment old new
   own_gave_up id old new None h = own_nothing old new h.0
-  own_gave_up id old new (Some Unsent) h = own_one old (Fails id) new h.0 tt tt
+  own_gave_up id old new (Some Unsent) h = own_one old (Drops id) new h.0 tt tt
   own_gave_up id old new (Some Unknown) h = own_one old (Fails id) new h.0 tt tt

@@ -16,7 +16,7 @@ use Rattle.wire_http.specs.declared.unavailable.Unavailable.TheVariants.{Unassig
 use Rattle.server_base.specs.History.{HistoryEvent}
 use Rattle.server_base.proofs.Histories.{extends_none}
 use Rattle.wire_http.specs.Turns.{set_at}
-use Rattle.pool_core.specs.Events.{AfterFirst, Answers, AtOnce, Fails, Gets, InstanceEvent, Receives}
+use Rattle.pool_core.specs.Events.{AfterFirst, Answers, AtOnce, Drops, Fails, Gets, InstanceEvent, Receives}
 use Rattle.pool_core.specs.declared.log.Log as logs
 use Rattle.pool_instance.specs.Does.{AnsweredSo, FailedSo, GaveUpSo, ReceivedSo, TookSo, in_place}
 use Rattle.pool_instance.specs.Parts.{count_taken, is_ended, retention_in}
@@ -206,11 +206,11 @@ module _ (callers : Callers) (explaining : Explaining) {L S : Type 0} (gl : logs
         after_own (event ∷ []) (event ∷ []) answered.1 (tt, tt) (All-cons (IsAt (retention_in i) moment) event [] refl (All-nil (IsAt (retention_in i) moment))) (λ before. (Contains-push before event, tt)) (q event (refl, refl))
     after_answered r (Failed id) h is q =
         let answered : AnsweredSo gl gs moment i i' (Ok (Some (Failed id))) = subst (λ (v : Result (Option Outcome) InstanceFault). AnsweredSo gl gs moment i i' v) is h in
-        after_own (Fails id ∷ []) (Fails id ∷ []) answered.0 (tt, tt) (All-cons (IsAt (retention_in i) moment) (Fails id) [] tt (All-nil (IsAt (retention_in i) moment))) (λ before. (Contains-push before (Fails id), tt)) (q (Fails id) refl)
+        after_own (Drops id ∷ []) (Drops id ∷ []) answered.0 (tt, tt) (All-cons (IsAt (retention_in i) moment) (Drops id) [] tt (All-nil (IsAt (retention_in i) moment))) (λ before. (Contains-push before (Drops id), tt)) (q (Drops id) refl)
 
     pub after_failed : (id : ℕ) (assigned : Bool) (r : Option Unanswered) → GaveUpSo gl gs id i i' r → Serves gl gs callers explaining moment (given_for id (unavailable_for assigned r)) (pool_state i' old past) new
         → Serves gl gs callers explaining moment [] (pool_state i old past) new
     after_failed id assigned None h q = after_own [] [] h.0.did tt (All-nil (IsAt (retention_in i) moment)) (λ before. tt) q
-    after_failed id true (Some Unsent) h q = after_own (Fails id ∷ []) (Fails id ∷ []) h.0 (tt, tt) (All-cons (IsAt (retention_in i) moment) (Fails id) [] tt (All-nil (IsAt (retention_in i) moment))) (λ before. (Contains-push before (Fails id), tt)) q
-    after_failed id false (Some Unsent) h q = after_own (Fails id ∷ []) (Fails id ∷ []) h.0 (tt, tt) (All-cons (IsAt (retention_in i) moment) (Fails id) [] tt (All-nil (IsAt (retention_in i) moment))) (λ before. (Contains-push before (Fails id), tt)) q
+    after_failed id true (Some Unsent) h q = after_own (Drops id ∷ []) (Drops id ∷ []) h.0 (tt, tt) (All-cons (IsAt (retention_in i) moment) (Drops id) [] tt (All-nil (IsAt (retention_in i) moment))) (λ before. (Contains-push before (Drops id), tt)) q
+    after_failed id false (Some Unsent) h q = after_own (Drops id ∷ []) (Drops id ∷ []) h.0 (tt, tt) (All-cons (IsAt (retention_in i) moment) (Drops id) [] tt (All-nil (IsAt (retention_in i) moment))) (λ before. (Contains-push before (Drops id), tt)) q
     after_failed id assigned (Some unanswered.Unknown) h q = after_own (Fails id ∷ []) [] h.0 (tt, tt) (All-cons (IsAt (retention_in i) moment) (Fails id) [] tt (All-nil (IsAt (retention_in i) moment))) (λ before. tt) q

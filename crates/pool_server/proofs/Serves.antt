@@ -14,7 +14,7 @@ use Rattle.wire_http.specs.Turns.{set_at}
 use Rattle.wire_http.specs.declared.explaining.Explaining.{Explaining}
 use Rattle.server_base.specs.History.{Extends, HistoryEvent}
 use Rattle.server_base.proofs.Histories.{extends_none, extends_same, extends_then}
-use Rattle.pool_core.specs.Events.{Answers, AsksForEnd, Fails, Gets, InstanceEvent, LearnsEnd, Offers, Receives}
+use Rattle.pool_core.specs.Events.{Answers, AsksForEnd, Drops, Fails, Gets, InstanceEvent, LearnsEnd, Offers, Receives}
 use Rattle.pool_core.specs.declared.log.Log as logs
 use Rattle.pool_instance.specs.Does.{Did}
 use Rattle.pool_instance.specs.Parts.{is_ended, retention_in}
@@ -208,6 +208,7 @@ module _ (callers : Callers) where
   own_of_client (AsksForEnd question) h = tt
   own_of_client (LearnsEnd question count) h = tt
   own_of_client (Fails id) h = tt
+  own_of_client (Drops id) h = tt
 
   own_all : (xs : List InstanceEvent) → AreOwn xs → All (IsOfClient callers) xs
   own_all [] h = All-nil (IsOfClient callers)

@@ -17,7 +17,7 @@ use Rattle.wire_http.specs.declared.explaining.Explaining.{Explaining}
 use Rattle.wire_http.specs.declared.unavailable.Unavailable.{Unavailable}
 use Rattle.wire_http.specs.declared.unavailable.Unavailable.TheVariants.{Unassigned, Unknown, Unreachable}
 use Rattle.server_base.specs.History.{Accepted, Extends, HistoryEvent}
-use Rattle.pool_core.specs.Events.{AfterFirst, Answers, AsksForEnd, AtOnce, Fails, Gets, InPlace, InstanceEvent, LearnsEnd, Offers, Receives}
+use Rattle.pool_core.specs.Events.{AfterFirst, Answers, AsksForEnd, AtOnce, Drops, Fails, Gets, InPlace, InstanceEvent, LearnsEnd, Offers, Receives}
 use Rattle.pool_core.specs.declared.log.Log as logs
 use Rattle.pool_instance.specs.Does.{Did}
 use Rattle.pool_instance.specs.Parts.{is_ended, retention_in}
@@ -133,10 +133,11 @@ events_of_request (GivesUp id unavailable) = []
 events_of_request (Loses id) = []
 
 -- Holds if the instance gave this reply to the request in that event. After a fault of the service
--- the request fails, and its client gets the reply `Fault`.
+-- the request fails, and its client gets the reply `Fault`. It was never offered.
 abbrev pub GivesReply : (id : ℕ) → Reply → InstanceEvent → Type 0
 GivesReply id reply (Answers id' basis reply') = (id' ≡ id) × (reply' ≡ reply)
-GivesReply id reply (Fails id') = (id' ≡ id) × (reply ≡ replies.Fault)
+GivesReply id reply (Fails id') = ⊥
+GivesReply id reply (Drops id') = (id' ≡ id) × (reply ≡ replies.Fault)
 GivesReply id reply (Receives id' call) = ⊥
 GivesReply id reply (Offers ids bytes) = ⊥
 GivesReply id reply (Gets entry) = ⊥
@@ -144,12 +145,12 @@ GivesReply id reply (AsksForEnd question) = ⊥
 GivesReply id reply (LearnsEnd question count) = ⊥
 
 -- Holds if the events before an act allow it: a reply is delivered only if the instance gave it, and
--- a request is reported as not made only if it failed.
+-- a request is reported as not made only if it failed and was never offered.
 abbrev pub IsDueRequest : List InstanceEvent → RequestAct → Type 0
 IsDueRequest before (Delivers id reply) =
     (event : InstanceEvent) × GivesReply id reply event × Contains before event
-IsDueRequest before (GivesUp id Unreachable) = Contains before (Fails id)
-IsDueRequest before (GivesUp id Unassigned) = Contains before (Fails id)
+IsDueRequest before (GivesUp id Unreachable) = Contains before (Drops id)
+IsDueRequest before (GivesUp id Unassigned) = Contains before (Drops id)
 IsDueRequest before (GivesUp id Unknown) = Unit {0}
 IsDueRequest before (Waits id call) = Unit {0}
 IsDueRequest before (Denies id timed reply) = Unit {0}
@@ -246,6 +247,7 @@ IsOwn (Gets entry) = Unit {0}
 IsOwn (AsksForEnd question) = Unit {0}
 IsOwn (LearnsEnd question count) = Unit {0}
 IsOwn (Fails id) = Unit {0}
+IsOwn (Drops id) = Unit {0}
 
 abbrev pub AreOwn : List InstanceEvent → Type 0
 AreOwn [] = Unit {0}
@@ -362,8 +364,8 @@ ServesClient gl gs callers explaining moment old new l l' past now =
 
 -- The event after which a request is answered with status 503, if there has to be one.
 abbrev pub given_for : (id : ℕ) → Unavailable → List InstanceEvent
-given_for id Unreachable = Fails id ∷ []
-given_for id Unassigned = Fails id ∷ []
+given_for id Unreachable = Drops id ∷ []
+given_for id Unassigned = Drops id ∷ []
 given_for id Unknown = []
 
 -- The reason for status 503, after the instance failed a request. The instance may act for the USS of
@@ -377,4 +379,4 @@ unavailable_for assigned (Some unanswered.Unknown) = Unknown
 -- Holds if the instance gave this outcome of a reading in that event.
 abbrev pub GivesOutcome : Outcome → InstanceEvent → Type 0
 GivesOutcome (Replied id reply) event = GivesReply id reply event
-GivesOutcome (Failed id) event = event ≡ Fails id
+GivesOutcome (Failed id) event = event ≡ Drops id

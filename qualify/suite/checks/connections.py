@@ -8,7 +8,7 @@ VERSION = "0123456789abcdef0123456789abcdef"
 
 
 def raw(it, supplier, *head, body=b""):
-    return it.taken(supplier, it.client.raw(supplier.caller, head, body))
+    return it.taken(supplier, it.pair.reader.raw(supplier.caller, head, body))
 
 
 @check("An unknown path is 404, with a token or without", "P1 ROUTE", only="profile")
@@ -57,7 +57,7 @@ def a_connection_takes_a_hundred(it):
     last.need(last.exchange.fields.get("connection") == "close", "Connection: close, as requested")
     older = raw(it, it.a, f"GET {AVAILABILITY}/{uss} HTTP/1.0").must(200)
     older.need(older.exchange.fields.get("connection") == "close", "Connection: close after HTTP/1.0")
-    for exchange in it.client.many(it.a.caller, "GET", f"{AVAILABILITY}/{uss}", 100):
+    for exchange in it.pair.reader.many(it.a.caller, "GET", f"{AVAILABILITY}/{uss}", 100):
         answer = it.taken(it.a, exchange).must(200)
         wanted = "close" if exchange.number == 100 else None
         said = "Connection: close" if wanted else "no field Connection"
@@ -70,7 +70,7 @@ def what_follows_the_hundredth_is_not_done(it):
     id_, path = it.id(), f"{AVAILABILITY}/{it.a.uss}"
     put = "PUT", f"{INTENTS}/{id_}", it.intent_body(it.volume(it.site()))
     it.may_be_kept(it.a, put[1])
-    exchanges = it.client.pipelined(it.a.caller, [("GET", path, None)] * 100 + [put])
+    exchanges = it.pair.reader.pipelined(it.a.caller, [("GET", path, None)] * 100 + [put])
     for exchange in exchanges[:100]:
         it.taken(it.a, exchange).must(200)
     it.exchanges.append(exchanges[100])
@@ -83,7 +83,7 @@ def what_follows_the_hundredth_is_not_done(it):
 def head_is_not_taken(it):
     path = f"{AVAILABILITY}/{it.a.uss}"
     for asked, status, allowed in ((path, 405, "GET, PUT"), (f"{INTENTS}/query", 405, "POST"), (f"{INTENTS}/", 404, None)):
-        head, read = it.client.pipelined(it.a.caller, [("HEAD", asked, None), ("GET", path, None)])
+        head, read = it.pair.reader.pipelined(it.a.caller, [("HEAD", asked, None), ("GET", path, None)])
         it.exchanges.append(head)
         answer = Answer(it, head).must(status)
         answer.need(head.fields.get("allow") == allowed, f"Allow: {allowed}" if allowed else "no field Allow")

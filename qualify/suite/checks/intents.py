@@ -1,8 +1,8 @@
 """Operational intents: what is stored, what each USS sees, and what queries find."""
-from suite.check import INTENT, SUBSCRIPTION, check
+from suite.check import CONSTRAINT, INTENT, SUBSCRIPTION, check
 from suite.checks.keys import lacks
-from suite.dialect import ENDS, STARTS, URL, ZERO
-from suite.trial import INTENTS
+from suite.dialect import BESIDE, ENDS, MIDDLE, OVERLAPPING, STARTS, URL, ZERO
+from suite.trial import CONSTRAINTS, INTENTS, SUBSCRIPTIONS
 
 HOUR = 3600
 # more than a page of any service
@@ -77,6 +77,22 @@ def a_query_finds_what_meets_its_area(it):
         found.finds(wanted, f"{what}, each once")
 
 
+@check("A query finds what overlaps its altitudes or its times only partly, and not what lies above, below, before or after them", "Effects",
+       [INTENT["query"], CONSTRAINT["query"], SUBSCRIPTION["query"]])
+def a_query_finds_what_overlaps_partly(it):
+    site, flight, constraint, subscription = it.site(), it.id(), it.id(), it.id()
+    volume = it.volume(site, **MIDDLE)
+    it.a.intent(flight, volume).must(201)
+    it.manager.constraint(constraint, volume).must(201)
+    it.b_processing.subscription(subscription, volume).must(200)
+    for bounds in (*OVERLAPPING, *BESIDE):
+        area = it.volume(site, **MIDDLE | bounds)
+        is_found = bounds in OVERLAPPING
+        for supplier, kind, id_ in (
+                (it.b, INTENTS, flight), (it.b_processing, CONSTRAINTS, constraint), (it.b_processing, SUBSCRIPTIONS, subscription)):
+            supplier.query(kind, area=area).must(200).finds([id_] * is_found, "what overlaps" if is_found else "nothing")
+
+
 @check("A query answers all that it finds, and a refusal for a key and a new subscription all that they meet: 150 intents of one place",
        "Effects, P14 KEY", [INTENT["query"], INTENT["create"], SUBSCRIPTION["create"]])
 def all_that_is_found_is_answered(it):
@@ -118,6 +134,25 @@ def an_update_replaces_an_intent(it):
     gone, there = it.b.query(INTENTS, site).must(200), it.b.query(INTENTS, other).must(200)
     gone.finds([], "nothing where it was")
     there.finds([id_], "the intent where it is")
+
+
+@check("After an update with two volumes, queries find the intent or the constraint in both, and keys need it in both", "Effects, P14 KEY",
+       [INTENT["update"], INTENT["query"], CONSTRAINT["update"], CONSTRAINT["query"]])
+def an_update_has_all_its_volumes(it):
+    flight, constraint, old, sites = it.id(), it.id(), it.site(), (it.site(), it.site())
+    first = it.a.intent(flight, it.volume(old)).must(201).reference["ovn"]
+    kept = it.manager.constraint(constraint, it.volume(old)).must(201).reference["ovn"]
+    volumes = [it.volume(sites[0]), it.volume(sites[1], low=200, high=300, end=ENDS + 600)]
+    for order in (volumes, volumes[::-1]):
+        updated = it.a.intent(flight, *order, over=first).must(200)
+        first = updated.reference["ovn"]
+        updated.need(it.dialect.second(updated.reference["time_end"]) == it.dialect.moment + ENDS + 600, "the latest end of both")
+        kept = it.manager.constraint(constraint, *order, over=kept).must(200).reference["ovn"]
+        for site, volume in zip(sites, volumes):
+            it.b.query(INTENTS, site).must(200).finds([flight], "the intent in each of its volumes")
+            it.b_processing.query(CONSTRAINTS, site).must(200).finds([constraint], "the constraint in each of its volumes")
+            lacks(it, it.b.intent(it.id(), volume), flight)
+        it.b.query(INTENTS, old).must(200).finds([], "nothing where it was")
 
 
 @check("An update or a deletion with an old or unknown OVN is 409, and changes nothing", "P10 VERSION",
@@ -183,7 +218,8 @@ def a_state_takes_its_scope(it):
         it.b_monitoring.intent(it.id(), it.volume(it.site()), state=state, **more).must(403, "P11 ROLE", standard=(400, 403))
 
 
-@check("States change only as permitted: none back to Accepted, and none from Contingent", "P12 CHANGE", only="profile")
+@check("States change only as permitted: none back to Accepted, and none from Contingent. Another change is 400, and changes nothing; "
+       "the standard leaves open which ones are", "P12 CHANGE", [INTENT["update"], INTENT["get"]])
 def states_change_only_as_they_may(it):
     states = ("Accepted", "Activated", "Nonconforming", "Contingent")
     allowed = {"Accepted": states, "Activated": states[1:], "Nonconforming": states[1:], "Contingent": states[3:]}
@@ -193,11 +229,14 @@ def states_change_only_as_they_may(it):
             told = it.a_monitoring.intent(id_, volume, state=old).must(201).reference
             put = it.a_monitoring.intent(id_, volume, state=new, over=told["ovn"])
             if new in allowed[old]:
-                put.must(200).need(put.reference["state"] == new, f"state {new}")
+                put.must(200)
             else:
-                put.must(400, "P12 CHANGE")
-            ovn = put.reference["ovn"] if put.status == 200 else told["ovn"]
-            it.a_monitoring.delete(INTENTS, id_, ovn).must(200)
+                put.must(400, "P12 CHANGE", standard=(200, 400))
+            now = put.reference if put.status == 200 else told
+            put.need(now["state"] == (new if put.status == 200 else old), f"state {new}")
+            read = it.a_monitoring.get(INTENTS, id_).must(200)
+            read.need(read.reference == now, "the result of the update" if put.status == 200 else "the intent as it was")
+            it.a_monitoring.delete(INTENTS, id_, now["ovn"]).must(200)
 
 
 @check("Putting an intent that has ended is 400", "P13 ENDED", [INTENT["create"], INTENT["update"]])

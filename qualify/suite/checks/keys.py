@@ -1,6 +1,6 @@
 """Keys: which OVNs a put must list, and which volumes meet."""
 from suite.check import INTENT, check
-from suite.dialect import ENDS, STARTS, cell, number_of, parent, token
+from suite.dialect import BESIDE, ENDS, MIDDLE, OVERLAPPING, STARTS, cell, number_of, parent, token
 from suite.trial import CONSTRAINTS, INTENTS, MOST_NAMED
 
 
@@ -87,6 +87,32 @@ def an_update_needs_a_key(it):
     moved = it.b.intent(second, it.volume(site), over=own["ovn"], key=[ovn]).must(200).reference
     lacks(it, it.a.intent(first, it.volume(site), over=ovn, key=[ovn]), second)
     it.a.intent(first, it.volume(site), over=ovn, key=[moved["ovn"]]).must(200)
+
+
+@check("Activating an intent needs a key as planning it does, by a creation and by an update, and so does an update of an Activated intent",
+       "P14 KEY", [INTENT["create"], INTENT["update"]])
+def an_activation_needs_a_key(it):
+    first, second, site, alone = it.id(), it.id(), it.site(), it.site()
+    ovn = it.a.intent(first, it.volume(site)).must(201).reference["ovn"]
+    lacks(it, it.b.intent(second, it.volume(site), state="Activated"), first)
+    it.b.get(INTENTS, second).must(404, "P7 FOUND")
+    planned = it.b.intent(second, it.volume(site), key=[ovn]).must(201).reference
+    lacks(it, it.b.intent(second, it.volume(site), over=planned["ovn"], state="Activated"), first)
+    read = it.b.get(INTENTS, second).must(200)
+    read.need(read.reference == planned, "the intent as it was")
+    active = it.b.intent(second, it.volume(site), over=planned["ovn"], state="Activated", key=[ovn]).must(200).reference
+    lacks(it, it.b.intent(second, it.volume(site), it.volume(alone), over=active["ovn"], state="Activated"), first)
+    it.b.intent(second, it.volume(alone), over=active["ovn"], state="Activated").must(200)
+
+
+@check("Keys need what overlaps only partly in altitude or time, and not what lies above, below, before or after", "P14 KEY", [INTENT["create"]])
+def what_overlaps_partly_is_needed(it):
+    site, first = it.site(), it.id()
+    it.a.intent(first, it.volume(site, **MIDDLE)).must(201)
+    for bounds in OVERLAPPING:
+        lacks(it, it.b.intent(it.id(), it.volume(site, **MIDDLE | bounds)), first)
+    for bounds in BESIDE:
+        it.b.intent(it.id(), it.volume(site, **MIDDLE | bounds)).must(201)
 
 
 @check("Keys need a USS's own intents as well, and denials list their OVNs", "P14 KEY", only="profile")

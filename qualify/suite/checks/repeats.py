@@ -1,4 +1,7 @@
 """Lost responses, repeated requests, and two USSs at once."""
+import itertools
+
+from suite import wire
 from suite.check import AVAILABILITY as SETTINGS, INTENT, SUBSCRIPTION, check
 from suite.trial import AVAILABILITY, INTENTS, SUBSCRIPTIONS
 
@@ -7,7 +10,7 @@ def sent_twice(it, supplier, method, path, body=None):
     """Returns the response to a repeated request, whose first response was lost."""
     if method == "PUT":
         it.may_be_kept(supplier, path)
-    lost = it.client.lose(supplier.caller, method, path, body)
+    lost = it.client_of(method, path).lose(supplier.caller, method, path, body)
     it.exchanges.append(lost)
     return supplier.ask(method, path, body)
 
@@ -62,7 +65,7 @@ def a_lost_setting_is_done_once(it):
     old = it.arbiter.availability(uss).must(200)
     was = old.value["status"]["availability"]
     new = "Down" if was != "Down" else "Normal"
-    it.settings.setdefault(uss, it.seen.get(uss))
+    it.may_be_set(uss)
     body = {"availability": new, "old_version": old.value["version"]}
     sent_twice(it, it.arbiter, "PUT", f"{AVAILABILITY}/{uss}", body).must(409, "P10 VERSION")
     read = it.arbiter.availability(uss).must(200)
@@ -70,11 +73,12 @@ def a_lost_setting_is_done_once(it):
 
 
 def at_once(it, *asked):
-    """Returns the responses to requests that are sent at once."""
+    """Returns the responses to changes that are sent at once."""
     for supplier, method, path, _ in asked:
         if method == "PUT":
             it.may_be_kept(supplier, path)
-    exchanges = it.client.at_once([(supplier.caller, *words) for supplier, *words in asked])
+    writers = itertools.cycle(it.pair.writers)
+    exchanges = wire.at_once(it.run.pace, [(next(writers), supplier.caller, *words) for supplier, *words in asked])
     return [it.taken(supplier, exchange) for (supplier, *_), exchange in zip(asked, exchanges)]
 
 

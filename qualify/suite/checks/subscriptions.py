@@ -1,6 +1,6 @@
 """Subscriptions: what is stored, which changes notify them, and with which index."""
 from suite.check import CONSTRAINT, INTENT, SUBSCRIPTION, check
-from suite.dialect import ENDS, STARTS, URL
+from suite.dialect import BESIDE, ENDS, MIDDLE, OVERLAPPING, STARTS, URL
 from suite.trial import CONSTRAINTS, INTENTS, SUBSCRIPTIONS
 
 
@@ -149,6 +149,69 @@ def who_does_not_meet_is_not_told(it):
         read.need(read.reference["notification_index"] == 0, "index 0")
 
 
+@check("An intent notifies subscriptions that its volume overlaps only partly in altitude or time, and a new subscription lists such intents",
+       "Effects", [INTENT["create"], SUBSCRIPTION["create"]])
+def who_overlaps_partly_is_told(it):
+    for bounds in (*OVERLAPPING, *BESIDE):
+        site, id_, flight, other = it.site(), it.id(), it.id(), it.id()
+        is_told = bounds in OVERLAPPING
+        it.a.subscription(id_, it.volume(site, **MIDDLE)).must(200)
+        answer = it.b.intent(flight, it.volume(site, **MIDDLE | bounds)).must(201)
+        answer.finds([id_] * is_told, "the subscription" if is_told else "none", list(answer.indexes))
+        stored = it.a.subscription(other, it.volume(site, **MIDDLE)).must(200)
+        found = [entity["id"] for entity in stored.value.get("operational_intent_references", ())]
+        stored.finds([flight] * is_told, "the intent" if is_told else "nothing", found)
+
+
+def tells_at(answer, ids, index):
+    """Checks that a change notifies exactly these subscriptions, each once at its address, with this index."""
+    told = [(one["subscription_id"], by["uss_base_url"]) for by in answer.part("subscribers") for one in by["subscriptions"]]
+    answer.finds(ids, "each subscription once", [id_ for id_, _ in told])
+    answer.need(dict(told) == {id_: URL.format(url) for id_, url in ids.items()}, "each at its address")
+    answer.need(set(answer.indexes.values()) == {index}, f"index {index} of each")
+    return answer.reference["ovn"]
+
+
+@check("The creation, the update and the deletion of an intent or a constraint notify subscribers at two addresses", "Effects",
+       [*(INTENT[name] for name in ("create", "update", "delete")), *(CONSTRAINT[name] for name in ("create", "update", "delete"))])
+def each_change_tells_all_addresses(it):
+    for kind, supplier, put in ((INTENTS, it.a, it.a.intent), (CONSTRAINTS, it.manager, it.manager.constraint)):
+        site, id_ = it.site(), it.id()
+        flags = {"intents": kind == INTENTS, "constraints": kind == CONSTRAINTS}
+        ids = {it.id(): "b", it.id(): "g"}
+        for subscription, url in ids.items():
+            it.b_processing.subscription(subscription, it.volume(site), url=url, **flags).must(200)
+        ovn = tells_at(put(id_, it.volume(site)).must(201), ids, 1)
+        ovn = tells_at(put(id_, it.volume(site), over=ovn).must(200), ids, 2)
+        tells_at(supplier.delete(kind, id_, ovn).must(200), ids, 3)
+
+
+@check("A subscription for intents, for constraints or for both shows what it is for, lists that, and is notified of that, also after an update",
+       "Effects", [SUBSCRIPTION[name] for name in ("create", "update", "get", "query")])
+def a_subscription_is_for_what_it_says(it):
+    id_, site, flight, constraint = it.id(), it.site(), it.id(), it.id()
+    flights = it.a.intent(flight, it.volume(site)).must(201).reference["ovn"]
+    constraints = it.manager.constraint(constraint, it.volume(site)).must(201).reference["ovn"]
+    version = None
+    for intents, wanted in ((True, True), (False, True), (True, False), (True, True)):
+        put = it.b_processing.subscription(id_, it.volume(site), over=version, intents=intents, constraints=wanted).must(200)
+        version = put.reference["version"]
+        for kind, is_for, own in (("operational_intent", intents, flight), ("constraint", wanted, constraint)):
+            found = [entity["id"] for entity in put.value.get(f"{kind}_references") or ()]
+            put.finds([own] * is_for, f"the {kind} that is there" if is_for else f"no {kind}", found)
+        read = it.b_processing.get(SUBSCRIPTIONS, id_).must(200)
+        listed = it.b_processing.query(SUBSCRIPTIONS, site).must(200)
+        for answer, told in ((put, put.reference), (read, read.reference), (listed, listed.part("subscriptions")[0])):
+            flags = [told.get(f"notify_for_{name}") or False for name in ("operational_intents", "constraints")]
+            answer.need(flags == [intents, wanted], f"for intents: {intents}, for constraints: {wanted}")
+        updated = it.a.intent(flight, it.volume(site), over=flights).must(200)
+        flights = updated.reference["ovn"]
+        updated.finds([id_] * intents, "the subscription" if intents else "none", list(updated.indexes))
+        updated = it.manager.constraint(constraint, it.volume(site), over=constraints).must(200)
+        constraints = updated.reference["ovn"]
+        updated.finds([id_] * wanted, "the subscription" if wanted else "none", list(updated.indexes))
+
+
 @check("Changes of constraints notify subscriptions for constraints, and no others", "Effects",
        [CONSTRAINT["create"], CONSTRAINT["update"], CONSTRAINT["delete"]])
 def constraints_are_told(it):
@@ -239,20 +302,48 @@ def a_subscription_takes_its_scope(it):
     it.b_processing.subscription(id_, volume, intents=False, constraints=True).must(200)
 
 
-@check("An update of an intent replaces its reference to a subscription, and one without a reference removes it",
-       "Effects", only="profile")
+@check("An update of an intent replaces its reference to a subscription, and one without a reference removes it; then the old one can be deleted",
+       "Effects, P17 DEPENDED", [INTENT["update"], INTENT["get"], SUBSCRIPTION["get"], SUBSCRIPTION["delete"]])
 def an_update_names_anew(it):
     one, two, flight, site = it.id(), it.id(), it.id(), it.site()
     it.a.subscription(one, it.volume(site)).must(200)
-    it.a.subscription(two, it.volume(site)).must(200)
+    version = it.a.subscription(two, it.volume(site)).must(200).reference["version"]
     told = it.a.intent(flight, it.volume(site), subscription=one).must(201).reference
     for named in (two, None, one):
         put = it.a.intent(flight, it.volume(site), subscription=named, over=told["ovn"]).must(200)
         told = put.reference
+        for answer in (put, it.a.get(INTENTS, flight).must(200)):
+            shown = answer.reference.get("subscription_id")
+            answer.need(shown == named if named else shown not in (one, two), "the subscription of this update" if named else "no subscription")
         for id_ in (one, two):
-            read = it.a.get(SUBSCRIPTIONS, id_).must(200)
-            wanted = [flight] if id_ == named else []
-            read.need(read.reference["dependent_operational_intents"] == wanted, "exactly the intents that reference it")
+            depends_on(it.a.get(SUBSCRIPTIONS, id_).must(200), [flight] if id_ == named else [])
+    it.a.delete(SUBSCRIPTIONS, two, version).must(200)
+
+
+def depends_on(read, flights):
+    found = read.reference.get("dependent_operational_intents") or []
+    read.finds(flights, "exactly the intents that reference it", found)
+
+
+@check("An update replaces a reference to an existing subscription by one to a requested new one, and that one by one to an existing one", "",
+       [INTENT["update"], SUBSCRIPTION["get"]], only="standard")
+def an_update_replaces_an_implicit_subscription(it):
+    named, flight, site, new = it.id(), it.id(), it.site(), {"uss_base_url": URL.format("a")}
+    it.a.subscription(named, it.volume(site)).must(200)
+    told = it.a.intent(flight, it.volume(site), subscription=named).must(201).reference
+    put = it.a.intent(flight, it.volume(site), new_subscription=new, over=told["ovn"]).must(200)
+    implicit = put.reference["subscription_id"]
+    put.need(implicit != named, "another subscription")
+    read = it.a.get(SUBSCRIPTIONS, implicit).must(200)
+    read.need(read.reference.get("implicit_subscription") is True, "an implicit subscription")
+    depends_on(read, [flight])
+    depends_on(it.a.get(SUBSCRIPTIONS, named).must(200), [])
+    put = it.a.intent(flight, it.volume(site), subscription=named, over=put.reference["ovn"]).must(200)
+    put.need(put.reference["subscription_id"] == named, "the existing subscription")
+    depends_on(it.a.get(SUBSCRIPTIONS, named).must(200), [flight])
+    read = it.a.get(SUBSCRIPTIONS, implicit).must(200, standard=(200, 404))
+    if read.status == 200:
+        depends_on(read, [])
 
 
 @check("An intent that requests a new subscription references one over its volumes, which is notified of what meets it and deleted with it", "",
