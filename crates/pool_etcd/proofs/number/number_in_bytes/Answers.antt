@@ -3,7 +3,7 @@ use Rattle.std.specs.Prelude.{IsUtf8}
 use Rattle.std.proofs.lemmas.Fmt.{IsAscii-decimal}
 use Rattle.std.proofs.lemmas.Str.{IsUtf8-from_ascii}
 use Rattle.pool_etcd.proofs.Numbers.{number_of-other}
-use Rattle.pool_etcd.proofs.log_value.number_in_bytes.Goals as goal
+use Rattle.pool_etcd.proofs.number.number_in_bytes.Goals as goal
 
 pub returns-in_default : goal.returns-in_default
 returns-in_default c =
