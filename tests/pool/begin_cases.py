@@ -68,7 +68,7 @@ def begun(pool, database, folder, salt=wire.SALT):
     whole = (folder / name).read_bytes()
     assert whole == database.read_bytes()
     beginning = first_number(whole)
-    settings = first_number(f"dss-settings 2\n{POLICY} {beginning}\n{salt}".encode())
+    settings = first_number(f"dss-settings 3\n{POLICY} {beginning}\n{salt}".encode())
     assert name == f"{0:020}-{settings:020}-{beginning:020}.db", (name, settings, beginning)
     return name
 

@@ -83,7 +83,8 @@ def catch_up(pool):
 
 def entry(*calls):
     """Returns a value of the log: a batch of what these calls ask."""
-    value = f"{NUMBER}\n".encode() + HEADER
+    # the link of no changes, which every instance has
+    value = f"{NUMBER} 0 {64 * '0'}\n".encode() + HEADER
     for method, path, authorization, body in calls:
         uss, scopes = TOKENS[authorization.removeprefix("Bearer ")]
         letters = "".join(mark if scope in scopes else "-" for mark, scope in zip(MARKS, SCOPES))

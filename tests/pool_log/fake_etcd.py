@@ -9,6 +9,8 @@ import threading
 import time
 import urllib.request
 
+from links import FIRST, link_text, next_digest, with_link
+
 PATHS = {"/v3/kv/txn": "put", "/v3/kv/range": "range", "/v3/watch": "watch", "/v3/auth/authenticate": "token"}
 PATHS["/v3/kv/compaction"] = "compact"
 
@@ -65,6 +67,8 @@ class Fake:
         self.lock = threading.Condition()
         self.revision, self.compacted = 1, 0
         self.keys, self.changes = {}, []
+        # The digests over no change of the log's keys, over one, and so on, and the revisions of the changes.
+        self.digests, self.at = [FIRST], []
         # "past" is a range at a revision.
         self.plans = {"put": [], "range": [], "past": [], "token": [], "compact": [], "watch": []}
         # Each request of these kinds gets status 503, and is not done.
@@ -133,7 +137,19 @@ class Fake:
         self.keys[name] = key
         if not is_lost:
             self.changes.append(("PUT", key))
+            self.extend(name, value)
         self.lock.notify_all()
+
+    def extend(self, name, value):
+        if b"in/" <= name < b"in0":
+            self.digests.append(next_digest(self.digests[-1], name, value))
+            self.at.append(self.revision)
+
+    def link(self, revision=None):
+        """The link of the changes up to a revision, or of all."""
+        with self.lock:
+            count = len(self.at) if revision is None else sum(it <= revision for it in self.at)
+            return link_text(count, self.digests[count])
 
     def delete(self, name, is_lost=False):
         with self.lock:
@@ -141,12 +157,15 @@ class Fake:
             del self.keys[name]
             if not is_lost:
                 self.changes.append(("DELETE", Key(name, b"", 0, self.revision, 0)))
+                self.extend(name, None)
             self.lock.notify_all()
 
-    def put_from_outside(self, name, value, is_lost=False):
-        """Puts a value. If it is lost, no watch gives it."""
+    def put_from_outside(self, name, value, is_lost=False, link=None):
+        """Puts a value. If it is lost, no watch gives it. An entry gets the link of all changes before it, or another one."""
         with self.lock:
-            self.put(name, value, is_lost)
+            count = len(self.at)
+            own = link_text(count, self.digests[count])
+            self.put(name, with_link(value, own if link is None else link), is_lost)
 
     def txn(self, body):
         with self.lock:

@@ -21,16 +21,16 @@ numbers = itertools.count(int.from_bytes(os.urandom(4), "big") << 16)
 
 def settings_number(policy, salt):
     """The number of settings: the first 8 bytes of a digest."""
-    digest = hashlib.sha256(f"dss-settings 2\n{policy} 0\n{salt}".encode()).digest()
+    digest = hashlib.sha256(f"dss-settings 3\n{policy} 0\n{salt}".encode()).digest()
     return int.from_bytes(digest[:8], "big")
 
 
 class Instance:
     """A process, with a number that no other has."""
 
-    def __init__(self, addresses, name, revision=0, count=0, user=None, salt="a salt", policy=1, pool="-"):
+    def __init__(self, addresses, name, revision=0, count=0, user=None, salt="a salt", policy=1, pool="-", link="- -"):
         self.name, self.number, self.agreed = name, next(numbers), settings_number(policy, salt)
-        words = [BUILT, addresses, name, str(self.number), str(revision), str(count), salt, str(policy), str(pool), *(user or ())]
+        words = [BUILT, addresses, name, str(self.number), str(revision), str(count), salt, str(policy), str(pool), *str(link).split(), *(user or ())]
         self.process = subprocess.Popen(words, stdin=subprocess.PIPE, stdout=subprocess.PIPE, text=True, bufsize=1)
         self.lines, self.offered = [], []
         # How often it was told to go on.
@@ -107,6 +107,10 @@ class Instance:
         """The number of the writer of its entries."""
         digest = hashlib.sha256(f"in/{self.name}\n{self.number}".encode()).digest()
         return int.from_bytes(digest[:8], "big")
+
+    def differences(self):
+        """The links of others that differ, or are ahead: the kind, the name and the count."""
+        return [tuple(it.split(" ")) for it in list(self.lines) if it.startswith(("differs ", "ahead "))]
 
     def own(self):
         return [text for writer, text in self.entries() if writer == str(self.writer())]

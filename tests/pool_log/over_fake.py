@@ -3,6 +3,7 @@ import random
 
 from fake_etcd import REQUEST_FAULTS, WATCH_FAULTS, Fake, plain
 from instances import LIMIT, Instance
+from links import FIRST, VALUE, link_text, without_link
 
 
 def same(wanted, got, what):
@@ -20,7 +21,11 @@ def offer_all(instance, fake, count=5, tag="t"):
     instance.until(count)
     same(texts(count, tag), instance.texts(), "entries")
     wanted = [f"{instance.number}\n{it}".encode() for it in texts(count, tag)]
-    same(wanted, [it for it in fake.entries() if b"\n" in it], "stored")
+    same(wanted, [without_link(it) for it in fake.entries() if b"\n" in it], "stored")
+    for it in fake.entries():
+        if b"\n" in it:
+            count = int(VALUE.fullmatch(it)["count"])
+            same(link_text(count, fake.digests[count]), it.split(b"\n")[0].split(b" ", 1)[1], "the link")
 
 
 def batches_in_order():
@@ -263,9 +268,9 @@ def settings_behind_a_revision():
     one = Instance(fake.addresses(), "a")
     offer_all(one, fake, 1)
     revision = one.wait(100).split()[4]
-    other = Instance(fake.addresses(), "b", revision=revision, count=1, salt="another")
+    other = Instance(fake.addresses(), "b", revision=revision, link=fake.link(int(revision)).decode(), count=1, salt="another")
     other.until_fenced()
-    alike = Instance(fake.addresses(), "c", revision=revision, count=1)
+    alike = Instance(fake.addresses(), "c", revision=revision, link=fake.link(int(revision)).decode(), count=1)
     alike.until_lost()
     same([None, None, "settings"], [it.lost() for it in (one, other, alike)], "losses")
     one.close()
@@ -278,16 +283,16 @@ def known_settings():
     one = Instance(fake.addresses(), "a")
     offer_all(one, fake, 1)
     revision = one.wait(100).split()[4]
-    stranger = Instance(fake.addresses(), "b", revision=revision, count=1, salt="another")
+    stranger = Instance(fake.addresses(), "b", revision=revision, link=fake.link(int(revision)).decode(), count=1, salt="another")
     stranger.until_fenced()
     fences = len(fake.entries())
-    other = Instance(fake.addresses(), "c", revision=revision, count=1, salt="another", pool=one.agreed)
+    other = Instance(fake.addresses(), "c", revision=revision, link=fake.link(int(revision)).decode(), count=1, salt="another", pool=one.agreed)
     other.offer("never")
     other.say("end")
     same("settings", other.until_lost(), "the log with other settings")
     same([], [it for it in other.lines if it.startswith(("entry ", "end "))], "what it was given")
     same(fences, len(fake.entries()), "what it wrote")
-    alike = Instance(fake.addresses(), "d", revision=revision, count=1, pool=one.agreed)
+    alike = Instance(fake.addresses(), "d", revision=revision, link=fake.link(int(revision)).decode(), count=1, pool=one.agreed)
     alike.offer("y")
     alike.say("end")
     alike.settle()
@@ -358,7 +363,7 @@ def deleted_lists():
     fake.put_from_outside(b"in/c", entry(101, "uss-x"))
     revision = fake.revision
     fake.put_from_outside(b"in/c", entry(102, "uss-x"))
-    two = Instance(fake.addresses(), "d", revision=revision, count=2, pool=one.agreed)
+    two = Instance(fake.addresses(), "d", revision=revision, link=fake.link(int(revision)).decode(), count=2, pool=one.agreed)
     for it, moments in ((one, [101, 102]), (two, [102])):
         it.say("end")
         it.settle()
@@ -444,7 +449,7 @@ def counts_behind_a_revision():
         make_changes(fake, b"in/w", "put")
         count = 4 + words.count("put") + 1 - words.count("put*")
         fake.compact(revision)
-        two = Instance(fake.addresses(), "b", revision=revision, count=4, pool=one.agreed)
+        two = Instance(fake.addresses(), "b", revision=revision, link=fake.link(int(revision)).decode(), count=4, pool=one.agreed)
         two.say("end")
         if loss:
             same(loss, two.until_lost(), f"the log after {words}")
@@ -584,7 +589,7 @@ def starts_in_the_middle():
     one.settle()
     one.until(6)
     one.close()
-    two = Instance(fake.addresses(), "b", revision=revision, count=3)
+    two = Instance(fake.addresses(), "b", revision=revision, link=fake.link(int(revision)).decode(), count=3)
     two.say("end")
     two.settle()
     two.until(3)
@@ -700,7 +705,7 @@ def lists_behind_a_revision():
     one, revision, wanted = behind_a_list(fake)
     for compacted in (0, int(revision)):
         fake.compact(compacted)
-        two = Instance(fake.addresses(), f"d{compacted}", revision=revision, count=2, pool=one.agreed)
+        two = Instance(fake.addresses(), f"d{compacted}", revision=revision, link=fake.link(int(revision)).decode(), count=2, pool=one.agreed)
         two.say("end")
         two.settle()
         same(wanted, two.moments(), "calls behind the revision")
@@ -716,7 +721,7 @@ def each_fault_of_a_list(fault):
     fake = Fake()
     one, revision, wanted = behind_a_list(fake)
     fake.plan("past", fault, fault, None, fault, fault)
-    two = Instance(fake.addresses(), "d", revision=revision, count=2, pool=one.agreed)
+    two = Instance(fake.addresses(), "d", revision=revision, link=fake.link(int(revision)).decode(), count=2, pool=one.agreed)
     two.say("end")
     two.settle()
     same(wanted, two.moments(), "calls behind the revision")
@@ -729,7 +734,7 @@ def lists_that_are_gone():
     fake = Fake()
     one, revision, _ = behind_a_list(fake)
     fake.compact(int(revision) + 1)
-    early = Instance(fake.addresses(), "d", revision=revision, count=2, pool=one.agreed)
+    early = Instance(fake.addresses(), "d", revision=revision, link=fake.link(int(revision)).decode(), count=2, pool=one.agreed)
     same("compacted", early.until_lost(), "the log of one that begins too early")
     late = Instance(fake.addresses(), "e", revision=str(fake.revision + 1_000), count=2, pool=one.agreed)
     same("shortened", late.until_lost(), "the log of one that begins too late")
@@ -755,6 +760,88 @@ def own_entries_that_do_not_count():
     same(["t0", "next"], [it[1] for it in two.until(2)], "entries")
     same(None, two.lost(), "the log of the next one")
     two.close()
+
+
+def other_link(fake, count=None):
+    """A link with the count of all changes, or another one, and a digest that none has."""
+    return link_text(len(fake.at) if count is None else count, bytes(range(32)))
+
+
+def links_that_differ():
+    """An entry whose link is not that of the changes before it is given to nobody. Its instance is reported, once a minute."""
+    fake = Fake()
+    one = Instance(fake.addresses(), "a")
+    offer_all(one, fake, 1)
+    count = len(fake.at)
+    fake.put_from_outside(b"in/b1", b"5\nfirst", link=other_link(fake))
+    fake.put_from_outside(b"in/b1", b"5\nsecond", link=other_link(fake))
+    fake.put_from_outside(b"in/c", b"5\nthird", link=other_link(fake, count + 100))
+    fake.put_from_outside(b"in/d", b"5\nfourth")
+    # the link of no changes is that of every instance
+    fake.put_from_outside(b"in/e", b"5\nfifth", link=link_text(0, FIRST))
+    for it in (one, Instance(fake.addresses(), "f")):
+        it.say("end")
+        it.settle()
+        same(["t0", "fourth", "fifth"], [it[1] for it in it.until(3)], "entries")
+        same([("differs", "b1", str(count)), ("ahead", "c", str(count + 100))], it.differences(), "differences")
+        same(None, it.lost(), "the log")
+        it.close()
+
+
+def most_differ():
+    """An instance ends once more organizations differ than agree, with its own one."""
+    for agrees, loss in ((True, None), (False, "diverged")):
+        fake = Fake()
+        one = Instance(fake.addresses(), "a1")
+        offer_all(one, fake, 1)
+        # one organization counts once, and the own one does not count
+        for name in (b"in/b", b"in/b", b"in/b1", b"in/b2", b"in/a2", b"in/a3"):
+            fake.put_from_outside(name, b"5\nwrong", link=other_link(fake))
+        if agrees:
+            fake.put_from_outside(b"in/d", b"5\nright")
+        one.say("end")
+        one.settle()
+        same(None, one.lost(), "the log while one organization differs")
+        fake.put_from_outside(b"in/c", b"5\nwrong", link=other_link(fake))
+        if loss is None:
+            one.say("end")
+            one.settle()
+            same(["t0", "right"], one.texts(), "entries")
+            one.close()
+        else:
+            same(loss, one.until_lost(), "the log while two of three differ")
+
+
+def a_fork():
+    """Two stores that were one: the instances of each see that the other ones differ, once their entries meet."""
+    fake, other = Fake(), Fake()
+    for it in (fake, other):
+        it.put_from_outside(b"in/z", b"5\ncommon")
+    other.put_from_outside(b"in/y", b"5\nonly here")
+    one = Instance(fake.addresses(), "a")
+    one.say("end")
+    one.settle()
+    fake.put_from_outside(b"in/b", b"5\nbehind the fork", link=other.link())
+    one.say("end")
+    one.settle()
+    same([["common"], [("differs", "b", "2")]], [one.texts(), one.differences()], "entries and differences")
+    one.close()
+
+
+def links_of_silent_instances():
+    """An instance that writes nothing puts a link, a minute after the entry of another one."""
+    fake = Fake()
+    one = Instance(fake.addresses(), "a")
+    one.until_fenced()
+    before = len(fake.entries())
+    one.wait(62_000)
+    same(before, len(fake.entries()), "values without an entry of another instance")
+    fake.put_from_outside(b"in/b", b"5\nx")
+    one.wait(2_000)
+    links = [it for it in fake.entries() if (found := VALUE.fullmatch(it)) and found["rest"] is None]
+    same([f"{one.number} ".encode() + fake.link(fake.at[-2])], links, "links")
+    same(["x"], one.texts(), "entries")
+    one.close()
 
 
 def tokens():
@@ -851,6 +938,7 @@ def cases(seeds=6):
         removed_beginnings, shortened_logs, tokens,
         endpoints_in_turn, long_batches, supplier_lists, lists_behind_a_revision, lists_that_are_gone, own_entries_that_do_not_count,
         lines_in_pieces, silent_watches,
+        links_that_differ, most_differ, a_fork, links_of_silent_instances,
     )}
     for words in GAPS:
         found[f"gap: {words}"] = lambda words=words: changes_left_out(words)

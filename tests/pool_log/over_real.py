@@ -4,11 +4,33 @@ import os
 import random
 import time
 import urllib.error
+import urllib.request
 
-from fake_etcd import Fake, coded
+from fake_etcd import Fake, coded, plain
 from instances import LIMIT, Instance
+from links import FIRST, link_text, next_digest, with_link
 from over_fake import BEFORE, BEHIND, GIVEN, LIST, OPEN, entry, put_all, same, texts
 from real_etcd import Cluster
+
+
+def linked(value):
+    """An entry with the link of no changes, which every instance has."""
+    return with_link(value, link_text(0, FIRST))
+
+
+def link_at(cluster, revision):
+    """The link of the changes up to that of this revision."""
+    body = {"create_request": {"key": coded(b"in/"), "range_end": coded(b"in0"), "start_revision": "1"}}
+    address = cluster.addresses().split(",")[0]
+    count, digest = 0, FIRST
+    with urllib.request.urlopen(urllib.request.Request(f"http://{address}/v3/watch", json.dumps(body).encode()), timeout=LIMIT) as lines:
+        for line in lines:
+            for event in json.loads(line)["result"].get("events", ()):
+                it = event["kv"]
+                value = None if event.get("type") == "DELETE" else plain(it.get("value", ""))
+                count, digest = count + 1, next_digest(digest, plain(it["key"]), value)
+                if int(it["mod_revision"]) >= int(revision):
+                    return link_text(count, digest).decode()
 
 
 def one_member(room):
@@ -63,8 +85,9 @@ def compaction_and_deletion(room):
     one.settle()
     one.until(5)
     revision = one.wait(100).split()[4]
+    link = link_at(cluster, revision)
     cluster.control("compaction", revision)
-    late, on_time = Instance(cluster.addresses(), "b"), Instance(cluster.addresses(), "c", revision, 5)
+    late, on_time = Instance(cluster.addresses(), "b"), Instance(cluster.addresses(), "c", revision, 5, link=link)
     same("compacted", late.until_lost(), "the log of one that begins too early")
     on_time.offer("y")
     on_time.settle()
@@ -73,7 +96,7 @@ def compaction_and_deletion(room):
     same("deleted", one.until_lost(), "the log of the process whose key was deleted")
     on_time.offer("z")
     on_time.settle()
-    again = Instance(cluster.addresses(), "a", revision, 5)
+    again = Instance(cluster.addresses(), "a", revision, 5, link=link)
     again.offer("w")
     again.settle()
     again.say("end")
@@ -94,14 +117,14 @@ def leases(room):
     one.settle()
     lease = cluster.ask(0, "/v3/lease/grant", {"TTL": "1"})["ID"]
     for value in (b"5\ny", b"5\nz"):
-        cluster.ask(0, "/v3/kv/put", {"key": coded(b"in/z"), "value": coded(value), "lease": lease})
+        cluster.ask(0, "/v3/kv/put", {"key": coded(b"in/z"), "value": coded(linked(value)), "lease": lease})
     one.until(3)
     revision = one.wait(100).split()[4]
     end = time.monotonic() + LIMIT
     while cluster.ask(0, "/v3/kv/range", {"key": coded(b"in/z")}).get("kvs") and time.monotonic() < end:
         time.sleep(0.2)
-    cluster.ask(0, "/v3/kv/put", {"key": coded(b"in/z"), "value": coded(b"5\nw")})
-    two = Instance(cluster.addresses(), "b", revision, 3)
+    cluster.ask(0, "/v3/kv/put", {"key": coded(b"in/z"), "value": coded(with_link(b"5\nw", link_at(cluster, revision).encode()))})
+    two = Instance(cluster.addresses(), "b", revision, 3, link=link_at(cluster, revision))
     for it, entries in ((one, ["x", "y", "z", "w"]), (two, ["w"])):
         it.say("end")
         it.settle()
@@ -177,7 +200,8 @@ def other_settings(room):
 def supplier_lists(room):
     """A list counts from its place on, for one that reads the log from its beginning and for one that starts behind a revision."""
     cluster = Cluster(room)
-    put = lambda key, value: cluster.ask(0, "/v3/kv/put", {"key": coded(key), "value": coded(value)})
+    link = link_text(0, FIRST)
+    put = lambda key, value: cluster.ask(0, "/v3/kv/put", {"key": coded(key), "value": coded(with_link(value, link))})
     one = Instance(cluster.addresses(), "a")
     one.offer("x")
     one.settle()
@@ -186,6 +210,7 @@ def supplier_lists(room):
     put(b"in/c", b"5\ny")
     one.until(4)
     revision = one.wait(100).split()[4]
+    link = link_at(cluster, revision).encode()
     later = put_all(put, BEHIND)
     put(LIST, b"")
     put(b"in/c", entry(300, "uss-x"))
@@ -198,7 +223,7 @@ def supplier_lists(room):
         same(moments, it.moments(), f"calls that {it.name} was given")
         same([end], [line for line in it.lines if line.startswith("end ")], "ends")
     cluster.control("compaction", revision)
-    three = Instance(cluster.addresses(), "c", revision=revision, count=4, pool=one.agreed)
+    three = Instance(cluster.addresses(), "c", revision=revision, count=4, pool=one.agreed, link=link.decode())
     three.say("end")
     three.settle()
     same(later, three.moments(), "calls behind the revision")
@@ -211,7 +236,7 @@ def supplier_lists(room):
 def ranges_of_the_fake(room):
     """The fake answers ranges at a revision as etcd does."""
     cluster, fake = Cluster(room), Fake()
-    for key, value in ((LIST, b"a uss-a\n"), (b"in/a", b"5\nx"), (LIST, b""), (LIST, GIVEN), (b"in/a", b"5\ny")):
+    for key, value in ((LIST, b"a uss-a\n"), (b"in/a", b"x"), (LIST, b""), (LIST, GIVEN), (b"in/a", b"y")):
         cluster.ask(0, "/v3/kv/put", {"key": coded(key), "value": coded(value)})
         fake.put_from_outside(key, value)
 

@@ -1,8 +1,11 @@
 //! The connections to etcd.
 use mio::Registry;
 use pool_core::log_io::{LogIo, LogStatus};
+use pool_etcd::differences::Difference;
 use pool_etcd::etcd_fault::{EndpointFault, EtcdFault};
 use pool_etcd::etcd_log::EtcdLog;
+use std::alloc::AllocError;
+use std::str;
 use std::time::Duration;
 
 // A fault of one kind at one address is printed once in this many seconds.
@@ -74,12 +77,37 @@ impl<'a> EtcdIo<'a> {
     }
 }
 
+// Prints a link of another instance that differs from the own chain, on a line. A failed print is
+// ignored.
+fn print_difference(rt: &HostRuntime, difference: &Difference) -> Result<(), AllocError> {
+    let name = str::from_utf8(difference.name()).unwrap_or("?");
+    let count = difference.link.count;
+    let Some(own) = &difference.own else {
+        let _ = eprintln!(rt; "dss: pool: {name} is ahead: it has {count} changes, here are fewer");
+        return Ok(());
+    };
+    let theirs = hex::encode(rt.alloc(), difference.link.digest.as_slice())?;
+    let own = hex::encode(rt.alloc(), own.as_slice())?;
+    let (theirs, own) = (theirs.as_str(), own.as_str());
+    let _ = eprintln!(rt; "dss: pool: {name} differs after {count} changes: {theirs}, here {own}");
+    Ok(())
+}
+
 impl<'a> LogIo<EtcdLog> for EtcdIo<'a> {
     fn advance_log(&mut self, log: &mut EtcdLog, now: Duration) -> Duration {
         let patience = log.advance(self.rt, &self.registry, now);
         // one of the requests, and one of the watch
         self.report(log.take_fault(), now);
         self.report(log.take_fault(), now);
+        // at most one for each key and minute
+        for _ in 0..u64::MAX {
+            match log.take_difference() {
+                Some(difference) => {
+                    let _ = print_difference(self.rt, &difference);
+                }
+                None => break,
+            }
+        }
         patience
     }
 

@@ -1,6 +1,7 @@
 //! The command `follow`: does the acts of a pool's log over a copy of the newest file, which
 //! becomes the next file.
 use crate::cause::Cause;
+use crate::chain_file::{chain_of, write_chain};
 use crate::etcd_io::EtcdIo;
 use crate::etcd_waiting::EtcdWaiting;
 use crate::new_database::make_database;
@@ -21,8 +22,7 @@ use std::io::Write;
 // drop the fences of processes that found nothing to do.
 const IDLE_CHANGES: u64 = 1_000;
 
-// Does the calls and purges of the log over the next database, and closes it. Returns the revision of the
-// last change, and the number of entries that came.
+// Does the calls and purges of the log over the next database, and closes it. Returns the log.
 fn make_calls<F: Start>(
     rt: &HostRuntime,
     path: &str,
@@ -30,7 +30,7 @@ fn make_calls<F: Start>(
     salt: Salt,
     log: EtcdLog,
     cause: &mut Cause,
-) -> Result<(u64, u64), Fault> {
+) -> Result<EtcdLog, Fault> {
     let (poll, registry) = new_poll(rt)?;
     let mut waiting = match EtcdWaiting::new(rt, poll) {
         Ok(waiting) => waiting,
@@ -39,7 +39,7 @@ fn make_calls<F: Start>(
     let mut io = EtcdIo::new(rt, registry);
     let (done, log) = follow_log(rt, path, start, salt, log, &mut io, &mut waiting);
     match done {
-        Ok(_files) => Ok(log.position()),
+        Ok(_files) => Ok(log),
         Err(failure) => {
             // Drops the files first, as the command `serve` does.
             let fault = Fault::from(failure);
@@ -49,7 +49,7 @@ fn make_calls<F: Start>(
     }
 }
 
-// Follows the log behind the newest file. Returns the revision and the count, as `make_calls`.
+// Follows the log behind the newest file. Returns the log.
 fn follow_behind<F: Start>(
     rt: &HostRuntime,
     files: PoolFiles<'_>,
@@ -58,7 +58,7 @@ fn follow_behind<F: Start>(
     salt: Salt,
     log: EtcdLog,
     cause: &mut Cause,
-) -> Result<(u64, u64), Fault> {
+) -> Result<EtcdLog, Fault> {
     let Ok(path) = files.next() else {
         return Err(Fault::Memory);
     };
@@ -69,14 +69,16 @@ fn follow_behind<F: Start>(
     make_calls(rt, path.as_str(), start, salt, log, cause)
 }
 
-// Gives the next database its name if entries came, or many changes, or there was no file. Returns
-// the name of the newest file.
+// Gives the next database and its chain their names if entries came, or many changes, or there was
+// no file. Returns the name of the newest file.
 fn put_next(
+    rt: &HostRuntime,
     files: PoolFiles<'_>,
     newest: Option<FileName>,
     made: FileName,
-    count: u64,
+    log: &EtcdLog,
 ) -> io::Result<FileName> {
+    let (_, count) = log.position();
     if let Some(newest) = newest
         && count == 0
         && made.revision.saturating_sub(newest.revision) < IDLE_CHANGES
@@ -84,6 +86,7 @@ fn put_next(
         files.clear()?;
         return Ok(newest);
     }
+    write_chain(rt, files, made, log.chain())?;
     files.put(made)?;
     files.keep_two()?;
     Ok(made)
@@ -111,23 +114,25 @@ pub(crate) fn follow<F: Start, W: Write, E: Write>(
         endpoints: given.endpoints.as_slice(),
         name: given.name,
         etcd_user: given.etcd_user,
+        chain: chain_of(rt, Some(given.files), newest, cause)?,
         file: newest,
         agreed: settings,
     };
     let log = open_log(rt, log_args, cause)?;
-    let (revision, count) = match follow_behind(rt, files, newest, start, salt, log, cause) {
-        Ok(position) => position,
+    let log = match follow_behind(rt, files, newest, start, salt, log, cause) {
+        Ok(log) => log,
         Err(fault) => {
             let _ = files.clear();
             return Err(fault);
         }
     };
+    let (revision, _) = log.position();
     let made = FileName {
         revision,
         settings,
         beginning,
     };
-    let name = match put_next(files, newest, made, count) {
+    let name = match put_next(rt, files, newest, made, &log) {
         Ok(name) => name,
         Err(error) => return Err(files.fault(&error, cause)),
     };

@@ -5,6 +5,7 @@ mod backup;
 mod backups;
 mod begin;
 mod cause;
+mod chain_file;
 mod change_time;
 mod clock;
 mod clock_file;

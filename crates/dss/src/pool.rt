@@ -1,5 +1,6 @@
 //! The command `serve --pool`: an instance of a pool whose log is in etcd.
 use crate::cause::Cause;
+use crate::chain_file::chain_of;
 use crate::clock::SystemClock;
 use crate::etcd_io::EtcdIo;
 use crate::log_file::SystemLog;
@@ -109,6 +110,7 @@ fn begin<'a, F: Start>(
         endpoints: given.endpoints.as_slice(),
         name: given.name,
         etcd_user: given.etcd_user,
+        chain: chain_of(rt, given.files, newest, cause)?,
         file: newest,
         agreed: settings_of(rt, tokens, beginning_of(newest))?,
     };

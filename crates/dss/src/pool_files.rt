@@ -17,6 +17,9 @@ use std::{fs, io};
 // The name of the database that is not complete yet.
 const NEXT: &str = "next.db";
 
+// The name of a chain that is not complete yet.
+const NEXT_CHAIN: &str = "next.chain";
+
 // The name of the file that is locked while another one is written.
 const LOCK: &str = "lock";
 
@@ -72,6 +75,16 @@ impl FileName {
             beginning,
         } = self;
         format!(in alloc; "{revision:020}-{settings:020}-{beginning:020}.db")
+    }
+
+    // Returns the name of the chain of the file as a text.
+    fn chain_text(self, alloc: Global) -> Result<String, AllocError> {
+        let FileName {
+            revision,
+            settings,
+            beginning,
+        } = self;
+        format!(in alloc; "{revision:020}-{settings:020}-{beginning:020}.chain")
     }
 }
 
@@ -168,6 +181,33 @@ impl<'a> PoolFiles<'a> {
         self.path(text.as_str())
     }
 
+    // Returns the path of the chain of the file of that name.
+    fn chain_path_of(&self, name: FileName) -> Result<String, AllocError> {
+        let text = name.chain_text(self.rt.alloc())?;
+        self.path(text.as_str())
+    }
+
+    /// Makes a file with these bytes for a chain, after the system has stored it, and gives it the
+    /// name of the chain of that file.
+    pub(crate) fn put_chain(&self, name: FileName, text: &[u8]) -> io::Result<()> {
+        let (next, path) = (self.path(NEXT_CHAIN)?, self.chain_path_of(name)?);
+        remove(self.rt, next.as_str())?;
+        let mut file = OpenOptions::new()
+            .write(true)
+            .create_new(true)
+            .mode(NO_OTHERS)
+            .open(self.rt, next.as_str())?;
+        file.write_all(text)?;
+        file.sync_all()?;
+        fs::rename(self.rt, next.as_str(), path.as_str())
+    }
+
+    /// Returns the text of the chain of the file of that name.
+    pub(crate) fn chain(&self, name: FileName) -> io::Result<String> {
+        let path = self.chain_path_of(name)?;
+        fs::read_to_string(self.rt, path.as_str())
+    }
+
     /// Returns the path of the database that is not complete yet.
     pub(crate) fn next(&self) -> Result<String, AllocError> {
         self.path(NEXT)
@@ -248,9 +288,10 @@ impl<'a> PoolFiles<'a> {
         Ok(())
     }
 
-    /// Removes the database that is not complete, if there is one.
+    /// Removes the database and the chain that are not complete, if there are any.
     pub(crate) fn clear(&self) -> io::Result<()> {
-        let next = self.next()?;
+        let (next, chain) = (self.next()?, self.path(NEXT_CHAIN)?);
+        remove(self.rt, chain.as_str())?;
         self.remove_database(next.as_str())
     }
 
@@ -317,6 +358,8 @@ impl<'a> PoolFiles<'a> {
             if name.revision < least {
                 let path = self.path_of(*name)?;
                 self.remove_database(path.as_str())?;
+                let chain = self.chain_path_of(*name)?;
+                remove(self.rt, chain.as_str())?;
             }
         }
         Ok(())

@@ -6,6 +6,7 @@ use crate::sockets::{LOG_REQUESTS, LOG_WATCH};
 use dss_command::fault::{Fault, io_fault};
 use dss_command::pool_fault::PoolFault;
 use mio::{Poll, Registry};
+use pool_chain::chain::Chain;
 use pool_etcd::etcd_fault::Loss;
 use pool_etcd::etcd_log::EtcdLog;
 use pool_etcd::settings::{EtcdSettings, POLICY, User, settings_number};
@@ -24,6 +25,8 @@ fn fault_of(loss: Loss) -> Fault {
         Loss::Shortened => PoolFault::Shortened,
         Loss::Settings => PoolFault::Settings,
         Loss::Suppliers => PoolFault::Suppliers,
+        Loss::Unlinked => PoolFault::Unlinked,
+        Loss::Diverged => PoolFault::Diverged,
         Loss::Unmade => PoolFault::Unmade,
     })
 }
@@ -60,7 +63,7 @@ pub(crate) fn settings_of(
 }
 
 /// The arguments of a command that opens the log of a pool.
-#[derive(Clone, Copy)]
+#[derive(Drop)]
 pub(crate) struct LogArgs<'a> {
     /// The addresses of etcd.
     pub(crate) endpoints: &'a [SocketAddr],
@@ -70,6 +73,8 @@ pub(crate) struct LogArgs<'a> {
     pub(crate) etcd_user: Option<&'a str>,
     /// The file behind whose revision the log begins, if there is one.
     pub(crate) file: Option<FileName>,
+    /// The chain over the changes up to there.
+    pub(crate) chain: Chain,
     /// The number of the own settings.
     pub(crate) agreed: u64,
 }
@@ -109,6 +114,7 @@ fn new_log(
         number,
         revision,
         count: 0,
+        chain: given.chain,
         agreed: given.agreed,
         pool,
     };

@@ -77,6 +77,7 @@ line_of fault.Memory = codes "dss: memory"
 -- its own.
 abbrev pub fault_status_of : Fault → ℕ
 fault_status_of (fault.Pool pool.Shortened) = 3
+fault_status_of (fault.Pool pool.Diverged) = 3
 fault_status_of why = 1
 
 -- The exit status of a command with this result.

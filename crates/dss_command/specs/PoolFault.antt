@@ -1,7 +1,7 @@
 -- The texts of faults of an instance of a pool.
 use Rattle.std.specs.Prelude.{ℕ, List, codes}
 use Rattle.dss_command.specs.declared.pool_fault.PoolFault.{PoolFault}
-use Rattle.dss_command.specs.declared.pool_fault.PoolFault.TheVariants.{Compacted, Deleted, Ended, Files, FilesBusy, HasFile, NoAirspace, NoFile, NoRandom, Replaced, Settings, Shortened, Silent, Suppliers, Unmade, UserInvalid, UserUnread}
+use Rattle.dss_command.specs.declared.pool_fault.PoolFault.TheVariants.{Compacted, Deleted, Diverged, Ended, Files, FilesBusy, HasFile, NoAirspace, NoChain, NoFile, NoRandom, Replaced, Settings, Shortened, Silent, Suppliers, Unlinked, Unmade, UserInvalid, UserUnread}
 
 -- What is wrong and what to do, as it is printed.
 abbrev pub text_of : PoolFault → List ℕ
@@ -22,6 +22,11 @@ text_of Settings =
 text_of Suppliers =
     codes
     "suppliers: the list forbids a USS of an own entry; change --tokens, or add it to the list"
+text_of Unlinked =
+    codes "unlinked: an own entry came too many changes after it was offered; start it again"
+text_of Diverged =
+    codes
+    "diverged: most organizations were given other changes; stop the instance, and compare the members of etcd"
 text_of Unmade =
     codes
     "unmade: a batch of changes was not stored in time, and never will be; start it again"
@@ -34,6 +39,9 @@ text_of NoFile =
     "files: the directory has no file REVISION-SETTINGS-BEGINNING.db; run dss follow or dss begin"
 text_of NoAirspace =
     codes "files: the newest file is gone, or has no airspace; move it away, and start again"
+text_of NoChain =
+    codes
+    "files: the chain of the newest file is gone or damaged; copy the file and its chain again"
 text_of HasFile =
     codes
     "files: the directory has a file of a pool; move its files away, or give another directory"

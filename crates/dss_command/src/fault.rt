@@ -194,6 +194,7 @@ fn fault_status(fault: &Fault) -> u8
 {
     match fault {
         Fault::Pool(PoolFault::Shortened) => DATA_LOST,
+        Fault::Pool(PoolFault::Diverged) => DATA_LOST,
         _ => 1,
     }
 }

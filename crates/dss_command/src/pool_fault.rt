@@ -23,6 +23,10 @@ pub enum PoolFault {
     Settings,
     /// The supplier list of the pool forbids a USS of an entry that this instance wrote.
     Suppliers,
+    /// An entry of this instance was stored too many changes behind its link.
+    Unlinked,
+    /// More organizations were given other changes of the log than the same ones.
+    Diverged,
     /// A batch of changes of this instance was not stored in time, and never will be.
     Unmade,
     /// No member of etcd has said anything of the log for too long.
@@ -33,6 +37,8 @@ pub enum PoolFault {
     NoFile,
     /// The newest file of the pool is gone, or has no airspace.
     NoAirspace,
+    /// The chain of the newest file of the pool is gone, or is no chain.
+    NoChain,
     /// The directory for the first file of a pool has a file of a pool.
     HasFile,
     /// Another process writes to the directory of the pool's files.
@@ -74,6 +80,13 @@ impl PoolFault {
                 "suppliers: the list forbids a USS of an own entry; \
                  change --tokens, or add it to the list"
             }
+            PoolFault::Unlinked => {
+                "unlinked: an own entry came too many changes after it was offered; start it again"
+            }
+            PoolFault::Diverged => {
+                "diverged: most organizations were given other changes; \
+                 stop the instance, and compare the members of etcd"
+            }
             PoolFault::Unmade => {
                 "unmade: a batch of changes was not stored in time, and never will be; \
                  start it again"
@@ -92,6 +105,10 @@ impl PoolFault {
             PoolFault::NoAirspace => {
                 "files: the newest file is gone, or has no airspace; \
                  move it away, and start again"
+            }
+            PoolFault::NoChain => {
+                "files: the chain of the newest file is gone or damaged; \
+                 copy the file and its chain again"
             }
             PoolFault::HasFile => {
                 "files: the directory has a file of a pool; \

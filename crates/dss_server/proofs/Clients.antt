@@ -7,7 +7,7 @@ use Rattle.std.proofs.lemmas.List.{append-nil}
 use Rattle.std.proofs.lemmas.List.Concat.{flat_map-append}
 use Rattle.slab.specs.Slab.{Slab, Updates, get, with_value}
 use Rattle.slab.proofs.SlabLemmas.{Updates-with_value}
-use Rattle.wire_http.specs.Turns.{set_at}
+use Rattle.wire_http.specs.SetAt.{set_at}
 use Rattle.server_base.specs.History.{Extends, HistoryEvent}
 use Rattle.server_base.proofs.Histories.{extends_none, extends_same, extends_then}
 use Rattle.server_client.specs.declared.client_connection.ClientConnection.{ClientConnection}

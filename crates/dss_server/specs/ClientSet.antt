@@ -2,7 +2,7 @@
 use Rattle.std.specs.Prelude.{◌≡◌, ◌⊎◌, ◌<◌, ◌≤◌, ℕ, Bool, true, false, List, [], ◌∷◌, Option, Some, None, option_map}
 use Rattle.std.specs.List.{flat_map}
 use Rattle.slab.specs.Slab.{Slab, get}
-use Rattle.wire_http.specs.Turns.{set_at}
+use Rattle.wire_http.specs.SetAt.{set_at}
 use Rattle.server_base.specs.History.{Accepted, Extends, HistoryEvent}
 use Rattle.server_client.specs.declared.client_connection.ClientConnection.{ClientConnection}
 use Rattle.server_client.specs.declared.commit_record.CommitRecord.{CommitRecord}

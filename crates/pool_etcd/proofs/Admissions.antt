@@ -10,9 +10,10 @@ use Rattle.pool_entry.specs.Suppliers.{CallersAreSuppliers, suppliers_in}
 use Rattle.pool_etcd.specs.declared.following.Following.{Following}
 use Rattle.pool_etcd.specs.declared.log_value.LogEntry.{LogEntry}
 use Rattle.pool_etcd.specs.declared.log_value.LogValue.{LogValue}
-use Rattle.pool_etcd.specs.declared.log_value.LogValue.TheVariants.{Entry, Fence, Suppliers, Other}
+use Rattle.pool_etcd.specs.declared.log_value.LogValue.TheVariants.{Entry, Link, Fence, Suppliers, Other}
 use Rattle.pool_etcd.specs.Admitted.{AdmittedCallsAreAssigned, StandsUnder, WithoutListAllAreAdmitted, entries_in, list_after, refused_in}
-use Rattle.pool_etcd.specs.Following.{HasRefusal, has_writer}
+use Rattle.pool_etcd.specs.Following.{HasRefusal}
+use Rattle.pool_etcd.specs.LineLinks.{has_writer}
 use Rattle.pool_etcd.specs.Suppliers.{admits, is_admitted}
 
 -- ---- the lists of values in two parts
@@ -21,6 +22,7 @@ use Rattle.pool_etcd.specs.Suppliers.{admits, is_admitted}
 pub list_of_both : (list : List ℕ) (vs ws : List LogValue) → list_after list (vs ++ ws) ≡ list_after (list_after list vs) ws
 list_of_both list [] ws = refl
 list_of_both list (Entry e ∷ vs) ws = list_of_both list vs ws
+list_of_both list (Link l ∷ vs) ws = list_of_both list vs ws
 list_of_both list (Fence n ∷ vs) ws = list_of_both list vs ws
 list_of_both list (Suppliers next ∷ vs) ws = list_of_both next vs ws
 list_of_both list (Other ∷ vs) ws = list_of_both list vs ws
@@ -32,6 +34,7 @@ behind xs ys ys' zs e = ap (λ (es : List LogEntry). xs ++ es) e ∙ sym (append
 pub entries_of_both : (list : List ℕ) (vs ws : List LogValue) → entries_in list (vs ++ ws) ≡ entries_in list vs ++ entries_in (list_after list vs) ws
 entries_of_both list [] ws = refl
 entries_of_both list (Entry e ∷ vs) ws = behind _ _ (entries_in list vs) _ (entries_of_both list vs ws)
+entries_of_both list (Link l ∷ vs) ws = entries_of_both list vs ws
 entries_of_both list (Fence n ∷ vs) ws = entries_of_both list vs ws
 entries_of_both list (Suppliers next ∷ vs) ws = entries_of_both next vs ws
 entries_of_both list (Other ∷ vs) ws = entries_of_both list vs ws
@@ -39,6 +42,7 @@ entries_of_both list (Other ∷ vs) ws = entries_of_both list vs ws
 pub refused_of_both : (list : List ℕ) (vs ws : List LogValue) → refused_in list (vs ++ ws) ≡ refused_in list vs ++ refused_in (list_after list vs) ws
 refused_of_both list [] ws = refl
 refused_of_both list (Entry e ∷ vs) ws = behind _ _ (refused_in list vs) _ (refused_of_both list vs ws)
+refused_of_both list (Link l ∷ vs) ws = refused_of_both list vs ws
 refused_of_both list (Fence n ∷ vs) ws = refused_of_both list vs ws
 refused_of_both list (Suppliers next ∷ vs) ws = refused_of_both next vs ws
 refused_of_both list (Other ∷ vs) ws = refused_of_both list vs ws
@@ -64,19 +68,24 @@ entry_refused list e is = (
 
 -- ---- entries of the own process
 
--- An entry of the writer is found.
-pub refusal_of : (f : Following) (values : List LogValue) → has_writer f.writer (refused_in f.suppliers values) ≡ true → HasRefusal f values
-refusal_of f values is =
-    let any = Any-from_list_any _ (refused_in f.suppliers values) is in
+-- An entry of the writer is found, or none is.
+pub own_of : (writer : ℕ) (entries : List LogEntry) → has_writer writer entries ≡ true → (e : LogEntry) × Contains entries e × (e.writer ≡ writer)
+own_of writer entries is =
+    let any = Any-from_list_any _ entries is in
     (any.1, (any.0, any.2, any.3), eqb-true _ _ any.4)
 
--- No entry of the writer is found.
+pub no_own : (writer : ℕ) (entries : List LogEntry) → has_writer writer entries ≡ false → ((e : LogEntry) × Contains entries e × (e.writer ≡ writer)) → ⊥
+no_own writer entries is found =
+    let e = found.0 in
+    let place = found.1 in
+    let own = subst (λ (x : LogEntry). x.writer ≡ writer) (sym place.2) found.2 in
+    both_ways _ is (list_any_at _ entries place.0 e place.1 (eq-eqb _ _ own))
+
+pub refusal_of : (f : Following) (values : List LogValue) → has_writer f.writer (refused_in f.suppliers values) ≡ true → HasRefusal f values
+refusal_of f values is = own_of f.writer (refused_in f.suppliers values) is
+
 pub no_refusal : (f : Following) (values : List LogValue) → has_writer f.writer (refused_in f.suppliers values) ≡ false → HasRefusal f values → ⊥
-no_refusal f values is refusal =
-    let e = refusal.0 in
-    let place = refusal.1 in
-    let own = subst (λ (x : LogEntry). x.writer ≡ f.writer) (sym place.2) refusal.2 in
-    both_ways _ is (list_any_at _ (refused_in f.suppliers values) place.0 e place.1 (eq-eqb _ _ own))
+no_refusal f values is refusal = no_own f.writer (refused_in f.suppliers values) is refusal
 
 -- ---- laws
 
@@ -129,6 +138,7 @@ first_or_later list f vs e stands (inr later) = one_before list list (Entry f) v
 stands_admitted : (list : List ℕ) (values : List LogValue) (e : LogEntry) → Contains (entries_in list values) e → StandsAdmitted list values e
 stands_admitted list [] e among = absurd (none_in_nil e among)
 stands_admitted list (Entry f ∷ vs) e among = first_or_later list f vs e (stands_admitted list vs e) (Contains-append_cases _ (entries_in list vs) e among)
+stands_admitted list (Link l ∷ vs) e among = one_before list list (Link l) vs e (λ before. refl) (stands_admitted list vs e among)
 stands_admitted list (Fence n ∷ vs) e among = one_before list list (Fence n) vs e (λ before. refl) (stands_admitted list vs e among)
 stands_admitted list (Suppliers next ∷ vs) e among = one_before list next (Suppliers next) vs e (λ before. refl) (stands_admitted next vs e among)
 stands_admitted list (Other ∷ vs) e among = one_before list list Other vs e (λ before. refl) (stands_admitted list vs e among)
@@ -163,6 +173,7 @@ without_list_all_are_admitted [] none = refl
 without_list_all_are_admitted (Entry e ∷ vs) none =
     ap (λ (b : Bool). cond b (e ∷ []) [] ++ entries_in [] vs) (empty_admits e)
     ∙ ap (λ (es : List LogEntry). e ∷ es) (without_list_all_are_admitted vs (rest_has_none (Entry e) vs none))
+without_list_all_are_admitted (Link l ∷ vs) none = without_list_all_are_admitted vs (rest_has_none (Link l) vs none)
 without_list_all_are_admitted (Fence n ∷ vs) none = without_list_all_are_admitted vs (rest_has_none (Fence n) vs none)
 without_list_all_are_admitted (Suppliers list ∷ vs) none = let low : 0 < length (Suppliers list ∷ vs) = omega arith in absurd (none list (0, low, refl))
 without_list_all_are_admitted (Other ∷ vs) none = without_list_all_are_admitted vs (rest_has_none Other vs none)

@@ -1,12 +1,17 @@
 pub mod Admissions
+pub mod Comparing
 pub mod Countings
 pub mod Fences
 pub mod FirstLines
 pub mod Followings
 pub mod Fronts
+pub mod Judgings
+pub mod LinkTexts
+pub mod Linkings
 pub mod ListLines
 pub mod Lives
 pub mod Numbers
 pub mod OneKeys
 pub mod OwnFences
 pub mod Values
+pub mod Words

@@ -1,44 +1,70 @@
 -- Lemmas: the value of a key is read in one way, and the first fence of many lines.
 use Rattle.std.proofs.Common.{◌≡◌, ℕ, List, [], ◌∷◌, ◌++◌, Option, Some, None, refl, sym, ◌∙◌, ap, subst}
 use Rattle.std.specs.Prelude.{flat_map}
+use Rattle.pool_chain.specs.declared.link.Link.{Link as Linking}
 use Rattle.pool_etcd.specs.declared.following.Following.{Following}
 use Rattle.pool_etcd.specs.declared.log_value.LogEntry.{LogEntry}
+use Rattle.pool_etcd.specs.declared.log_value.LogLink.{LogLink}
 use Rattle.pool_etcd.specs.declared.log_value.LogValue.{LogValue}
-use Rattle.pool_etcd.specs.declared.log_value.LogValue.TheVariants.{Entry, Fence, Suppliers, Other}
+use Rattle.pool_etcd.specs.declared.log_value.LogValue.TheVariants.{Entry, Link, Fence, Suppliers, Other}
 use Rattle.pool_etcd.specs.declared.watch_line.Change.{Change}
 use Rattle.pool_etcd.specs.declared.watch_line.Change.TheVariants.{Put, Deleted}
 use Rattle.pool_etcd.specs.declared.counts.KeyCount.{KeyCount}
 use Rattle.pool_etcd.specs.Counts.{AreNext, count_of}
 use Rattle.pool_etcd.specs.Following.{Agrees, ChangesAreNext, FirstFenceDecides, KnownSettingsDecide, HasValue, HasValues, ReceivesLines, pool_after}
-use Rattle.pool_etcd.specs.Value.{IsEntryAt, OneValue}
+use Rattle.pool_etcd.specs.Value.{IsEntryAt, IsLinkAt, OneValue}
 use Rattle.pool_etcd.specs.Writer.{writer_of}
 use Rattle.pool_etcd.proofs.Countings.{next_lines}
-use Rattle.pool_etcd.proofs.FirstLines.{fence_is_no_entry, one_entry, one_fence}
+use Rattle.pool_etcd.proofs.FirstLines.{fence_is_no_entry, link_is_no_entry, one_entry, one_fence}
 use Rattle.pool_etcd.proofs.Followings.{fence_of_both}
+use Rattle.pool_etcd.proofs.LinkTexts.{fence_is_no_link, one_value_link}
 
 one_entry_at : (key value : List ℕ) (e f : LogEntry) → IsEntryAt key value e → IsEntryAt key value f → e ≡ f
 one_entry_at key value e f a b =
-    let same = one_entry value a.1.0 b.1.0 e.bytes f.bytes a.1.1 b.1.1 in
+    let same = one_entry value a.1.0 b.1.0 e.link f.link e.bytes f.bytes a.1.1 b.1.1 in
     let writer : e.writer ≡ f.writer = a.1.2 ∙ ap (λ (n : ℕ). writer_of key n) same.0 ∙ sym b.1.2 in
     let keys : e.key ≡ f.key = a.0 ∙ sym b.0 in
-    let bytes : e.bytes ≡ f.bytes = same.1 in
-    ap (λ (w : ℕ). record e { writer = w }) writer ∙ ap (λ (k : List ℕ). record e { writer = f.writer; key = k }) keys ∙ ap (λ (b : List ℕ). record f { bytes = b }) bytes
+    let links : e.link ≡ f.link = same.1 in
+    let bytes : e.bytes ≡ f.bytes = same.2 in
+    ap (λ (w : ℕ). record e { writer = w }) writer
+    ∙ ap (λ (k : List ℕ). record e { writer = f.writer; key = k }) keys
+    ∙ ap (λ (l : Linking). record e { writer = f.writer; key = f.key; link = l }) links
+    ∙ ap (λ (b : List ℕ). record f { bytes = b }) bytes
+
+one_link_at : (key value : List ℕ) (l m : LogLink) → IsLinkAt key value l → IsLinkAt key value m → l ≡ m
+one_link_at key value l m a b =
+    let same = one_value_link value a.1.0 b.1.0 l.link m.link a.1.1 b.1.1 in
+    let writer : l.writer ≡ m.writer = a.1.2 ∙ ap (λ (n : ℕ). writer_of key n) same.0 ∙ sym b.1.2 in
+    let keys : l.key ≡ m.key = a.0 ∙ sym b.0 in
+    let links : l.link ≡ m.link = same.1 in
+    ap (λ (w : ℕ). record l { writer = w }) writer
+    ∙ ap (λ (k : List ℕ). record l { writer = m.writer; key = k }) keys
+    ∙ ap (λ (x : Linking). record m { link = x }) links
 
 pub one_value : OneValue
 one_value key value (Entry e) (Entry f) a b = ap (λ (x : LogEntry). Entry x) (one_entry_at key value e f a.1 b.1)
-one_value key value (Entry e) (Fence n) a b = absurd (fence_is_no_entry value n b.1 a.1.1.0 e.bytes a.1.1.1)
+one_value key value (Entry e) (Link l) a b = absurd (link_is_no_entry value b.1.1.0 l.link b.1.1.1 a.1.1.0 e.link e.bytes a.1.1.1)
+one_value key value (Entry e) (Fence n) a b = absurd (fence_is_no_entry value n b.1 a.1.1.0 e.link e.bytes a.1.1.1)
 one_value key value (Entry e) (Suppliers l) a b = absurd (a.0 b.0)
-one_value key value (Entry e) Other a b = absurd (b.1 a.1.1.0 e.bytes a.1.1.1)
-one_value key value (Fence m) (Entry f) a b = absurd (fence_is_no_entry value m a.1 b.1.1.0 f.bytes b.1.1.1)
+one_value key value (Entry e) Other a b = absurd (b.1 a.1.1.0 e.link e.bytes a.1.1.1)
+one_value key value (Link l) (Entry f) a b = absurd (link_is_no_entry value a.1.1.0 l.link a.1.1.1 b.1.1.0 f.link f.bytes b.1.1.1)
+one_value key value (Link l) (Link m) a b = ap (λ (x : LogLink). Link x) (one_link_at key value l m a.1 b.1)
+one_value key value (Link l) (Fence n) a b = absurd (fence_is_no_link value n b.1 a.1.1.0 l.link a.1.1.1)
+one_value key value (Link l) (Suppliers m) a b = absurd (a.0 b.0)
+one_value key value (Link l) Other a b = absurd (b.2 a.1.1.0 l.link a.1.1.1)
+one_value key value (Fence m) (Entry f) a b = absurd (fence_is_no_entry value m a.1 b.1.1.0 f.link f.bytes b.1.1.1)
+one_value key value (Fence m) (Link l) a b = absurd (fence_is_no_link value m a.1 b.1.1.0 l.link b.1.1.1)
 one_value key value (Fence m) (Fence n) a b = ap (λ (x : ℕ). Fence x) (one_fence value m n a.1 b.1)
 one_value key value (Fence m) (Suppliers l) a b = absurd (a.0 b.0)
-one_value key value (Fence m) Other a b = absurd (b.2 m a.1)
+one_value key value (Fence m) Other a b = absurd (b.3 m a.1)
 one_value key value (Suppliers l) (Entry f) a b = absurd (b.0 a.0)
+one_value key value (Suppliers l) (Link m) a b = absurd (b.0 a.0)
 one_value key value (Suppliers l) (Fence n) a b = absurd (b.0 a.0)
 one_value key value (Suppliers l) (Suppliers m) a b = ap (λ (x : List ℕ). Suppliers x) (a.1 ∙ sym b.1)
 one_value key value (Suppliers l) Other a b = absurd (b.0 a.0)
-one_value key value Other (Entry f) a b = absurd (a.1 b.1.1.0 f.bytes b.1.1.1)
-one_value key value Other (Fence n) a b = absurd (a.2 n b.1)
+one_value key value Other (Entry f) a b = absurd (a.1 b.1.1.0 f.link f.bytes b.1.1.1)
+one_value key value Other (Link l) a b = absurd (a.2 b.1.1.0 l.link b.1.1.1)
+one_value key value Other (Fence n) a b = absurd (a.3 n b.1)
 one_value key value Other (Suppliers l) a b = absurd (a.0 b.0)
 one_value key value Other Other a b = refl
 

@@ -6,13 +6,14 @@ use Rattle.pool_core.specs.Acts.{Makes}
 use Rattle.pool_entry.specs.Acts.{acts_of}
 use Rattle.pool_etcd.specs.declared.log_value.LogEntry.{LogEntry}
 use Rattle.pool_etcd.specs.declared.log_value.LogValue.{LogValue}
-use Rattle.pool_etcd.specs.declared.log_value.LogValue.TheVariants.{Entry, Fence, Suppliers, Other}
+use Rattle.pool_etcd.specs.declared.log_value.LogValue.TheVariants.{Entry, Link, Fence, Suppliers, Other}
 use Rattle.pool_etcd.specs.Suppliers.{admits, is_admitted}
 
 -- The supplier list after the values: the last one among them, or else the one before.
 abbrev pub list_after : List ℕ → List LogValue → List ℕ
 list_after list [] = list
 list_after list (Entry e ∷ values) = list_after list values
+list_after list (Link l ∷ values) = list_after list values
 list_after list (Fence agreed ∷ values) = list_after list values
 list_after list (Suppliers next ∷ values) = list_after next values
 list_after list (Other ∷ values) = list_after list values
@@ -23,6 +24,7 @@ abbrev pub entries_in : List ℕ → List LogValue → List LogEntry
 entries_in list [] = []
 entries_in list (Entry e ∷ values) =
     (if is_admitted list e then e ∷ [] else []) ++ entries_in list values
+entries_in list (Link l ∷ values) = entries_in list values
 entries_in list (Fence agreed ∷ values) = entries_in list values
 entries_in list (Suppliers next ∷ values) = entries_in next values
 entries_in list (Other ∷ values) = entries_in list values
@@ -32,6 +34,7 @@ abbrev pub refused_in : List ℕ → List LogValue → List LogEntry
 refused_in list [] = []
 refused_in list (Entry e ∷ values) =
     (if is_admitted list e then [] else e ∷ []) ++ refused_in list values
+refused_in list (Link l ∷ values) = refused_in list values
 refused_in list (Fence agreed ∷ values) = refused_in list values
 refused_in list (Suppliers next ∷ values) = refused_in next values
 refused_in list (Other ∷ values) = refused_in list values
@@ -60,6 +63,7 @@ AdmittedCallsAreAssigned =
 -- The entry that the value is, if it is one.
 abbrev pub entry_of : LogValue → Option LogEntry
 entry_of (Entry e) = Some e
+entry_of (Link l) = None
 entry_of (Fence agreed) = None
 entry_of (Suppliers list) = None
 entry_of Other = None

@@ -1,8 +1,12 @@
 pub mod Admitted
+pub mod Comparisons
 pub mod Counts
 pub mod Following
 pub mod Given
+pub mod LineLinks
 pub mod Lines
+pub mod LinkText
+pub mod Linked
 pub mod Lives
 pub mod LogValue
 pub mod Member

@@ -11,7 +11,7 @@ settings_numbers policy beginning = decimal policy ++ 32 ∷ decimal beginning
 -- Three lines: what it is, the two numbers, and the salt. No line feed ends the last one.
 abbrev pub settings_message : (policy beginning : ℕ) (salt : List ℕ) → List ℕ
 settings_message policy beginning salt =
-    codes "dss-settings 2" ++ 10 ∷ settings_numbers policy beginning ++ 10 ∷ salt
+    codes "dss-settings 3" ++ 10 ∷ settings_numbers policy beginning ++ 10 ∷ salt
 
 -- The number of the settings with which an instance evaluates calls.
 abbrev pub settings_number : (policy beginning : ℕ) (salt : List ℕ) → ℕ

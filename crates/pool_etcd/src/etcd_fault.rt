@@ -91,6 +91,10 @@ pub enum Loss {
     Settings,
     /// The supplier list does not admit an entry of this process.
     Suppliers,
+    /// An entry of this process was stored too many changes behind its link.
+    Unlinked,
+    /// More organizations were given other changes than the same ones.
+    Diverged,
     /// A batch of this process was not stored in time. Its fence is in its place, so it never is.
     Unmade,
 }
@@ -105,6 +109,8 @@ impl Loss {
             Loss::Shortened => "shortened",
             Loss::Settings => "settings",
             Loss::Suppliers => "suppliers",
+            Loss::Unlinked => "unlinked",
+            Loss::Diverged => "diverged",
             Loss::Unmade => "unmade",
         }
     }

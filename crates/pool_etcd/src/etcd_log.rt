@@ -1,10 +1,13 @@
 //! A log over etcd.
+use crate::comparisons::Comparisons;
 use crate::counts::Counts;
+use crate::differences::{Difference, Differences};
 use crate::etcd_fault::{EndpointFault, EtcdFault, Loss};
 use crate::following::Following;
 use crate::lane::Endpoint;
-use crate::log_value::{entry_value, fence_value};
-use crate::names::key_of;
+use crate::line_links::Verdict;
+use crate::log_value::{fence_value, link_value};
+use crate::names::{key_of, organization_of};
 use crate::own_entries::{NotTaken, OwnEntries};
 use crate::own_fence::OwnFence;
 use crate::payload::Payload;
@@ -16,6 +19,8 @@ use crate::times::{SETTLE_AFTER, later};
 use crate::watch_lane::WatchLane;
 use crate::writer::writer_of;
 use mio::{Registry, Token};
+use pool_chain::chain::Chain;
+use pool_chain::link::Judgement;
 use std::alloc::{AllocError, Global};
 use std::collections::VecDeque;
 use std::net::Net;
@@ -29,6 +34,9 @@ const MAX_PATIENCE: u64 = 500;
 
 // If `advance` is called after a longer time, in milliseconds, the process did not run meanwhile.
 const MAX_GAP: u64 = 1_000;
+
+// The time from a put to that of a link, in milliseconds.
+const LINK_PAUSE: u64 = 60_000;
 
 // How long the log counts as silent at least, in milliseconds, before it was read up to the own
 // fence.
@@ -44,7 +52,7 @@ pub(crate) struct LogState {
     // The token of the user, if etcd has given one.
     pub(crate) token: Option<Payload>,
     pub(crate) own: OwnEntries,
-    // When the last batch was offered to etcd.
+    // When the last batch or link was offered to etcd.
     pub(crate) offered: Duration,
     pub(crate) following: Following,
     pub(crate) questions: Questions,
@@ -61,6 +69,14 @@ pub(crate) struct LogState {
     pub(crate) is_read: bool,
     // How many of these entries were not taken yet.
     pub(crate) earlier: usize,
+    // The last comparable links of other organizations.
+    pub(crate) comparisons: Comparisons,
+    // The links that differ from the own chain.
+    pub(crate) differences: Differences,
+    // True if an entry of another instance was given since the last own put.
+    pub(crate) has_news: bool,
+    // True if the last value that was offered to etcd is a link without an entry.
+    pub(crate) sends_link: bool,
 }
 
 impl LogState {
@@ -115,18 +131,81 @@ impl LogState {
     }
 
     /// Lets the fence settle the outcome of the batch that is open, if its time is over. No response
-    /// to a put is awaited.
+    /// to a put is awaited. A link that is open stays so: nothing depends on its outcome.
     pub(crate) fn settle_in_time(&mut self, now: Duration) {
-        if now >= later(self.offered, SETTLE_AFTER) {
+        if !self.sends_link && now >= later(self.offered, SETTLE_AFTER) {
             self.own.settle();
         }
     }
 
     // Records whether the watch has given the own fence.
-    fn note_fence(&mut self) {
+    fn note_fence(&mut self, now: Duration) {
         if !self.is_read && self.following.own.is_given {
             self.is_read = true;
             self.earlier = self.following.entries.len();
+            self.offered = now;
+        }
+    }
+
+    /// Returns true if a link is put now: nothing was put within a minute, and an entry of another
+    /// instance was given since.
+    pub(crate) fn may_link(&self, now: Duration) -> bool {
+        self.is_read && self.has_news && now >= later(self.offered, LINK_PAUSE)
+    }
+
+    // Compares with other organizations. If memory runs out, the comparison with this one is
+    // missing until its next link.
+    fn compare(&mut self, key: &[u8], differs: bool) {
+        let organization = organization_of(key);
+        if organization != organization_of(self.key.as_bytes()) {
+            let _ = self.comparisons.note(self.alloc, organization, differs);
+            if self.comparisons.is_diverged() {
+                self.loss = Some(Loss::Diverged);
+            }
+        }
+    }
+
+    // Records a link that differs. If memory runs out, it is not reported.
+    fn differ(&mut self, verdict: Verdict, own: Option<[u8; 32]>, now: Duration) {
+        let difference = Difference {
+            key: verdict.key,
+            link: verdict.link,
+            own,
+        };
+        let _ = self.differences.add(self.alloc, difference, now);
+    }
+
+    // Takes the verdict on a link of another instance.
+    fn note_verdict(&mut self, verdict: Verdict, now: Duration) {
+        if verdict.key.bytes() == self.key.as_bytes() {
+            return;
+        }
+        self.has_news = self.has_news || verdict.is_entry;
+        let judgement = verdict.judgement;
+        match judgement {
+            Judgement::Same => self.compare(verdict.key.bytes(), false),
+            Judgement::Differs(own) => {
+                self.compare(verdict.key.bytes(), true);
+                self.differ(verdict, Some(own), now);
+            }
+            Judgement::Ahead => {
+                self.compare(verdict.key.bytes(), true);
+                self.differ(verdict, None, now);
+            }
+            Judgement::Old => {}
+        }
+    }
+
+    // Takes the verdicts on links, until the log is lost.
+    fn note_verdicts(&mut self, now: Duration) {
+        for _ in 0..u64::MAX {
+            if self.loss.is_some() {
+                return;
+            }
+            match self.following.next_verdict() {
+                Some(verdict) => self.note_verdict(verdict, now),
+                None => return,
+            }
         }
     }
 
@@ -195,6 +274,7 @@ impl EtcdLog {
             settings.pool,
             number,
             own,
+            settings.chain,
         );
         let loss = if following.is_other() {
             Some(Loss::Settings)
@@ -218,6 +298,10 @@ impl EtcdLog {
             checked: Duration::ZERO,
             is_read: false,
             earlier: 0,
+            comparisons: Comparisons::new(alloc),
+            differences: Differences::new(alloc),
+            has_news: false,
+            sends_link: false,
         };
         Ok(EtcdLog {
             run,
@@ -255,7 +339,8 @@ impl EtcdLog {
                 self.watch_fault = Some(EndpointFault { fault, address });
             }
         }
-        self.state.note_fence();
+        self.state.note_fence(now);
+        self.state.note_verdicts(now);
         if self.state.loss.is_some() {
             self.requests.close();
             self.watch.close();
@@ -283,16 +368,33 @@ impl EtcdLog {
         }
     }
 
-    // Offers the next batch, if it may be sent.
+    // Offers the next batch, or else the own link, if it may be sent.
     fn offer_next(&mut self, now: Duration)
         ensures { self.new.number ≡ self.old.number }
     {
-        if self.state.may_offer()
-            && let Some(value) = self.queue.pop_front()
-        {
+        if !self.state.may_offer() {
+            return;
+        }
+        if let Some(value) = self.queue.pop_front() {
             let _ = self.state.own.offer(value);
             self.state.offered = now;
+            self.state.sends_link = false;
+        } else if self.state.may_link(now) {
+            let link = self.state.following.chain.link();
+            if let Ok(value) = link_value(self.state.alloc, self.run, &link) {
+                let _ = self.state.own.offer(value);
+                self.state.offered = now;
+                self.state.sends_link = true;
+                self.state.has_news = false;
+            }
         }
+    }
+
+    /// Returns the next link of another instance that differs from the own chain.
+    pub fn take_difference(&mut self) -> Option<Difference>
+        ensures { self.new.number ≡ self.old.number }
+    {
+        self.state.differences.take()
     }
 
     /// Returns the last fault of a request, or else of the watch, that was not returned yet.
@@ -314,6 +416,11 @@ impl EtcdLog {
     /// to there.
     pub fn position(&self) -> (u64, u64) {
         (self.state.following.revision, self.state.following.count)
+    }
+
+    /// Returns the chain over all changes that were received.
+    pub fn chain(&self) -> &Chain {
+        &self.state.following.chain
     }
 
     /// Returns the time since etcd last said something of the log's end. It is at least 4 seconds

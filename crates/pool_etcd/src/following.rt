@@ -1,17 +1,19 @@
 //! The entries that a watch gave, until the instance takes them.
-ghost use Rattle.std.specs.Prelude.{◌≡◌, ◌↔◌, ◌++◌, ℕ, List, [], ◌⊎◌, OnOk, OnErr, IfErr, IfOk, IsErrOf, IsTrue, option_to_list, unwrap_or};
+ghost use Rattle.std.specs.Prelude.{◌≡◌, ◌↔◌, ◌++◌, ℕ, List, [], ◌⊎◌, length, take, OnOk, OnErr, IfErr, IfOk, IsErrOf, IsTrue, option_to_list, unwrap_or};
 ghost use Rattle.pool_etcd.specs.Counts.{AreNext, count_of};
 ghost use Rattle.pool_etcd.specs.OwnFence.{DeletesOwn};
 ghost use Rattle.pool_etcd.specs.Following.{Adds, AddsChange, AddsLine, Ascends, Differs, HasLine, HasValue, IsOther, IsSame, ReceivesValues};
-ghost use Rattle.pool_etcd.specs.Following.{Refuses, TakesEntries, last_revision, list_in, revision_of, value_of_deletion};
+ghost use Rattle.pool_etcd.specs.Following.{Refuses, TakesEntries, Unlinks, chain_in, last_revision, list_in, revision_of, value_of_deletion};
 
 use crate::counts::{CountFault, Counts};
+use crate::line_links::{LineLinks, Verdict};
 use crate::log_value::{LogEntry, LogValue, read_value};
 use crate::names::list_key;
 use crate::own_fence::OwnFence;
 use crate::payload::Payload;
 use crate::suppliers::is_admitted;
 use crate::watch_line::Change;
+use pool_chain::chain::Chain;
 use std::alloc::{AllocError, Global};
 use std::collections::VecDeque;
 
@@ -30,10 +32,12 @@ pub enum FollowFault {
     Settings,
     /// An entry of the own process is not admitted.
     Suppliers,
+    /// An entry of the own process has a link that is not judged to be the same.
+    Unlinked,
 }
 
 /// The entries that a watch gave, how far it has come, the settings of the pool, the supplier list,
-/// the counts of all keys, and the own fence.
+/// the counts of all keys, the own fence, and the chain over all changes.
 #[derive(Drop)]
 pub struct Following {
     /// The revision of the last change.
@@ -55,6 +59,10 @@ pub struct Following {
     pub counts: Counts,
     /// The own fence, as far as the watch gave it.
     pub own: OwnFence,
+    /// The chain over all changes.
+    pub chain: Chain,
+    /// The verdicts on links that were not taken yet.
+    pub verdicts: VecDeque<Verdict>,
 }
 
 /// What a line has.
@@ -68,6 +76,8 @@ pub struct LineValues {
     pub suppliers: Option<Payload>,
     /// True if an entry of the own process is not admitted.
     pub is_refused: bool,
+    /// The links.
+    pub links: LineLinks,
 }
 
 // Puts another supplier list in the place of one, if there is another.
@@ -113,7 +123,8 @@ fn value_of(alloc: Global, change: &Change) -> Result<LogValue, AllocError>
 impl Following {
     /// Creates the state of an instance with these settings that knows the log up to a revision,
     /// how many entries it has up to there, and maybe the settings of the pool. The supplier list
-    /// is empty, and no key has a value. The number is that of the own process as a writer.
+    /// is empty, and no key has a value. The number is that of the own process as a writer. The
+    /// chain is that over the changes up to the revision.
     pub fn new(
         alloc: Global,
         revision: u64,
@@ -122,6 +133,7 @@ impl Following {
         pool: Option<u64>,
         writer: u64,
         own: OwnFence,
+        chain: Chain,
     ) -> Following
         ensures revision { result.revision ≡ revision }
         ensures count { result.count ≡ count }
@@ -132,6 +144,8 @@ impl Following {
         ensures writer { result.writer ≡ writer }
         ensures counts { result.counts ≡ [] }
         ensures own { result.own ≡ own }
+        ensures chain { result.chain ≡ chain }
+        ensures verdicts { result.verdicts.items ≡ [] }
     {
         Following {
             revision,
@@ -143,6 +157,8 @@ impl Following {
             writer,
             counts: Counts::from_vec(Vec::new(alloc)),
             own,
+            chain,
+            verdicts: VecDeque::new(alloc),
         }
     }
 
@@ -174,6 +190,7 @@ impl Following {
         entry: LogEntry,
     ) -> Result<(), FollowFault>
         ensures added { OnOk result (Adds self.now (LogValue.Entry entry) line.old line.new) }
+        ensures links { line.new.links ≡ line.old.links }
         ensures fault { IfErr result (λ fault. fault ≡ FollowFault.Memory) }
     {
         match is_admitted(alloc, self.list_in(line), &entry) {
@@ -189,6 +206,32 @@ impl Following {
         }
     }
 
+    // Adds a value whose link was judged.
+    fn add_value(
+        &self,
+        alloc: Global,
+        line: &mut LineValues,
+        value: LogValue,
+    ) -> Result<(), FollowFault>
+        ensures added { OnOk result (Adds self.now value line.old line.new) }
+        ensures links { line.new.links ≡ line.old.links }
+        ensures fault { IfErr result (λ fault. fault ≡ FollowFault.Memory) }
+    {
+        match value {
+            LogValue::Entry(entry) => self.add_entry(alloc, line, entry),
+            LogValue::Link(_) => Ok(()),
+            LogValue::Fence(agreed) => {
+                line.fence = line.fence.or(Some(agreed));
+                Ok(())
+            }
+            LogValue::Suppliers(list) => {
+                line.suppliers = Some(list);
+                Ok(())
+            }
+            LogValue::Other => Ok(()),
+        }
+    }
+
     // Adds what a change is.
     fn add_change(
         &self,
@@ -199,17 +242,18 @@ impl Following {
         ensures added { OnOk result (AddsChange self.now change.now line.old line.new) }
         ensures fault { IfErr result (λ fault. fault ≡ FollowFault.Memory) }
     {
-        match value_of(alloc, change) {
-            Ok(LogValue::Entry(entry)) => self.add_entry(alloc, line, entry),
-            Ok(LogValue::Fence(agreed)) => {
-                line.fence = line.fence.or(Some(agreed));
-                Ok(())
-            }
-            Ok(LogValue::Suppliers(list)) => {
-                line.suppliers = Some(list);
-                Ok(())
-            }
-            Ok(LogValue::Other) => Ok(()),
+        let Ok(value) = value_of(alloc, change) else {
+            return Err(FollowFault::Memory);
+        };
+        let Ok(value) = line
+            .links
+            .judge_value(alloc, &self.chain, self.writer, value)
+        else {
+            return Err(FollowFault::Memory);
+        };
+        self.add_value(alloc, line, value)?;
+        match line.links.take_change(change) {
+            Ok(()) => Ok(()),
             Err(_) => Err(FollowFault::Memory),
         }
     }
@@ -226,6 +270,7 @@ impl Following {
             (λ line. line.1 ≡ last_revision self.now.revision changes.now) }
         ensures settings { IsErrOf result FollowFault.Settings → ⊥ }
         ensures suppliers { IsErrOf result FollowFault.Suppliers → ⊥ }
+        ensures unlinked { IsErrOf result FollowFault.Unlinked → ⊥ }
         ensures deleted { IsErrOf result FollowFault.Deleted → ⊥ }
         ensures gap { IsErrOf result FollowFault.Gap → ⊥ }
     {
@@ -234,6 +279,7 @@ impl Following {
             fence: None,
             suppliers: None,
             is_refused: false,
+            links: LineLinks::new(alloc, self.chain.link()),
         };
         let mut revision = self.revision;
         for change in changes {
@@ -245,6 +291,31 @@ impl Following {
             revision = next;
         }
         Ok((line, revision))
+    }
+
+    // Adds the entries, the verdicts and the chain of a line, or else the first ones of these.
+    fn add_values(&mut self, line: &mut LineValues) -> Result<(), AllocError>
+        ensures entries { OnOk result
+            (self.new.entries.items ≡ self.old.entries.items ++ line.old.entries.items) }
+        ensures verdicts { OnOk result (self.new.verdicts.items
+            ≡ self.old.verdicts.items ++ line.old.links.verdicts.items) }
+        ensures chain { OnOk result (self.new.chain ≡ chain_in self.old line.old) }
+        ensures front { take (length self.old.entries.items) self.new.entries.items
+            ≡ self.old.entries.items }
+        ensures first { take (length self.old.verdicts.items) self.new.verdicts.items
+            ≡ self.old.verdicts.items }
+        ensures same { OnErr result (self.new.chain ≡ self.old.chain) }
+        ensures others { self.new ≡ record self.old {
+          entries = self.new.entries;
+          verdicts = self.new.verdicts;
+          chain = self.new.chain;
+        } }
+        ensures left { line.new
+            ≡ record line.old { entries = line.new.entries; links = line.new.links } }
+    {
+        self.entries.append(&mut line.entries)?;
+        self.verdicts.append(&mut line.links.verdicts)?;
+        self.chain.append(&mut line.links.chain)
     }
 
     // Adds the entries of a line, and counts its changes, or does neither.
@@ -267,20 +338,24 @@ impl Following {
             Err(CountFault::Memory) => return Err(FollowFault::Memory),
             Err(CountFault::Gap) => return Err(FollowFault::Gap),
         }
-        if self.entries.append(&mut line.entries).is_err() {
-            self.counts.truncate(known);
-            return Err(FollowFault::Memory);
+        let (entries, verdicts) = (self.entries.len(), self.verdicts.len());
+        if self.add_values(line).is_ok() {
+            return Ok(());
         }
-        Ok(())
+        self.counts.truncate(known);
+        self.entries.truncate(entries);
+        self.verdicts.truncate(verdicts);
+        Err(FollowFault::Memory)
     }
 
     /// Takes the changes of a line: all of them, or none. Each must have been made after all changes
     /// before. If the settings of the pool are not known, the first fence tells them. They must be
     /// the own ones.
     ///
-    /// Each entry is checked by the supplier list at its place. Entries that it does not admit,
-    /// later fences, and values that are none of these are passed over. Returns `Suppliers` if an
-    /// entry of the own process is not admitted, and the settings do not differ.
+    /// Each entry is checked by its link and by the supplier list at its place. Entries whose link
+    /// is not the same as the own chain, entries that the list does not admit, later fences, and
+    /// values that are none of these are passed over. Returns `Suppliers` if an entry of the own
+    /// process is not admitted, `Unlinked` if it has such a link, and the settings do not differ.
     ///
     /// A deletion is a change like others. Returns `Deleted` if it deletes the own key behind the
     /// own fence, and `Gap` if a change cannot be the next one of its key.
@@ -288,6 +363,7 @@ impl Following {
         ensures values { OnOk result (ReceivesValues self.old self.new changes.now) }
         ensures differs { IsErrOf result FollowFault.Settings → Differs self.old changes.now }
         ensures refuses { IsErrOf result FollowFault.Suppliers → Refuses self.old changes.now }
+        ensures unlinks { IsErrOf result FollowFault.Unlinked → Unlinks self.old changes.now }
         ensures deletes { IsErrOf result FollowFault.Deleted
             → DeletesOwn self.old.own changes.now }
         ensures gap { IsErrOf result FollowFault.Gap
@@ -307,6 +383,9 @@ impl Following {
         if line.is_refused {
             return Err(FollowFault::Suppliers);
         }
+        if line.links.is_unlinked {
+            return Err(FollowFault::Unlinked);
+        }
         let news = self.own.news(changes);
         if news.is_deleted {
             return Err(FollowFault::Deleted);
@@ -320,6 +399,7 @@ impl Following {
         self.pool = pool;
         self.own.is_given = news.is_given;
         self.counts.shorten(alloc);
+        self.chain.shorten();
         replace_list(&mut self.suppliers, line.suppliers.take());
         Ok(())
     }
@@ -332,5 +412,17 @@ impl Following {
         ensures settings { TakesEntries self.old self.new }
     {
         self.entries.pop_front()
+    }
+
+    /// Takes the next verdict.
+    pub fn next_verdict(&mut self) -> Option<Verdict>
+        ensures verdicts { self.old.verdicts.items
+            ≡ option_to_list result ++ self.new.verdicts.items }
+        ensures entries { self.new.entries.items ≡ self.old.entries.items }
+        ensures revision { self.new.revision ≡ self.old.revision }
+        ensures count { self.new.count ≡ self.old.count }
+        ensures settings { TakesEntries self.old self.new }
+    {
+        self.verdicts.pop_front()
     }
 }

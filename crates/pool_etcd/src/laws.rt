@@ -1,10 +1,13 @@
 //! Laws of the log over etcd. Each is the contract of a function that does nothing.
 ghost use Rattle.pool_etcd.specs.Admitted.{AdmittedCallsAreAssigned, WithoutListAllAreAdmitted};
+ghost use Rattle.pool_etcd.specs.Comparisons.{OneOrganizationEndsNobody};
 ghost use Rattle.pool_etcd.specs.Following.{ChangesAreNext, FirstFenceDecides, KnownSettingsDecide};
+ghost use Rattle.pool_etcd.specs.Linked.{LinkedEntriesShareChanges};
 ghost use Rattle.pool_etcd.specs.Lives.{PutsAreConsecutive};
 ghost use Rattle.pool_etcd.specs.OneKey.{EachValueOnce, FenceSettles, UnmadeIsFinal};
 ghost use Rattle.pool_etcd.specs.Value.{OneValue};
 
+use pool_chain::laws::{kept_decides, same_link_same_items};
 use pool_entry::laws::callers_are_suppliers;
 
 /// States that the entries of a process are the values that it has taken, in order, each once, or
@@ -33,8 +36,8 @@ pub fn unmade_is_final()
     ensures { UnmadeIsFinal }
 {}
 
-/// States that the value of a key is the supplier list, an entry, a fence or none of these, in one
-/// way. So its bytes alone decide, with its key, what every instance reads.
+/// States that the value of a key is the supplier list, an entry, a link, a fence or none of these,
+/// in one way. So its bytes alone decide, with its key, what every instance reads.
 pub fn one_value()
     ensures { OneValue }
 {}
@@ -85,4 +88,22 @@ pub fn admitted_calls_are_assigned()
 /// States that every entry is admitted if no supplier list was put.
 pub fn without_list_all_are_admitted()
     ensures { WithoutListAllAreAdmitted }
+{}
+
+/// States that the writer of an entry that is not passed over for its link was given the same
+/// changes as this instance, as many as the link tells, or that two different texts have one digest.
+///
+/// So an instance that makes the calls of another one shares its changes up to there, whatever etcd
+/// lost or changed. It is assumed that the writer took its link from the changes that it was given,
+/// and that this instance began with a record of its own changes.
+pub fn linked_entries_share_changes()
+    ensures { LinkedEntriesShareChanges }
+{
+    kept_decides();
+    same_link_same_items();
+}
+
+/// States that one organization alone, whatever links it puts, makes no instance of another one end.
+pub fn one_organization_ends_nobody()
+    ensures { OneOrganizationEndsNobody }
 {}

@@ -4,8 +4,10 @@
 //! own, with contracts. `etcd_log` moves their bytes over sockets that do not block.
 #![tactic(auto)]
 
+mod comparisons;
 mod connection;
 mod counts;
+pub mod differences;
 pub mod etcd_fault;
 pub mod etcd_log;
 mod exchange;
@@ -13,7 +15,9 @@ mod following;
 mod json_value;
 mod lane;
 pub mod laws;
+mod line_links;
 mod lines;
+mod link_text;
 mod log;
 mod log_value;
 mod member;
@@ -21,7 +25,7 @@ mod names;
 mod number;
 mod own_entries;
 mod own_fence;
-mod payload;
+pub mod payload;
 mod questions;
 pub mod request;
 mod request_lane;

@@ -1,6 +1,6 @@
 //! Lines of a stream of bytes.
 ghost use Rattle.std.specs.Prelude.{◌≡◌, ◌+◌, ◌<◌, ◌++◌, [], length, take, drop, OnOk, OnErr, IfOk, IfNone, IfSome};
-ghost use Rattle.pool_etcd.specs.Lines.{BeginsWith, IsOneLine};
+ghost use Rattle.pool_etcd.specs.Lines.{BeginsWith, IsOneLine, Lacks, SplitsAt};
 
 use bytes::BytesMut;
 use memchr::memchr;
@@ -9,6 +9,9 @@ use std::marker::Model;
 
 /// The byte that ends a line.
 pub(crate) const LINE_FEED: u8 = 10;
+
+// The byte that ends a word.
+const SPACE: u8 = 32;
 
 /// The bytes of a stream that are in no line yet.
 ///
@@ -80,4 +83,14 @@ pub(crate) fn line_end(bytes: &[u8]) -> Option<usize>
     ensures within { IfSome result (λ end. end < length bytes.now) }
 {
     memchr(LINE_FEED, bytes)
+}
+
+/// Returns the position of the first space.
+pub(crate) fn space_in(bytes: &[u8]) -> Option<usize>
+    ensures none { IfNone result (Lacks 32 bytes.now) }
+    ensures some { IfSome result (λ space. SplitsAt 32 bytes.now (take space bytes.now)
+        (drop (space + 1) bytes.now)) }
+    ensures within { IfSome result (λ space. space < length bytes.now) }
+{
+    memchr(SPACE, bytes)
 }

@@ -42,11 +42,15 @@ impl Log for EtcdLog {
         if bytes.len() > MAX_BATCH {
             return Err(OfferFault::TooLong);
         }
-        let Ok(value) = entry_value(self.state.alloc, self.run, bytes) else {
+        let link = self.state.following.chain.link();
+        let Ok(value) = entry_value(self.state.alloc, self.run, &link, bytes) else {
             return Err(OfferFault::NoMemory);
         };
         match self.queue.push_back(value) {
-            Ok(()) => Ok(()),
+            Ok(()) => {
+                self.state.has_news = false;
+                Ok(())
+            }
             Err(_) => Err(OfferFault::NoMemory),
         }
     }

@@ -46,6 +46,14 @@ pub fn key_of(alloc: Global, name: &str) -> Result<String, AllocError>
     Ok(key)
 }
 
+/// Returns the name behind the prefix of a key.
+pub(crate) fn name_of(key: &[u8]) -> &[u8] {
+    match key.get(PREFIX.len()..) {
+        Some(name) => name,
+        None => &[],
+    }
+}
+
 // Returns a name without the digits at its end.
 fn without_digits(name: &[u8]) -> &[u8]
     ensures { result.now ≡ without_digits name.now }

@@ -3,6 +3,7 @@ ghost use Rattle.std.specs.Prelude.{◌≡◌, IfOk};
 ghost use Rattle.std.specs.String.{string_bytes};
 ghost use Rattle.pool_etcd.specs.Settings.{settings_message, settings_number, settings_numbers};
 
+use pool_chain::chain::Chain;
 use sha2::{Digest, Sha256};
 use std::alloc::{AllocError, Global};
 use std::net::SocketAddr;
@@ -35,6 +36,8 @@ pub struct EtcdSettings {
     pub revision: u64,
     /// The number of entries up to there.
     pub count: u64,
+    /// The chain over all changes up to there.
+    pub chain: Chain,
     /// The number that all instances of a pool have in common: `settings_number` of the policy, of
     /// the airspace at the beginning of the log, and of the pool's salt.
     pub agreed: u64,
@@ -61,7 +64,7 @@ fn settings_message(
 {
     let numbers = settings_numbers(alloc, policy, beginning)?;
     let numbers = numbers.as_str();
-    let text = format!(in alloc; "dss-settings 2\n{numbers}\n{salt}")?;
+    let text = format!(in alloc; "dss-settings 3\n{numbers}\n{salt}")?;
     Vec::from_slice(alloc, text.as_bytes())
 }
 

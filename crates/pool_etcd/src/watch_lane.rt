@@ -267,6 +267,10 @@ impl WatchLane {
                         state.loss = Some(Loss::Suppliers);
                         Ok(())
                     }
+                    Err(FollowFault::Unlinked) => {
+                        state.loss = Some(Loss::Unlinked);
+                        Ok(())
+                    }
                 }
             }
         }

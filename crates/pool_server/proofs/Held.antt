@@ -13,7 +13,7 @@ use Rattle.wire_route.specs.declared.endpoint.Endpoint.{Endpoint}
 use Rattle.wire_http.specs.Connection.{buffered_of, left_of}
 use Rattle.wire_http.specs.Later.{AnswersOrNone, HasNoNext, outcome_without}
 use Rattle.wire_http.specs.RequestInfo.{outcome_of}
-use Rattle.wire_http.specs.Turns.{set_at}
+use Rattle.wire_http.specs.SetAt.{set_at}
 use Rattle.wire_http.specs.Wire.{IsRequest}
 use Rattle.wire_http.specs.declared.connection.Connection.{Connection}
 use Rattle.wire_http.specs.declared.connection.Step.{Step}

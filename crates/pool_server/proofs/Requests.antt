@@ -15,7 +15,7 @@ use Rattle.wire_http.specs.declared.unavailable.Unavailable.{Unavailable}
 use Rattle.wire_http.specs.declared.unavailable.Unavailable.TheVariants.{Unassigned, Unknown, Unreachable}
 use Rattle.server_base.specs.History.{HistoryEvent}
 use Rattle.server_base.proofs.Histories.{extends_none}
-use Rattle.wire_http.specs.Turns.{set_at}
+use Rattle.wire_http.specs.SetAt.{set_at}
 use Rattle.pool_core.specs.Events.{AfterFirst, Answers, AtOnce, Drops, Fails, Gets, InstanceEvent, Receives}
 use Rattle.pool_core.specs.declared.log.Log as logs
 use Rattle.pool_instance.specs.Does.{AnsweredSo, FailedSo, GaveUpSo, ReceivedSo, TookSo, in_place}

@@ -10,7 +10,7 @@ use Rattle.slab.specs.Slab.{Slab, Updates, get, with_value}
 use Rattle.slab.proofs.SlabLemmas.{Updates-with_value}
 use Rattle.space_core.specs.declared.space.Space as spaces
 use Rattle.token_conf.specs.TokenFile.{Callers}
-use Rattle.wire_http.specs.Turns.{set_at}
+use Rattle.wire_http.specs.SetAt.{set_at}
 use Rattle.wire_http.specs.declared.explaining.Explaining.{Explaining}
 use Rattle.server_base.specs.History.{Extends, HistoryEvent}
 use Rattle.server_base.proofs.Histories.{extends_none, extends_same, extends_then}

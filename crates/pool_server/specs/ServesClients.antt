@@ -10,7 +10,7 @@ use Rattle.slab.specs.Slab.{Slab, get}
 use Rattle.space_core.specs.declared.space.Space as spaces
 use Rattle.token_conf.specs.TokenFile.{Callers}
 use Rattle.wire_http.specs.Connection.{buffered_of, left_of}
-use Rattle.wire_http.specs.Turns.{set_at}
+use Rattle.wire_http.specs.SetAt.{set_at}
 use Rattle.wire_http.specs.Wire.{IsRequest}
 use Rattle.wire_http.specs.declared.connection.Connection.{Connection}
 use Rattle.wire_http.specs.declared.explaining.Explaining.{Explaining}

@@ -1,6 +1,5 @@
 -- A request of a connection makes at most one call.
-use Rattle.std.proofs.Common.{◌≡◌, ℕ, List, [], ◌∷◌, refl, ap, inl, inr, Some, None, Result, Ok, Err}
-use Rattle.std.specs.Prelude.{IfErr, IfOk}
+use Rattle.std.proofs.Common.{◌≡◌, ℕ, List, [], ◌∷◌, refl, inl, inr, Some, None}
 use Rattle.space_core.specs.declared.group_commit.GroupCommit as settles
 use Rattle.space_core.specs.declared.space.Space as spaces
 use Rattle.service_calls.specs.declared.service.Service.{Service}
@@ -33,13 +32,13 @@ module _ {S M : Type 0} (g : spaces.Ghosts S) (k : settles.Ghosts S) (m : moment
   unasked_goes_on faults.Turns left same failed h = goes_nowhere g k m callers old new [] clock clock' same h
 
   module _ (explaining : Explaining) (c c' : Connection) where
-    step_goes_on : (step : Step) → IsStepBy g m.gives callers old new clock clock' c c' explaining step → GoesOn g k m callers old new clock clock'
+    pub step_goes_on : (step : Step) → IsStepBy g m.gives callers old new clock clock' c c' explaining step → GoesOn g k m callers old new clock clock'
     step_goes_on steps.NeedsInput h = goes_nowhere g k m callers old new [] clock clock' h.0 h.1
     step_goes_on (steps.Answered n) h =
         goes_by_call g k m callers old new clock clock' h.1.0 h.1.1 ((h.1.5 []).body, (h.1.5 []).call) h.1.3.is_reply (h.1.5 []).moment
     step_goes_on (steps.Ended end) h = goes_nowhere g k m callers old new [] clock clock' h.0 h.1
 
-    part_goes_on : (fault : StreamFault) → (fault ≡ faults.Clock → m.failures clock' ≡ one_more (m.failures clock))
+    pub part_goes_on : (fault : StreamFault) → (fault ≡ faults.Clock → m.failures clock' ≡ one_more (m.failures clock))
         → IsStepPart g m.gives callers old new clock clock' c c' fault → GoesOn g k m callers old new clock clock'
     part_goes_on fault failed h =
         elim h.1.2 [
@@ -49,10 +48,3 @@ module _ {S M : Type 0} (g : spaces.Ghosts S) (k : settles.Ghosts S) (m : moment
             | inr rule ↦ goes_nowhere g k m callers old new [] clock clock' rule.same rule.clock_is
           ]
         ]
-
-    pub asked_goes_on : (asked : Result Step StreamFault) → IfOk asked (IsStepBy g m.gives callers old new clock clock' c c' explaining)
-        → IfErr asked (IsStepPart g m.gives callers old new clock clock' c c')
-        → (asked ≡ Err faults.Clock → m.failures clock' ≡ one_more (m.failures clock))
-        → GoesOn g k m callers old new clock clock'
-    asked_goes_on (Ok step) ok err failed = step_goes_on step ok
-    asked_goes_on (Err fault) ok err failed = part_goes_on fault (λ is. failed (ap (λ (x : StreamFault). Err x) is)) err

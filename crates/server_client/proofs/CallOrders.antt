@@ -3,7 +3,7 @@ use Rattle.std.proofs.Common.{◌≡◌, ◌<◌, ◌-◌, ◌==◌, ℕ, zero, 
 use Rattle.space_core.specs.declared.space.SpaceFault.{SpaceFault}
 use Rattle.token_conf.specs.TokenFile.{Callers}
 use Rattle.wire_http.specs.Count.{max_requests}
-use Rattle.wire_http.specs.Many.{AnyMoment}
+use Rattle.wire_http.specs.Moments.{AnyMoment}
 use Rattle.wire_http.specs.Wire.{RequestCall, AsksCall, left_after}
 use Rattle.server_client.specs.CallOrder.{Asks, IsInOrder, IsInOrderAfterCall, IsInOrderAfterStep, IsInOrderAtStart, LeadsBy, LetsOneCome, OrderedEvent}
 use Rattle.server_client.specs.ClientState.{Aborts, ClientState, Discards, Drops, Limits, Receives, ReceivesEnd, Releases, Sends, after_commit}

@@ -1,5 +1,6 @@
 pub mod Accounts
 mod Asked
+pub mod Asks
 pub mod CallOrders
 pub mod Events
 mod Queues

@@ -3,7 +3,7 @@ use Rattle.std.specs.Prelude.{◌≡◌, ◌<◌, ◌-◌, ◌==◌, ℕ, zero, 
 use Rattle.service_step.specs.declared.reply.Reply.{Reply}
 use Rattle.token_conf.specs.TokenFile.{Callers}
 use Rattle.wire_http.specs.Count.{max_requests}
-use Rattle.wire_http.specs.Many.{AnyMoment}
+use Rattle.wire_http.specs.Moments.{AnyMoment}
 use Rattle.wire_http.specs.Wire.{RequestCall, AsksCall, left_after}
 use Rattle.server_client.specs.declared.commit_record.CommitRecord.{CommitRecord}
 use Rattle.server_client.specs.ClientState.{Aborts, ClientState, ClientStep, Discards, Drops, Limits, Receives, ReceivesEnd, Releases, Sends, StepsTo, new_client, with_response}

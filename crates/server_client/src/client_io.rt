@@ -2,6 +2,7 @@
 ghost use Rattle.std.specs.Prelude.{◌≡◌, IfErr, IfOk};
 ghost use Rattle.service_calls.specs.Service.{reply_of};
 ghost use Rattle.service_step.specs.declared.call_fault.CallFault.TheVariants as halts;
+ghost use Rattle.server_client.specs.Asked.{AskedSo, CallsNext, LosesCall};
 ghost use Rattle.server_client.specs.ClientIo.{IsAnsweredBy, Reads, ReleasesUnless, Writes};
 ghost use Rattle.server_client.specs.ClientIo.{client_state, connection_of};
 ghost use Rattle.server_client.specs.ClientState.{ClientSteps, IsCommitOf, StepsWithoutCommit};
@@ -21,7 +22,9 @@ use std::alloc::{AllocError, Global};
 use std::io::ErrorKind;
 use std::net::SocketAddr;
 use token_conf::token_table::TokenTable;
-use wire_http::{Connection, Moments, Peeked, RequestInfo, Step, StreamFault};
+use wire_http::{
+    Connection, Moments, NextRequest, NextStep, Peeked, RequestInfo, Step, StreamFault,
+};
 
 /// What a read did.
 #[derive(Clone, Copy, Debug, PartialEq, Eq)]
@@ -65,16 +68,15 @@ pub(crate) struct ClientIo<T> {
 }
 
 impl<T: ClientSocket> ClientIo<T> {
-    ghost use Rattle.std.specs.Prelude.{◌<◌, ◌-◌, ◌↔◌, ◌||◌, false, true, length, IsTrue, List, Option, option_map};
+    ghost use Rattle.std.specs.Prelude.{◌<◌, ◌-◌, ◌↔◌, ◌||◌, OnErr, OnOk, false, true, length, IsTrue, List, Option, option_map};
     ghost use Rattle.token_conf.specs.TokenFile.{callers_of};
     ghost use Rattle.service_calls.specs.Held.{Stays, space_of};
-    ghost use Rattle.wire_http.specs.declared.connection.Connection.{Connection};
-    ghost use Rattle.wire_http.specs.Connection.{buffered_of, deferred_of, has_ended, holds_back, left_of, noted_of, ready_of, IsStepBy, IsStepPart};
+    ghost use Rattle.wire_http.specs.Connection.{buffered_of, deferred_of, has_ended, holds_back};
+    ghost use Rattle.wire_http.specs.Connection.{is_waiting, left_of, noted_of, ready_of};
+    ghost use Rattle.wire_http.specs.NextRequest.{FitsIn};
     ghost use Rattle.wire_http.specs.Peek.{IsPeek};
     ghost use Rattle.wire_http.specs.BufferState.{max_buffered};
-    ghost use Rattle.server_base.specs.Calls.{GoesOn};
     ghost use Rattle.server_base.specs.History.{HistoryEvent};
-    ghost use Rattle.server_client.specs.ClientEvents.{ClientRuns, served_client};
 
     /// Creates a client that has sent nothing.
     pub(crate) fn new(alloc: Global, socket: T) -> ClientIo<T>
@@ -136,11 +138,11 @@ impl<T: ClientSocket> ClientIo<T> {
         sendable.saturating_add(self.connection.deferred().len())
     }
 
-    /// Returns true if a response is deferred.
+    /// Returns true if a response is deferred. No request is answered meanwhile.
     pub(crate) fn holds_back(&self) -> bool
-        ensures { result ≡ holds_back (connection_of self.now) }
+        ensures { result ≡ is_waiting (connection_of self.now) }
     {
-        self.connection.has_deferred()
+        self.connection.is_waiting()
     }
 
     /// Returns the size of the deferred response in bytes.
@@ -263,7 +265,48 @@ impl<T: ClientSocket> ClientIo<T> {
         if waits {
             return;
         }
-        self.connection.release_deferred();
+        self.connection.release();
+    }
+
+    // Makes the call of the next request at this time, and drafts its response. Releases it, unless
+    // changes are pending before the call or after it.
+    fn call<S: GroupCommit + Drop>(
+        &mut self,
+        context: RequestContext<'_>,
+        service: &mut Service<S>,
+        moment: u64,
+        next: NextRequest,
+    ) -> Result<(), StreamFault>
+        requires none_waits { is_waiting (connection_of self.old) ≡ false }
+        requires fits { FitsIn (buffered_of (connection_of self.old)) next }
+        ensures calls { OnOk result (CallsNext S.Space service.old service.new moment next
+            (connection_of self.old) (connection_of self.new) context.entry.explaining
+            (S.GroupCommit.is_pending (space_of service.old)
+            || S.GroupCommit.is_pending (space_of service.new))) }
+        ensures memory { IfErr result (λ fault. fault ≡ StreamFault.Memory) }
+        ensures lost { OnErr result (LosesCall S.Space service.old service.new moment next
+            (connection_of self.old) (connection_of self.new)) }
+        ensures same { self.new ≡ record self.old { connection = connection_of self.new } }
+        ensures stays { Stays S.Space service.old service.new }
+    {
+        let waited = service.has_pending();
+        let reply = service.call(context.alloc, moment, next.call());
+        let waits = service.has_pending();
+        let texts = self.connection.texts_for_reply(
+            context.alloc,
+            context.explaining,
+            context.routes,
+            &next,
+            moment,
+            &reply,
+        );
+        match self.connection.draft(context.alloc, next, texts, &reply) {
+            Ok(()) => {
+                self.release_unless(waited, waits);
+                Ok(())
+            }
+            Err(_) => Err(StreamFault::Memory),
+        }
     }
 
     /// Answers the next request if it is complete, or ends the requests of the connection. Defers
@@ -277,41 +320,32 @@ impl<T: ClientSocket> ClientIo<T> {
         commit: CommitRecord,
     ) -> Result<Step, StreamFault>
         requires open { (client_state T.name self.old).done ≡ false }
-        requires none_back { holds_back (connection_of self.old) ≡ false }
-        ensures step { IfOk result (λ step. (c : Connection)
-            × IsStepBy S.Space M.gives (callers_of context.entry.tokens.now)
-            service.old service.new moments.old moments.new (connection_of self.old) c
-            context.entry.explaining step
-            × ReleasesUnless (S.GroupCommit.is_pending (space_of service.old)
-            || S.GroupCommit.is_pending (space_of service.new))
-            c (connection_of self.new)) }
-        ensures part { IfErr result (IsStepPart S.Space M.gives
-            (callers_of context.entry.tokens.now)
-            service.old service.new moments.old moments.new
-            (connection_of self.old) (connection_of self.new)) }
-        ensures runs { (past : Option (List HistoryEvent))
-            → ClientRuns S.Space S.GroupCommit.own M.Moments context.entry.explaining
-            context.entry.tokens.now commit
-            (served_client service.old moments.old (client_state T.name self.old))
-            (served_client service.new moments.new (client_state T.name self.new)) past past }
-        ensures is_running { GoesOn S.Space S.GroupCommit.own M.Moments
-            (callers_of context.entry.tokens.now)
-            service.old service.new moments.old moments.new }
+        requires none_waits { is_waiting (connection_of self.old) ≡ false }
+        ensures asked { AskedSo S.Space S.GroupCommit.own M.Moments context.entry.explaining
+            context.entry.tokens.now commit T.name service.old service.new moments.old moments.new
+            self.old self.new result }
         ensures stays { Stays S.Space service.old service.new }
     {
-        let waited = service.has_pending();
         self.batch = commit.number();
-        let step = self.connection.advance(
-            context.alloc,
-            context.routes,
-            service,
-            context.tokens,
-            moments,
-            context.explaining,
-        )?;
-        let waits = service.has_pending();
-        self.release_unless(waited, waits);
-        Ok(step)
+        match self
+            .connection
+            .next(context.alloc, context.routes, context.tokens)
+        {
+            Ok(NextStep::NeedsInput) => Ok(Step::NeedsInput),
+            Ok(NextStep::Ended(end)) => Ok(Step::Ended(end)),
+            Ok(NextStep::Request(next)) => {
+                let Ok(moment) = moments.next() else {
+                    self.connection.abort();
+                    return Err(StreamFault::Clock);
+                };
+                let left = next.left();
+                match self.call(context, service, moment, next) {
+                    Ok(()) => Ok(Step::Answered(left)),
+                    Err(fault) => Err(fault),
+                }
+            }
+            Err(_) => Err(StreamFault::Memory),
+        }
     }
 
     /// Releases or replaces the deferred response, given the record of its commit. If memory runs
@@ -334,10 +368,10 @@ impl<T: ClientSocket> ClientIo<T> {
         }
         match commit.outcome() {
             Ok(()) => {
-                self.connection.release_deferred();
+                self.connection.release();
                 Ok(())
             }
-            Err(fault) => self.connection.replace_deferred(alloc, &reply_to(fault)),
+            Err(fault) => self.connection.resolve(alloc, &reply_to(fault)),
         }
     }
 

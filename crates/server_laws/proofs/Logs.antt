@@ -18,7 +18,7 @@ use Rattle.wire_http.specs.declared.moments.Moments as moments
 use Rattle.wire_http.specs.Connection.{slot_for}
 use Rattle.wire_http.specs.Count.{max_count}
 use Rattle.wire_http.specs.DeferredResponse.{text_at}
-use Rattle.wire_http.specs.Many.{AnyMoment}
+use Rattle.wire_http.specs.Moments.{AnyMoment}
 use Rattle.wire_http.specs.Text.{end_texts}
 use Rattle.wire_http.specs.Wire.{AsksCall, RequestCall, left_after}
 use Rattle.server_client.specs.declared.commit_record.CommitRecord.{CommitRecord}

@@ -1,4 +1,7 @@
 //! Commands, and the arguments of the program.
+use hex::FromHex;
+use pool_chain::chain::Chain;
+use pool_chain::link::Link;
 use pool_etcd::settings::{EtcdSettings, POLICY, User, settings_number};
 use std::alloc::{AllocError, Global};
 use std::net::SocketAddr;
@@ -69,6 +72,21 @@ fn pool_at(words: &[String], index: usize) -> Option<Option<u64>> {
     }
 }
 
+// Returns the chain behind the link in two arguments, or that over no changes if there are none. It
+// keeps no earlier digests.
+fn chain_at(alloc: Global, words: &[String], index: usize) -> Result<Chain, AllocError> {
+    let (Some(count), Some(digest)) = (words.get(index), words.get(index + 1)) else {
+        return Ok(Chain::new(alloc));
+    };
+    match (
+        count.as_str().parse::<u64>(),
+        <[u8; 32] as FromHex>::from_hex(digest.as_str()),
+    ) {
+        (Ok(count), Ok(digest)) => Ok(Chain::behind(alloc, Link { count, digest })),
+        _ => Ok(Chain::new(alloc)),
+    }
+}
+
 /// Returns the settings that the arguments give.
 pub(crate) fn settings_of(
     alloc: Global,
@@ -94,7 +112,7 @@ pub(crate) fn settings_of(
     let (Some(policy), Some(pool)) = (policy, pool_at(words, 8)) else {
         return Ok(None);
     };
-    let user = match (words.get(9), words.get(10)) {
+    let user = match (words.get(11), words.get(12)) {
         (Some(name), Some(password)) => Some(User {
             name: name.clone()?,
             password: password.clone()?,
@@ -108,6 +126,7 @@ pub(crate) fn settings_of(
         number,
         revision,
         count,
+        chain: chain_at(alloc, words, 9)?,
         agreed: settings_number(alloc, policy, 0, salt)?,
         pool,
     }))

@@ -127,6 +127,18 @@ impl<'a> Instance<'a> {
             println!(self.rt; "end {} {}", end.question, end.count)?;
             self.open_questions = self.open_questions.saturating_sub(1);
         }
+        for _ in 0..u64::MAX {
+            let Some(difference) = self.log.take_difference() else {
+                break;
+            };
+            let name = str::from_utf8(difference.name()).unwrap_or("?");
+            let kind = if difference.own.is_some() {
+                "differs"
+            } else {
+                "ahead"
+            };
+            println!(self.rt; "{kind} {name} {}", difference.link.count)?;
+        }
         for _ in 0..2 {
             if let Some(EndpointFault { fault, .. }) = self.log.take_fault() {
                 self.print_fault(fault)?;

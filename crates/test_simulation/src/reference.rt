@@ -9,7 +9,7 @@ use service_step::reply::Reply;
 use space_memory::memory::MemorySpace;
 use std::alloc::{AllocError, Global};
 use token_conf::token_table::TokenTable;
-use wire_http::{Connection, Explaining, FixedClock, Step};
+use wire_http::{Connection, Explaining, NextStep};
 use wire_route::routes::Routes;
 
 /// The plain policy, with one connection for each client.
@@ -47,16 +47,18 @@ fn advance(
     moment: u64,
     explaining: Explaining,
 ) -> Option<()> {
-    if connection.is_done() || connection.has_deferred() {
+    if connection.is_done() || connection.is_waiting() {
         return None;
     }
-    let mut clock = FixedClock::new(moment);
-    let step = connection
-        .advance(alloc, routes, service, tokens, &mut clock, explaining)
-        .ok()?;
-    match step {
-        Step::NeedsInput => None,
-        Step::Answered(_) | Step::Ended(_) => Some(()),
+    match connection.next(alloc, routes, tokens) {
+        Ok(NextStep::Request(next)) => {
+            let reply = service.call(alloc, moment, next.call());
+            let texts =
+                connection.texts_for_reply(alloc, explaining, routes, &next, moment, &reply);
+            connection.draft(alloc, next, texts, &reply).ok()
+        }
+        Ok(NextStep::Ended(_)) => Some(()),
+        Ok(NextStep::NeedsInput) | Err(_) => None,
     }
 }
 
@@ -145,10 +147,10 @@ impl<'a> Reference<'a> {
         self.make(name, answered, executed)?;
         let connection = self.connections.get_mut(name)?;
         if executed {
-            connection.release_deferred();
+            connection.release();
             return Some(());
         }
-        connection.replace_deferred(self.alloc, &Reply::Fault).ok()
+        connection.resolve(self.alloc, &Reply::Fault).ok()
     }
 
     /// Returns the name of the client of a connection.

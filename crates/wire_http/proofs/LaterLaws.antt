@@ -6,7 +6,7 @@ use Rattle.std.proofs.lemmas.List.{append-nil, drop-drop}
 use Rattle.httparse.specs.declared.spans.HeaderSpan.{HeaderSpan}
 use Rattle.httparse.specs.declared.spans.RequestSpans.{RequestSpans}
 use Rattle.httparse.specs.Grammar.{RequestHead, print_request}
-use Rattle.httparse.specs.Spans.{header_bytes, span_bytes}
+use Rattle.httparse.specs.Spans.{header_bytes}
 use Rattle.policy_core.specs.declared.call.OpKind.{OpKind}
 use Rattle.token_conf.specs.TokenFile.{Callers}
 use Rattle.wire_head.specs.Close.{closes_by}

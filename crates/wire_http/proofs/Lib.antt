@@ -4,9 +4,10 @@ pub mod DeferredLaws
 pub mod BufferedLaws
 pub mod KnownBytes
 pub mod LaterLaws
-pub mod ManyLaws
 pub mod NextLaws
 pub mod PeekLaws
+pub mod Outcomes
+pub mod Requests
 pub mod SourceLaws
 pub mod StepLaws
 pub mod StopLaws
@@ -14,6 +15,5 @@ pub mod StreamLaws
 pub mod StreamUnique
 pub mod Told
 pub mod TurnLaws
-pub mod TurnsLaws
 pub mod Unread
 pub mod Written

@@ -1,5 +1,5 @@
 -- Lemmas: what the buffered bytes give next, and whose request it is.
-use Rattle.std.proofs.Common.{◌≡◌, ℕ, zero, suc, ◌++◌, List, [], length, take, drop, map, Bool, Option, refl, sym, subst, ◌∙◌, ap, arith}
+use Rattle.std.proofs.Common.{◌≡◌, ℕ, zero, suc, List, [], length, take, drop, map, Bool, Option, refl, sym, subst, ◌∙◌, ap, arith}
 use Rattle.std.specs.Prelude.{min}
 use Rattle.std.proofs.lemmas.List.{append-nil}
 use Rattle.httparse.specs.declared.spans.HeaderSpan.{HeaderSpan}

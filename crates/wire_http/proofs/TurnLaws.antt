@@ -47,7 +47,7 @@ known_next : (ahead buffer : List ℕ) (fields : List HeaderSpan) (n m : Next) �
 known_next ahead buffer fields n m e h = subst (λ (v : Next). IsNext ahead buffer fields v) e h
 
 -- The unread bytes after a request.
-unread_next : (b : List ℕ) (buffer rest left : List ℕ) (h : RequestHead) (len size : ℕ) → rest ≡ buffer ++ b → len ≡ length (print_request h)
+pub unread_next : (b : List ℕ) (buffer rest left : List ℕ) (h : RequestHead) (len size : ℕ) → rest ≡ buffer ++ b → len ≡ length (print_request h)
     → len + size ≤ length buffer → left ≡ drop (len + size) buffer
     → left ++ b ≡ drop (length (body_at buffer len size)) (after h rest)
 unread_next b buffer rest left h len size e l fits d =

@@ -1,10 +1,11 @@
 -- The state of one connection, and the effect of a step.
-use Rattle.std.specs.Prelude.{◌≡◌, ◌<◌, ◌≤◌, ◌-◌, ℕ, Bool, true, false, List, [], ◌++◌, length, drop, Option, Some, is_some, option_map}
+use Rattle.std.specs.Prelude.{◌≡◌, ◌<◌, ◌≤◌, ◌-◌, ◌||◌, ℕ, Bool, true, false, List, [], ◌++◌, length, drop, Option, Some, is_some, option_map}
 use Rattle.std.specs.List.{concat}
 use Rattle.space_core.specs.declared.space.Space.{Ghosts}
 use Rattle.service_calls.specs.declared.service.Service.{Service}
 use Rattle.token_conf.specs.TokenFile.{Callers}
 use Rattle.wire_http.specs.declared.connection.Connection.{Connection}
+use Rattle.wire_http.specs.declared.connection.awaited.Awaited.{Awaited}
 use Rattle.wire_http.specs.declared.connection.Step.{Step}
 use Rattle.wire_http.specs.declared.connection.Step.TheVariants as steps
 use Rattle.wire_http.specs.declared.explaining.Explaining.{Explaining}
@@ -49,6 +50,15 @@ holds_back c = is_some c.deferred_response
 
 abbrev pub slot_of : Connection → Option Slot
 slot_of c = option_map slot_at c.deferred_response
+
+-- The request that waits for its reply, if one does.
+abbrev pub awaited_of : Connection → Option Awaited
+awaited_of c = c.awaited
+
+-- Returns true if a response is deferred, or a request waits for its reply. No request is answered
+-- meanwhile.
+abbrev pub is_waiting : Connection → Bool
+is_waiting c = holds_back c || is_some c.awaited
 
 -- The unsent bytes that may be sent, and the deferred ones.
 abbrev pub ready_of : Connection → List ℕ

@@ -88,15 +88,19 @@ noted_after ends.End noted = noted
 noted_after ends.Cut noted = noted
 noted_after ends.Close noted = noted
 
--- The same request, with that reply delivered.
-abbrev pub told_as : Reply → Option RequestInfo → Option RequestInfo
-told_as reply None = None
-told_as reply (Some noted) = Some (record {
+-- The same request, with that outcome.
+abbrev pub recorded_as : Outcome → Option RequestInfo → Option RequestInfo
+recorded_as outcome None = None
+recorded_as outcome (Some noted) = Some (record {
   operation = noted.operation;
   supplier = noted.supplier;
   entity = noted.entity;
-  outcome = outcome_of reply;
+  outcome = outcome;
 })
+
+-- The same request, with that reply delivered.
+abbrev pub told_as : Reply → Option RequestInfo → Option RequestInfo
+told_as reply noted = recorded_as (outcome_of reply) noted
 
 -- The same if a response was deferred, otherwise what was recorded before.
 abbrev pub noted_instead : Option Slot → Reply → Option RequestInfo → Option RequestInfo

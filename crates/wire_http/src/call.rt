@@ -75,14 +75,14 @@ pub(crate) fn entity_named(kind: OpKind, words: &PathWords<'_>) -> Option<Entity
     }
 }
 
-// What a path, a method and a body give: the endpoint of the path, the kind of operation of the
-// method there, the entity or subscription that they name, and the call.
+/// What a path, a method and a body give: the endpoint of the path, the kind of operation of the
+/// method there, the entity or subscription that they name, and the call that is made.
 #[derive(Drop)]
-struct RoutedOperation {
-    endpoint: Option<Endpoint>,
-    kind: Option<OpKind>,
-    entity: Option<EntityId>,
-    call: Call,
+pub(crate) struct RoutedOperation {
+    pub(crate) endpoint: Option<Endpoint>,
+    pub(crate) kind: Option<OpKind>,
+    pub(crate) entity: Option<EntityId>,
+    pub(crate) call: Call,
 }
 
 // Returns what path, method and body of a caller's request give.
@@ -192,6 +192,35 @@ pub(crate) struct RoutedCall {
     pub(crate) call: Call,
 }
 
+/// Returns what a request gives, with the call that is made for it.
+pub(crate) fn route(
+    alloc: Global,
+    routes: &Routes,
+    tokens: &TokenTable,
+    received: Received<'_>,
+) -> Result<RoutedOperation, AllocError>
+    requires { IsReceived received }
+    ensures made { IfOk result (λ p.
+        IsMadeForOne (callers_of tokens.now) received.entry p.endpoint p.call) }
+    ensures kind { IfOk result (λ p. IsKindIn received.entry p.endpoint p.kind) }
+    ensures entity { IfOk result (λ p. IsNamedIn received.entry p.endpoint p.entity) }
+{
+    let Received {
+        buffer,
+        fields,
+        spans,
+        size,
+    } = received;
+    let Ok(target) = str::from_utf8(spans.path.of(buffer)) else {
+        unreachable!();
+    };
+    let path = path_of(target);
+    let body = &buffer[spans.len..spans.len + size];
+    let caller = caller_of(tokens, buffer, &fields[..spans.headers])?;
+    let routed = seek(alloc, routes, path, spans.method.of(buffer), body, caller)?;
+    Ok(routed)
+}
+
 // Returns the call that is made for a request at a time.
 fn call_of(
     alloc: Global,
@@ -207,24 +236,12 @@ fn call_of(
     ensures entity { IfOk result (λ p. IsNamedIn received.entry p.endpoint p.entity) }
     ensures moment { IfOk result (λ p. p.moment ≡ moment) }
 {
-    let Received {
-        buffer,
-        fields,
-        spans,
-        size,
-    } = received;
-    let Ok(target) = str::from_utf8(spans.path.of(buffer)) else {
-        unreachable!();
-    };
-    let path = path_of(target);
-    let body = &buffer[spans.len..spans.len + size];
-    let caller = caller_of(tokens, buffer, &fields[..spans.headers])?;
     let RoutedOperation {
         endpoint,
         kind,
         entity,
         call,
-    } = seek(alloc, routes, path, spans.method.of(buffer), body, caller)?;
+    } = route(alloc, routes, tokens, received)?;
     Ok(RoutedCall {
         endpoint,
         kind,

@@ -1,42 +1,35 @@
 //! One connection, as steps over bytes. It makes no system call: the caller moves the bytes.
-ghost use Rattle.std.specs.Prelude.{◌≡◌, ◌<◌, ◌≤◌, ◌+◌, ◌-◌, length, drop, take, Some};
-ghost use Rattle.std.specs.Prelude.{◌++◌, IfOk, OnOk, OnErr, map, string_bytes, vec_len, vec_capacity};
+ghost use Rattle.std.specs.Prelude.{◌≡◌, ◌<◌, ◌≤◌, ◌+◌, ◌-◌, length, drop, Some};
+ghost use Rattle.std.specs.Prelude.{◌++◌, OnOk, OnErr, map, string_bytes, vec_len, vec_capacity};
 ghost use Rattle.std.specs.List.{concat};
 ghost use Rattle.std.specs.Option.{ForSome};
-ghost use Rattle.service_calls.specs.Held.{Stays};
 ghost use Rattle.token_conf.specs.TokenFile.{callers_of};
-ghost use Rattle.wire_http.specs.BufferState.{HasNoneBelow, HasNoRequest, BufferedFits, IsHeld, IsLight, max_buffered};
+ghost use Rattle.wire_http.specs.BufferState.{HasNoneBelow, HasNoRequest, IsLight, max_buffered};
 ghost use Rattle.wire_http.specs.DeferredResponse.{StandsWithin};
 ghost use Rattle.wire_http.specs.Peek.{IsPartPeek};
-ghost use Rattle.wire_http.specs.Received.{IsReceived};
-ghost use Rattle.wire_http.specs.RequestInfo.{outcome_of};
-ghost use Rattle.wire_http.specs.Reply.{Replies, RepliesPart};
 ghost use Rattle.wire_http.specs.Text.{noted_text, response_text, end_texts};
 
+pub(crate) mod awaited;
 mod later;
+mod next;
+mod outcomes;
 
 use crate::buffered::{BufferState, HEAD_LIMIT, next_buffered};
-use crate::call::{Received, RoutedCall, ask, find_caller, left_after};
+use crate::call::find_caller;
+use crate::connection::awaited::Awaited;
 use crate::end::End;
-use crate::explaining::Explaining;
-use crate::fault::StreamFault;
-use crate::moments::Moments;
-use crate::notes::notes_on;
 use crate::request::Next;
-use crate::request_info::{Outcome, RequestInfo, info_for, outcome_of, record_end, record_reply};
+use crate::request_info::{RequestInfo, record_reply};
 use crate::serve::REQUESTS;
-use crate::source::shift;
 use crate::text::{noted_text, response_text, rule_text};
-use httparse::spans::{EMPTY_HEADER_SPAN, HeaderSpan, RequestSpans};
+use httparse::spans::{EMPTY_HEADER_SPAN, HeaderSpan};
+pub use next::{NextRequest, NextStep};
 use policy_core::scope::Caller;
-use service_calls::service::Service;
 use service_step::reply::Reply;
-use space_core::space::Space;
 use std::alloc::{AllocError, Global};
 use token_conf::token_table::TokenTable;
 use wire_head::rest::{FIELD_LIMIT, PartialHead, head_so_far};
 use wire_route::endpoint::Endpoint;
-use wire_route::routes::Routes;
 
 // The maximum number of buffered bytes: those of a head and a body.
 const MAX_BUFFERED: usize = 1_056_768;
@@ -44,7 +37,7 @@ const MAX_BUFFERED: usize = 1_056_768;
 // The maximum memory of an empty buffer, in bytes.
 const MAX_RETAINED: usize = 65_536;
 
-/// The effect of one step of a connection.
+/// What became of a connection in one step.
 #[derive(Clone, Copy, Debug, PartialEq, Eq)]
 pub enum Step {
     /// Nothing was done: no request is complete, and more input may arrive.
@@ -139,48 +132,6 @@ fn noted_behind(
     }
 }
 
-// Makes a call once, appends the text of the response to the output, and returns its outcome.
-fn reply_behind<S: Space + Drop>(
-    alloc: Global,
-    service: &mut Service<S>,
-    output: &mut Vec<u8>,
-    routes: &Routes,
-    received: Received<'_>,
-    explaining: Explaining,
-    pending: &RoutedCall,
-    closing: bool,
-) -> Result<Outcome, AllocError>
-    requires received { IsReceived received }
-    requires light { IsLight (vec_len output.old) (vec_capacity output.old) }
-    ensures replies { IfOk result (λ outcome. (made : Replies explaining S.Space
-        service.old service.new pending.now.moment pending.now.call pending.now.endpoint closing
-        (Some output.old.items) (Some output.new.items))
-        × (outcome ≡ outcome_of made.reply)) }
-    ensures part { OnErr result (RepliesPart S.Space service.old service.new
-        pending.now.moment pending.now.call pending.now.endpoint closing
-        (Some output.old.items) (Some output.new.items)) }
-    ensures stays { Stays S.Space service.old service.new }
-    ensures same { OnErr result (output.new.items ≡ output.old.items) }
-    ensures grows { length output.old.items ≤ length output.new.items }
-    ensures light { IsLight (vec_len output.new) (vec_capacity output.new) }
-{
-    let reply = service.call(alloc, pending.moment, &pending.call);
-    let notes = notes_on(
-        alloc,
-        explaining,
-        routes,
-        received,
-        pending.kind,
-        pending.moment,
-        &reply,
-    );
-    let texts = notes.as_slice();
-    match noted_behind(alloc, output, texts, pending.endpoint, closing, &reply) {
-        Ok(()) => Ok(outcome_of(&reply)),
-        Err(_) => Err(AllocError),
-    }
-}
-
 // Appends the text after the responses at the end of a stream: that of a protocol rule.
 fn end_behind(alloc: Global, output: &mut Vec<u8>, end: End) -> Result<(), AllocError>
     requires light { IsLight (vec_len output.old) (vec_capacity output.old) }
@@ -218,7 +169,7 @@ fn peek_head<'t>(tokens: &'t TokenTable, held: &[u8], fields: &mut [HeaderSpan])
 // The deferred response, the last of all: where its text begins, the endpoint of its request, and
 // whether the connection closes after it.
 #[derive(Clone, Copy)]
-struct DeferredResponse {
+pub(crate) struct DeferredResponse {
     start: usize,
     endpoint: Option<Endpoint>,
     closing: bool,
@@ -240,6 +191,7 @@ pub struct Connection {
     answers: Vec<u8>,
     sent: usize,
     deferred_response: Option<DeferredResponse>,
+    awaited: Option<Awaited>,
     noted: Option<RequestInfo>,
     ghost held_fits: { length held.items ≤ max_buffered },
     ghost wanted_fits: { wanted ≤ max_buffered },
@@ -252,15 +204,14 @@ pub struct Connection {
 }
 
 impl Connection {
-    ghost use Rattle.std.specs.Prelude.{[], true, false, min, IsTrue, ◌↔◌, Err, IfErr};
+    ghost use Rattle.std.specs.Prelude.{[], true, false, min, IsTrue, ◌↔◌, Err};
     ghost use Rattle.std.specs.Prelude.{None, option_map};
     ghost use Rattle.wire_http.specs.Peek.{IsPeek};
     ghost use Rattle.wire_http.specs.Connection.{buffered_of, left_of, has_ended, is_done};
-    ghost use Rattle.wire_http.specs.Connection.{output_of, ready_of, deferred_of};
-    ghost use Rattle.wire_http.specs.Connection.{holds_back, slot_of, noted_of, HasRoom};
-    ghost use Rattle.wire_http.specs.Connection.{IsStepBy, IsNotedStep, IsStepPart};
+    ghost use Rattle.wire_http.specs.Connection.{awaited_of, output_of, ready_of, deferred_of};
+    ghost use Rattle.wire_http.specs.Connection.{holds_back, is_waiting, slot_of, noted_of, HasRoom};
+    ghost use Rattle.wire_http.specs.NextRequest.{IsStopped};
     ghost use Rattle.wire_http.specs.DeferredResponse.{text_at};
-    ghost use Rattle.wire_http.specs.Count.{one_more};
     ghost use Rattle.wire_http.specs.RequestInfo.{noted_instead};
 
     /// Creates a connection from which nothing was received. Allocates nothing.
@@ -271,6 +222,7 @@ impl Connection {
         ensures ended { has_ended result ≡ false }
         ensures done { is_done result ≡ false }
         ensures slot { slot_of result ≡ None }
+        ensures awaited { awaited_of result ≡ None }
         ensures noted { noted_of result ≡ None }
     {
         Connection {
@@ -282,6 +234,7 @@ impl Connection {
             answers: Vec::new(alloc),
             sent: 0,
             deferred_response: None,
+            awaited: None,
             noted: None,
         }
     }
@@ -335,6 +288,7 @@ impl Connection {
         ensures output { output_of self.new ≡ output_of self.old }
         ensures ready { ready_of self.new ≡ ready_of self.old }
         ensures slot { slot_of self.new ≡ slot_of self.old }
+        ensures awaited { awaited_of self.new ≡ awaited_of self.old }
         ensures left { left_of self.new ≡ left_of self.old }
         ensures ended { has_ended self.new ≡ has_ended self.old }
         ensures done { is_done self.new ≡ is_done self.old }
@@ -352,6 +306,7 @@ impl Connection {
         ensures output { output_of self.new ≡ output_of self.old }
         ensures ready { ready_of self.new ≡ ready_of self.old }
         ensures slot { slot_of self.new ≡ slot_of self.old }
+        ensures awaited { awaited_of self.new ≡ awaited_of self.old }
         ensures left { left_of self.new ≡ left_of self.old }
         ensures ended { has_ended self.new ≡ true }
         ensures done { is_done self.new ≡ is_done self.old }
@@ -367,6 +322,7 @@ impl Connection {
         ensures output { output_of self.new ≡ output_of self.old }
         ensures ready { ready_of self.new ≡ ready_of self.old }
         ensures slot { slot_of self.new ≡ slot_of self.old }
+        ensures awaited { awaited_of self.new ≡ awaited_of self.old }
         ensures left { left_of self.new ≡ min (left_of self.old) 1 }
         ensures ended { has_ended self.new ≡ has_ended self.old }
         ensures done { is_done self.new ≡ is_done self.old }
@@ -399,6 +355,7 @@ impl Connection {
         ensures output { output_of self.new ≡ drop count (output_of self.old) }
         ensures ready { ready_of self.new ≡ drop count (ready_of self.old) }
         ensures slot { slot_of self.new ≡ slot_of self.old }
+        ensures awaited { awaited_of self.new ≡ awaited_of self.old }
         ensures left { left_of self.new ≡ left_of self.old }
         ensures ended { has_ended self.new ≡ has_ended self.old }
         ensures done { is_done self.new ≡ is_done self.old }
@@ -420,6 +377,13 @@ impl Connection {
         self.deferred_response.is_some()
     }
 
+    /// Returns true if a response is deferred, or a request waits for its reply.
+    pub fn is_waiting(&self) -> bool
+        ensures { result ≡ is_waiting self.now }
+    {
+        self.deferred_response.is_some() || self.awaited.is_some()
+    }
+
     /// Returns the deferred response, or no bytes if none is deferred.
     pub fn deferred(&self) -> &[u8]
         ensures { result.now ≡ deferred_of self.now }
@@ -430,12 +394,20 @@ impl Connection {
         }
     }
 
+    /// Answers no more requests.
+    pub fn abort(&mut self)
+        ensures { IsStopped self.old self.new }
+    {
+        self.done = true;
+    }
+
     /// Releases the deferred response for sending.
-    pub fn release_deferred(&mut self)
+    pub fn release(&mut self)
         ensures held { buffered_of self.new ≡ buffered_of self.old }
         ensures output { output_of self.new ≡ output_of self.old }
         ensures ready { ready_of self.new ≡ output_of self.old }
         ensures slot { slot_of self.new ≡ None }
+        ensures awaited { awaited_of self.new ≡ awaited_of self.old }
         ensures left { left_of self.new ≡ left_of self.old }
         ensures ended { has_ended self.new ≡ has_ended self.old }
         ensures done { is_done self.new ≡ is_done self.old }
@@ -444,16 +416,16 @@ impl Connection {
         self.deferred_response = None;
     }
 
-    /// Replaces the deferred response by the response to this reply, and releases it.
-    ///
-    /// If memory runs out, no byte of either is sent, and no more requests are answered.
-    pub fn replace_deferred(&mut self, alloc: Global, reply: &Reply) -> Result<(), AllocError>
+    // Replaces the deferred response by the response to this reply, and releases it. If memory runs
+    // out, no byte of either is sent, and no more requests are answered.
+    fn replace_deferred(&mut self, alloc: Global, reply: &Reply) -> Result<(), AllocError>
         ensures held { buffered_of self.new ≡ buffered_of self.old }
         ensures output { OnOk result
             (output_of self.new ≡ ready_of self.old ++ text_at (slot_of self.old) reply.now) }
         ensures dropped { OnErr result (output_of self.new ≡ ready_of self.old) }
         ensures ready { ready_of self.new ≡ output_of self.new }
         ensures slot { slot_of self.new ≡ None }
+        ensures awaited { awaited_of self.new ≡ awaited_of self.old }
         ensures left { left_of self.new ≡ left_of self.old }
         ensures ended { has_ended self.new ≡ has_ended self.old }
         ensures done { OnOk result (is_done self.new ≡ is_done self.old) }
@@ -477,80 +449,6 @@ impl Connection {
         }
     }
 
-    // Answers the first buffered request.
-    fn answer_first<S: Space + Drop, M: Moments>(
-        &mut self,
-        alloc: Global,
-        routes: &Routes,
-        service: &mut Service<S>,
-        tokens: &TokenTable,
-        moments: &mut M,
-        explaining: Explaining,
-        fields: &[HeaderSpan],
-        spans: RequestSpans,
-        size: usize,
-    ) -> Result<Step, StreamFault>
-        requires none_back { holds_back self.old ≡ false }
-        requires some { 0 < left_of self.old }
-        requires held { IsHeld (buffered_of self.old) (has_ended self.old) fields.now
-            (BufferState.Gives (Next.Request spans size)) }
-        requires fits { BufferedFits (buffered_of self.old) fields.now
-            (BufferState.Gives (Next.Request spans size)) }
-        ensures step { IfOk result (IsStepBy S.Space M.gives (callers_of tokens.now)
-            service.old service.new moments.old moments.new self.old self.new explaining) }
-        ensures noted { IfOk result (IsNotedStep S.Space M.gives (callers_of tokens.now)
-            service.old service.new moments.old moments.new self.old self.new explaining) }
-        ensures kept { OnErr result (noted_of self.new ≡ noted_of self.old) }
-        ensures part { IfErr result (IsStepPart S.Space M.gives (callers_of tokens.now)
-            service.old service.new moments.old moments.new self.old self.new) }
-        ensures clock { result ≡ Err StreamFault.Clock
-            → M.failures moments.new ≡ one_more (M.failures moments.old) }
-        ensures stays { Stays S.Space service.old service.new }
-    {
-        let received = Received {
-            buffer: self.held.as_slice(),
-            fields,
-            spans,
-            size,
-        };
-        let left = left_after(received, self.left - 1);
-        let pending = match ask(alloc, routes, tokens, moments, received) {
-            Ok(pending) => pending,
-            Err(fault) => {
-                self.done = true;
-                return Err(fault);
-            }
-        };
-        let start = self.answers.len();
-        let outcome = match reply_behind(
-            alloc,
-            service,
-            &mut self.answers,
-            routes,
-            received,
-            explaining,
-            &pending,
-            left == 0,
-        ) {
-            Ok(outcome) => outcome,
-            Err(_) => {
-                self.done = true;
-                return Err(StreamFault::Memory);
-            }
-        };
-        shift(&mut self.held, spans.len + size);
-        shrink(&mut self.held);
-        self.wanted = 0;
-        self.left = left;
-        self.deferred_response = Some(DeferredResponse {
-            start,
-            endpoint: pending.endpoint,
-            closing: left == 0,
-        });
-        self.noted = Some(info_for(pending, outcome));
-        Ok(Step::Answered(left))
-    }
-
     /// Returns what the buffered bytes give next, with the caller of the next request. The next
     /// step is the same as without this call.
     pub fn peek<'t>(&mut self, tokens: &'t TokenTable) -> Peeked<'t>
@@ -560,6 +458,7 @@ impl Connection {
         ensures output { output_of self.new ≡ output_of self.old }
         ensures ready { ready_of self.new ≡ ready_of self.old }
         ensures slot { slot_of self.new ≡ slot_of self.old }
+        ensures awaited { awaited_of self.new ≡ awaited_of self.old }
         ensures left { left_of self.new ≡ left_of self.old }
         ensures ended { has_ended self.new ≡ has_ended self.old }
         ensures done { is_done self.new ≡ is_done self.old }
@@ -582,67 +481,6 @@ impl Connection {
                 let peeked = peek_head(tokens, held, &mut fields);
                 self.wanted = wanted;
                 peeked
-            }
-        }
-    }
-
-    /// Answers the next request, if it is complete, and defers its response; or ends the stream.
-    ///
-    /// With `Explaining::Off` this is what `serve_stream` does next with the same bytes, without
-    /// reading and writing. With `Explaining::On` only the text of the response can differ.
-    ///
-    /// After a fault no more requests are answered, and nothing was appended to the output. At most
-    /// one call was made whose response is lost; its effect stands.
-    pub fn advance<S: Space + Drop, M: Moments>(
-        &mut self,
-        alloc: Global,
-        routes: &Routes,
-        service: &mut Service<S>,
-        tokens: &TokenTable,
-        moments: &mut M,
-        explaining: Explaining,
-    ) -> Result<Step, StreamFault>
-        requires not_done { is_done self.old ≡ false }
-        requires none_back { holds_back self.old ≡ false }
-        ensures step { IfOk result (IsStepBy S.Space M.gives (callers_of tokens.now)
-            service.old service.new moments.old moments.new self.old self.new explaining) }
-        ensures noted { IfOk result (IsNotedStep S.Space M.gives (callers_of tokens.now)
-            service.old service.new moments.old moments.new self.old self.new explaining) }
-        ensures kept { OnErr result (noted_of self.new ≡ noted_of self.old) }
-        ensures part { IfErr result (IsStepPart S.Space M.gives (callers_of tokens.now)
-            service.old service.new moments.old moments.new self.old self.new) }
-        ensures clock { result ≡ Err StreamFault.Clock
-            → M.failures moments.new ≡ one_more (M.failures moments.old) }
-        ensures stays { Stays S.Space service.old service.new }
-    {
-        if self.left == 0 {
-            self.done = true;
-            return Ok(Step::Ended(End::Close));
-        }
-        // An earlier parse of these bytes determined that too few are buffered.
-        if !self.ended && self.held.len() < self.wanted {
-            return Ok(Step::NeedsInput);
-        }
-        let mut fields = [EMPTY_HEADER_SPAN; 64];
-        match next_buffered(self.held.as_slice(), self.ended, &mut fields) {
-            BufferState::Gives(Next::Request(spans, size)) => {
-                self.answer_first(
-                    alloc, routes, service, tokens, moments, explaining, &fields, spans, size,
-                )
-            }
-            BufferState::Gives(Next::Stop(end)) => {
-                self.done = true;
-                match end_behind(alloc, &mut self.answers, end) {
-                    Ok(()) => {
-                        record_end(&mut self.noted, end);
-                        Ok(Step::Ended(end))
-                    }
-                    Err(_) => Err(StreamFault::Memory),
-                }
-            }
-            BufferState::Wants(count) => {
-                self.wanted = count;
-                Ok(Step::NeedsInput)
             }
         }
     }

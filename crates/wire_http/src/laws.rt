@@ -1,5 +1,5 @@
 //! Laws of the calls that the bytes of a stream represent.
-ghost use Rattle.std.specs.Prelude.{◌≡◌, ℕ, Bool, List, [], Option, codes, false};
+ghost use Rattle.std.specs.Prelude.{◌≡◌, ◌++◌, ℕ, Bool, List, [], Option, codes, false};
 ghost use Rattle.httparse.specs.Grammar.{RequestHead};
 ghost use Rattle.policy_core.specs.declared.call.Call.{Call};
 ghost use Rattle.policy_core.specs.declared.reference.Missing.{Missing};
@@ -8,8 +8,12 @@ ghost use Rattle.service_step.specs.declared.reply.Reply.{Reply};
 ghost use Rattle.token_conf.specs.TokenFile.{Callers};
 ghost use Rattle.wire_operation.specs.Asked.{IsCallOf};
 ghost use Rattle.wire_http.specs.Later.{OneParts};
+ghost use Rattle.wire_http.specs.Connection.{deferred_of, holds_back, output_of, ready_of};
 ghost use Rattle.wire_http.specs.Laws.{OneStream};
+ghost use Rattle.wire_http.specs.Requests.{DraftIsATurn, EndIsAnEnd, InputIsAwaited, LossIsAPart};
+ghost use Rattle.wire_http.specs.Requests.{NoRequestIsAPart, NoTimeIsAPart};
 ghost use Rattle.service_step.specs.declared.reply.Answer.{Answer};
+ghost use Rattle.wire_http.specs.declared.connection.Connection.{Connection};
 ghost use Rattle.service_step.specs.declared.reply.Reply.TheVariants.{Done, Denied, Fault, Stopped};
 ghost use Rattle.wire_http.specs.Text.{ignored_field, message, noted_text, response_text};
 ghost use Rattle.wire_reply.specs.Answer.{reply_text, status_of};
@@ -20,6 +24,7 @@ ghost use Rattle.wire_reply.specs.Explained.{is_explained};
 ghost use Rattle.wire_route.specs.declared.endpoint.Endpoint.{Endpoint};
 
 use crate::moments::Moments;
+use space_core::space::Space;
 use wire_reply::explained::adds_nothing_else;
 
 /// States that a rest is of only one kind.
@@ -59,6 +64,27 @@ pub fn sample_path()
 /// If the rest breaks the grammar and also has too many fields, either of the two rules is right.
 pub fn one_stream<M: Moments>()
     ensures { OneStream M.gives }
+{}
+
+/// States that a connection does what a stream does. A request that `Connection::next` returned,
+/// whose call was made at the next time of the clock, and whose response `Connection::draft`
+/// deferred, is one turn of a stream. If the response, the time or the request is lost, the turn is
+/// aborted. Without a complete request nothing is done, and an end is that of a stream.
+pub fn requests_are_turns<S: Space, M: Moments>()
+    ensures drafts { (callers : Callers) → DraftIsATurn S.Space M.gives callers }
+    ensures losses { (callers : Callers) → LossIsAPart S.Space M.gives callers }
+    ensures clocks { (callers : Callers) → NoTimeIsAPart S.Space M.gives callers }
+    ensures memory { (callers : Callers) → NoRequestIsAPart S.Space M.gives callers }
+    ensures input { (callers : Callers) → InputIsAwaited S.Space M.gives callers }
+    ensures ends { (callers : Callers) → EndIsAnEnd S.Space M.gives callers }
+{}
+
+/// States that the bytes that may be sent come first among the unsent ones.
+///
+/// They are all unsent bytes if no response is deferred.
+pub fn what_may_be_sent()
+    ensures first { (c : Connection) → ready_of c ++ deferred_of c ≡ output_of c }
+    ensures all { (c : Connection) → holds_back c ≡ false → ready_of c ≡ output_of c }
 {}
 
 /// States what texts add to a response. Without texts it is that of the policy. A denial by another

@@ -5,6 +5,7 @@ ghost use Rattle.wire_http.specs.Received.{IsReceived};
 
 use crate::call::Received;
 use crate::explaining::Explaining;
+use crate::request_parts::RequestParts;
 use policy_core::call::OpKind;
 use service_step::reply::Reply;
 use std::alloc::{AllocError, Global};
@@ -28,9 +29,72 @@ fn lines_of(explanation: Explanation) -> Result<Vec<String>, AllocError> {
 fn explain(
     alloc: Global,
     routes: &Routes,
-    received: Received<'_>,
+    parts: RequestParts<'_>,
     moment: u64,
-) -> Result<Vec<String>, AllocError>
+) -> Result<Vec<String>, AllocError> {
+    let Ok(method) = str::from_utf8(parts.method) else {
+        return Ok(Vec::new(alloc));
+    };
+    let request = Request {
+        method,
+        path: parts.path,
+        body: parts.body,
+        time: Some(moment),
+    };
+    lines_of(explain_request(alloc, routes, &request)?)
+}
+
+// Returns a text that names the ignored members of a successful request, if there are any.
+fn warn(alloc: Global, kind: OpKind, body: &[u8]) -> Result<Vec<String>, AllocError> {
+    let mut notes = Vec::new(alloc);
+    let names = ignored_members(alloc, kind, body)?;
+    if !names.is_empty() {
+        notes.push(names)?;
+    }
+    Ok(notes)
+}
+
+/// Returns the texts of the denial of a request at a time. There are none without the option, and if
+/// memory runs out.
+pub(crate) fn notes_if_denied(
+    alloc: Global,
+    explaining: Explaining,
+    routes: &Routes,
+    parts: RequestParts<'_>,
+    moment: u64,
+) -> Vec<String>
+    ensures { MayBeNotes explaining (map string_bytes result.items) }
+{
+    match explaining {
+        Explaining::Off => Vec::new(alloc),
+        Explaining::On => match explain(alloc, routes, parts, moment) {
+            Ok(notes) => notes,
+            Err(_) => Vec::new(alloc),
+        },
+    }
+}
+
+/// Returns the texts of the success of a request of a kind. There are none without the option, and if
+/// memory runs out.
+pub(crate) fn notes_if_done(
+    alloc: Global,
+    explaining: Explaining,
+    kind: Option<OpKind>,
+    body: &[u8],
+) -> Vec<String>
+    ensures { MayBeNotes explaining (map string_bytes result.items) }
+{
+    match (explaining, kind) {
+        (Explaining::On, Some(kind)) => match warn(alloc, kind, body) {
+            Ok(notes) => notes,
+            Err(_) => Vec::new(alloc),
+        },
+        _ => Vec::new(alloc),
+    }
+}
+
+// Returns the parts of a received request, without its caller.
+fn parts_in<'c>(received: Received<'c>) -> RequestParts<'c>
     requires { IsReceived received }
 {
     let Received {
@@ -40,55 +104,13 @@ fn explain(
         size,
     } = received;
     let Ok(target) = str::from_utf8(spans.path.of(buffer)) else {
-        return Ok(Vec::new(alloc));
+        unreachable!();
     };
-    let Ok(method) = str::from_utf8(spans.method.of(buffer)) else {
-        return Ok(Vec::new(alloc));
-    };
-    let request = Request {
-        method,
+    RequestParts {
+        caller: None,
+        method: spans.method.of(buffer),
         path: path_of(target),
         body: &buffer[spans.len..spans.len + size],
-        time: Some(moment),
-    };
-    lines_of(explain_request(alloc, routes, &request)?)
-}
-
-// Returns a text that names the ignored members of a successful request, if there are any.
-fn warn(alloc: Global, received: Received<'_>, kind: OpKind) -> Result<Vec<String>, AllocError>
-    requires { IsReceived received }
-{
-    let Received {
-        buffer,
-        fields: _,
-        spans,
-        size,
-    } = received;
-    let mut notes = Vec::new(alloc);
-    let names = ignored_members(alloc, kind, &buffer[spans.len..spans.len + size])?;
-    if !names.is_empty() {
-        notes.push(names)?;
-    }
-    Ok(notes)
-}
-
-// Returns the texts for the reply to a request of a kind at a time, with the option.
-fn notes_for(
-    alloc: Global,
-    routes: &Routes,
-    received: Received<'_>,
-    kind: Option<OpKind>,
-    moment: u64,
-    reply: &Reply,
-) -> Result<Vec<String>, AllocError>
-    requires { IsReceived received }
-{
-    match (reply, kind) {
-        (Reply::Denied(rule, _), _) if is_explained(*rule) => {
-            explain(alloc, routes, received, moment)
-        }
-        (Reply::Done(_), Some(kind)) => warn(alloc, received, kind),
-        _ => Ok(Vec::new(alloc)),
     }
 }
 
@@ -108,11 +130,12 @@ pub(crate) fn notes_on(
     requires { IsReceived received }
     ensures { MayBeNotes explaining (map string_bytes result.items) }
 {
-    match explaining {
-        Explaining::Off => Vec::new(alloc),
-        Explaining::On => match notes_for(alloc, routes, received, kind, moment, reply) {
-            Ok(notes) => notes,
-            Err(_) => Vec::new(alloc),
-        },
+    let parts = parts_in(received);
+    match reply {
+        Reply::Denied(rule, _) if is_explained(*rule) => {
+            notes_if_denied(alloc, explaining, routes, parts, moment)
+        }
+        Reply::Done(_) => notes_if_done(alloc, explaining, kind, parts.body),
+        _ => Vec::new(alloc),
     }
 }

@@ -1,8 +1,9 @@
 //! Information about a response, for metrics and logs.
 ghost use Rattle.std.specs.Prelude.{◌≡◌, Some};
-ghost use Rattle.wire_http.specs.RequestInfo.{noted_after, info_for, outcome_of, told_as};
+ghost use Rattle.wire_http.specs.RequestInfo.{noted_after, info_for, outcome_of};
+ghost use Rattle.wire_http.specs.RequestInfo.{recorded_as, supplier_of, told_as};
 
-use crate::call::RoutedCall;
+use crate::call::RoutedOperation;
 use crate::end::End;
 use entity_core::entity_id::EntityId;
 use entity_core::uss_id::UssId;
@@ -53,25 +54,30 @@ pub(crate) fn outcome_of(reply: &Reply) -> Outcome
     }
 }
 
-/// Returns the information about a call with this outcome.
-pub(crate) fn info_for(pending: RoutedCall, outcome: Outcome) -> RequestInfo
-    ensures { result ≡ info_for pending.kind pending.call pending.entity outcome }
+/// Returns the USS of a caller.
+pub(crate) fn supplier_of(call: Call) -> Option<UssId>
+    ensures { result ≡ supplier_of call }
 {
-    let RoutedCall {
+    let Call { caller, op: _ } = call;
+    match caller {
+        Some(Caller { uss, scopes: _ }) => Some(uss),
+        None => None,
+    }
+}
+
+/// Returns the information about a routed operation with this outcome.
+pub(crate) fn info_of(routed: RoutedOperation, outcome: Outcome) -> RequestInfo
+    ensures { result ≡ info_for routed.kind routed.call routed.entity outcome }
+{
+    let RoutedOperation {
         endpoint: _,
         kind,
         entity,
-        moment: _,
         call,
-    } = pending;
-    let Call { caller, op: _ } = call;
-    let supplier = match caller {
-        Some(Caller { uss, scopes: _ }) => Some(uss),
-        None => None,
-    };
+    } = routed;
     RequestInfo {
         operation: kind,
-        supplier,
+        supplier: supplier_of(call),
         entity,
         outcome,
     }
@@ -91,11 +97,18 @@ pub(crate) fn record_end(noted: &mut Option<RequestInfo>, end: End)
     }
 }
 
+/// Records that the request has this outcome instead of another.
+pub(crate) fn record_outcome(noted: &mut Option<RequestInfo>, outcome: Outcome)
+    ensures { noted.new ≡ recorded_as outcome noted.old }
+{
+    if let Some(noted) = noted {
+        noted.outcome = outcome;
+    }
+}
+
 /// Records that this reply is delivered instead of another.
 pub(crate) fn record_reply(noted: &mut Option<RequestInfo>, reply: &Reply)
     ensures { noted.new ≡ told_as reply.now noted.old }
 {
-    if let Some(noted) = noted {
-        noted.outcome = outcome_of(reply);
-    }
+    record_outcome(noted, outcome_of(reply));
 }

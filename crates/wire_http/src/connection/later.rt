@@ -5,6 +5,7 @@ ghost use Rattle.std.specs.Prelude.{vec_len, vec_capacity};
 ghost use Rattle.token_conf.specs.TokenFile.{callers_of};
 ghost use Rattle.wire_http.specs.BufferState.{BufferedFits, IsHeld, IsLight};
 ghost use Rattle.wire_http.specs.Later.{AreParts, IsAppended, outcome_in};
+ghost use Rattle.wire_http.specs.Later.{outcome_without};
 ghost use Rattle.wire_http.specs.Next.{NextFits, body_at};
 ghost use Rattle.wire_http.specs.Notes.{IsWritten};
 ghost use Rattle.wire_http.specs.Received.{IsReceived};
@@ -41,15 +42,23 @@ enum Response<'r> {
     Unreplied(Unavailable),
 }
 
+/// Returns the recorded outcome of a request without a reply.
+pub(crate) fn outcome_without(reason: Unavailable) -> Outcome
+    ensures { result ≡ outcome_without reason }
+{
+    match reason {
+        Unavailable::Unreachable | Unavailable::Unassigned => Outcome::Stopped,
+        Unavailable::Unknown => Outcome::Fault,
+    }
+}
+
 // Returns the outcome that is recorded for a response.
 fn outcome_in(response: Response<'_>) -> Outcome
     ensures { result ≡ outcome_in response.entry }
 {
     match response {
         Response::Replied(_, _, reply) => outcome_of(reply),
-        Response::Unreplied(Unavailable::Unreachable) => Outcome::Stopped,
-        Response::Unreplied(Unavailable::Unknown) => Outcome::Fault,
-        Response::Unreplied(Unavailable::Unassigned) => Outcome::Stopped,
+        Response::Unreplied(reason) => outcome_without(reason),
     }
 }
 
@@ -112,8 +121,8 @@ fn replied_behind(
     }
 }
 
-// Appends a response without a reply to the output. If memory runs out, appends nothing.
-fn unreplied_behind(
+/// Appends a response without a reply to the output. If memory runs out, appends nothing.
+pub(crate) fn unreplied_behind(
     alloc: Global,
     output: &mut Vec<u8>,
     closing: bool,
@@ -165,7 +174,7 @@ impl Connection {
     ghost use Rattle.std.specs.Prelude.{false, drop, IfErr};
     ghost use Rattle.wire_http.specs.Connection.{buffered_of, left_of, has_ended, is_done};
     ghost use Rattle.wire_http.specs.Connection.{output_of, ready_of, holds_back, slot_of};
-    ghost use Rattle.wire_http.specs.Connection.{noted_of};
+    ghost use Rattle.wire_http.specs.Connection.{awaited_of, noted_of};
     ghost use Rattle.wire_http.specs.Later.{GivesParts, IsAborted, IsEndPart, IsEndStep};
     ghost use Rattle.wire_http.specs.Later.{IsReplied, IsResponded, IsUnreplied};
 
@@ -191,22 +200,39 @@ impl Connection {
         }
     }
 
-    // Removes the first `count` bytes of the buffer, which were a request, and records its response.
-    fn leave(&mut self, count: usize, left: u32, noted: RequestInfo)
+    // Removes the first `count` bytes of the buffer, which were a request.
+    pub(crate) fn pass(&mut self, count: usize, left: u32)
         requires fits { count ≤ length (buffered_of self.old) }
         ensures held { buffered_of self.new ≡ drop count (buffered_of self.old) }
         ensures output { output_of self.new ≡ output_of self.old }
         ensures ready { ready_of self.new ≡ ready_of self.old }
         ensures slot { slot_of self.new ≡ slot_of self.old }
+        ensures awaited { awaited_of self.new ≡ awaited_of self.old }
         ensures left { left_of self.new ≡ left }
         ensures ended { has_ended self.new ≡ has_ended self.old }
         ensures done { is_done self.new ≡ is_done self.old }
-        ensures noted { noted_of self.new ≡ Some noted }
+        ensures noted { noted_of self.new ≡ noted_of self.old }
     {
         shift(&mut self.held, count);
         shrink(&mut self.held);
         self.wanted = 0;
         self.left = left;
+    }
+
+    // Removes the first `count` bytes of the buffer, which were a request, and records its response.
+    pub(crate) fn leave(&mut self, count: usize, left: u32, noted: RequestInfo)
+        requires fits { count ≤ length (buffered_of self.old) }
+        ensures held { buffered_of self.new ≡ drop count (buffered_of self.old) }
+        ensures output { output_of self.new ≡ output_of self.old }
+        ensures ready { ready_of self.new ≡ ready_of self.old }
+        ensures slot { slot_of self.new ≡ slot_of self.old }
+        ensures awaited { awaited_of self.new ≡ awaited_of self.old }
+        ensures left { left_of self.new ≡ left }
+        ensures ended { has_ended self.new ≡ has_ended self.old }
+        ensures done { is_done self.new ≡ is_done self.old }
+        ensures noted { noted_of self.new ≡ Some noted }
+    {
+        self.pass(count, left);
         self.noted = Some(noted);
     }
 

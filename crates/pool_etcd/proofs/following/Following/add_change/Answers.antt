@@ -1,13 +1,8 @@
-use Rattle.std.proofs.Common.{subst}
-use Rattle.pool_etcd.specs.declared.log_value.LogValue.{LogValue}
-use Rattle.pool_etcd.specs.declared.log_value.LogValue.TheVariants.{Other}
-use Rattle.pool_etcd.specs.Following.{HasValue}
-use Rattle.pool_etcd.proofs.Followings.{adds_nothing}
+use Rattle.pool_etcd.proofs.Followings.{adds_change}
 use Rattle.pool_etcd.proofs.following.Following.add_change.Goals as goal
 
-pub returns-in-Ok-Other-clause-added : goal.returns-in-Ok-Other-clause-added
-returns-in-Ok-Other-clause-added c = record {
-  value = Other;
-  given = subst (λ (v : LogValue). HasValue c.args.change.now v) c.in-Ok-Other.field-0-is c.in-Ok-Other.ensures;
-  added = adds_nothing c.args.self.now c.args.line.now;
-}
+pub returns-in-Ok-take_change-clause-added : goal.returns-in-Ok-take_change-clause-added
+returns-in-Ok-take_change-clause-added c =
+    adds_change c.args.self.now c.args.change.now c.in-Ok.value c.in-Ok-judge_value.value c.args.line.now c.judge_value.new.self c.take_change.new.self c.add_value.new.line
+    c.in-Ok.ensures c.in-Ok-judge_value.ensures.value c.in-Ok-judge_value.ensures.judged c.in_ok-add_value.ensures.added c.add_value.ensures.links c.in-Ok-take_change.ensures.chain
+    c.take_change.ensures.verdicts c.take_change.ensures.unlinked

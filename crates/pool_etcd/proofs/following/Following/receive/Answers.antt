@@ -1,10 +1,13 @@
 use Rattle.std.proofs.Common.{◌≡◌, ℕ, List, ◌++◌, Bool, Option, Some, ap, sym, ◌∙◌, rules}
 use Rattle.std.specs.Prelude.{unwrap_or}
+use Rattle.pool_chain.specs.Known.{Known, shortened}
 use Rattle.pool_etcd.specs.declared.following.Following.{Following}
 use Rattle.pool_etcd.specs.declared.following.LineValues.{LineValues}
+use Rattle.pool_etcd.specs.declared.line_links.Verdict.{Verdict}
 use Rattle.pool_etcd.specs.declared.log_value.LogEntry.{LogEntry}
 use Rattle.pool_etcd.specs.Following.{AddsLine, HasLine}
-use Rattle.pool_etcd.proofs.Followings.{admitted_line, known_pool, refused_line}
+use Rattle.pool_etcd.specs.Linked.{linked_in}
+use Rattle.pool_etcd.proofs.Followings.{admitted_line, known_pool, linked_line, refused_line, unlinked_line}
 use Rattle.pool_etcd.proofs.following.Following.receive.Goals.{in_default-via-in-None-1, in_default-via-in-Some+else-pool-self}
 use Rattle.pool_etcd.proofs.following.Following.receive.Goals as goal
 
@@ -17,6 +20,16 @@ returns-then-line-clause-refuses c =
       | in_default-via-in-Some+else-pool-self w ↦ λ pool e. cc
     ] in
     λ _. refused_line c.args.self.now c.args.changes.now c.in_ok-line.line c.or-pool.result has c.if-line.true c.or-pool.ensures agrees
+
+pub returns-then-line-2-clause-unlinks : goal.returns-then-line-2-clause-unlinks
+returns-then-line-2-clause-unlinks c =
+    let has : HasLine c.args.self.now c.args.changes.now c.in_ok-line.line = c.in_ok-line.ensures.values in
+    let agrees : (pool : ℕ) → c.or-pool.result ≡ Some pool → pool ≡ c.args.self.now.settings =
+    elim c.in_default.branch [
+      | in_default-via-in-None-1 w ↦ search rules
+      | in_default-via-in-Some+else-pool-self w ↦ λ pool e. cc
+    ] in
+    λ _. unlinked_line c.args.self.now c.args.changes.now c.in_ok-line.line c.or-pool.result has c.if-line-2.true c.or-pool.ensures agrees
 
 pub returns-2-clause-values : goal.returns-2-clause-values
 returns-2-clause-values c =
@@ -49,6 +62,9 @@ returns-2-clause-values c =
           ∙ has.suppliers;
       writer = ap (λ (f : Following). f.writer) adds.others;
       admitted = admitted_line old c.args.changes.now line has c.if-line.false;
+      linked = linked_line old c.args.changes.now line has c.if-line-2.false;
+      verdicts = adds.verdicts ∙ ap (λ (us : List Verdict). old.verdicts.items ++ us) has.verdicts;
+      chain = c.shorten-2.ensures ∙ ap (λ (k : Known). shortened k) (adds.chain ∙ has.chain);
       next = adds.next;
       counts = λ key. c.shorten.ensures key ∙ adds.counts key;
       fence = ap (λ (f : Following). record f.own { is_given = c.news-news.result.is_given }) adds.others

@@ -41,24 +41,36 @@ pub returns-in_err-step-clause-runs : goal.returns-in_err-step-clause-runs
 returns-in_err-step-clause-runs g c =
     runs_then g.S.Space g.S.GroupCommit g.M.Moments c.args.context.explaining c.args.context.tokens.now c.args.commit _ _ _ _ _ _
     (runs_steps g.S.Space g.S.GroupCommit g.M.Moments c.args.context.explaining c.args.context.tokens.now c.args.commit c.args.service.now c.args.moments.now _ _ _ _ (c.prepare.ensures c.args.commit))
-    (c.ask.ensures.runs (g.N.Sockets.history c.prepare.new.sockets))
+    (c.ask.ensures.asked.runs (g.N.Sockets.history c.prepare.new.sockets))
 
 pub returns-then-eq-clause-runs : goal.returns-then-eq-clause-runs
 returns-then-eq-clause-runs g c =
     runs_then g.S.Space g.S.GroupCommit g.M.Moments c.args.context.explaining c.args.context.tokens.now c.args.commit _ _ _ _ _ _
     (runs_steps g.S.Space g.S.GroupCommit g.M.Moments c.args.context.explaining c.args.context.tokens.now c.args.commit c.args.service.now c.args.moments.now _ _ _ _ (c.prepare.ensures c.args.commit))
-    (c.ask.ensures.runs (g.N.Sockets.history c.prepare.new.sockets))
+    (c.ask.ensures.asked.runs (g.N.Sockets.history c.prepare.new.sockets))
 
 pub returns-then-holds_back-2-clause-runs : goal.returns-then-holds_back-2-clause-runs
 returns-then-holds_back-2-clause-runs g c =
     runs_then g.S.Space g.S.GroupCommit g.M.Moments c.args.context.explaining c.args.context.tokens.now c.args.commit _ _ _ _ _ _
     (runs_steps g.S.Space g.S.GroupCommit g.M.Moments c.args.context.explaining c.args.context.tokens.now c.args.commit c.args.service.now c.args.moments.now _ _ _ _ (c.prepare.ensures c.args.commit))
-    (c.ask.ensures.runs (g.N.Sockets.history c.prepare.new.sockets))
+    (c.ask.ensures.asked.runs (g.N.Sockets.history c.prepare.new.sockets))
 
 pub returns-clause-runs : goal.returns-clause-runs
 returns-clause-runs g c =
     runs_then g.S.Space g.S.GroupCommit g.M.Moments c.args.context.explaining c.args.context.tokens.now c.args.commit _ _ _ _ _ _
     (runs_then g.S.Space g.S.GroupCommit g.M.Moments c.args.context.explaining c.args.context.tokens.now c.args.commit _ _ _ _ _ _
     (runs_steps g.S.Space g.S.GroupCommit g.M.Moments c.args.context.explaining c.args.context.tokens.now c.args.commit c.args.service.now c.args.moments.now _ _ _ _ (c.prepare.ensures c.args.commit))
-    (c.ask.ensures.runs (g.N.Sockets.history c.prepare.new.sockets)))
+    (c.ask.ensures.asked.runs (g.N.Sockets.history c.prepare.new.sockets)))
     (runs_steps g.S.Space g.S.GroupCommit g.M.Moments c.args.context.explaining c.args.context.tokens.now c.args.commit c.ask.new.service c.ask.new.moments _ _ _ _ (c.answered.ensures c.args.commit))
+
+pub returns-in_err-step-clause-is_running : goal.returns-in_err-step-clause-is_running
+returns-in_err-step-clause-is_running g c = c.ask.ensures.asked.is_running
+
+pub returns-then-eq-clause-is_running : goal.returns-then-eq-clause-is_running
+returns-then-eq-clause-is_running g c = c.ask.ensures.asked.is_running
+
+pub returns-then-holds_back-2-clause-is_running : goal.returns-then-holds_back-2-clause-is_running
+returns-then-holds_back-2-clause-is_running g c = c.ask.ensures.asked.is_running
+
+pub returns-clause-is_running : goal.returns-clause-is_running
+returns-clause-is_running g c = c.ask.ensures.asked.is_running

@@ -1,55 +1,53 @@
-use Rattle.std.proofs.Common.{Err, ap, subst, sym}
+use Rattle.std.proofs.Common.{Err, Ok, subst, sym}
 use Rattle.token_conf.specs.TokenFile.{callers_of}
-use Rattle.wire_http.specs.declared.fault.StreamFault.{StreamFault}
+use Rattle.wire_http.specs.declared.connection.Step.TheVariants as steps
 use Rattle.server_client.specs.declared.client_io.ClientIo.{ClientIo}
-use Rattle.server_client.specs.ClientEvents.{ClientRuns, served_client}
-use Rattle.server_client.specs.ClientIo.{client_state}
-use Rattle.server_client.proofs.Asked.{asked_goes_on}
-use Rattle.server_client.proofs.Events.{goes_unless, part_runs, runs_at, step_runs}
-use Rattle.server_client.proofs.States.{none_held}
+use Rattle.server_client.specs.Asked.{AskedSo}
+use Rattle.server_client.proofs.Asks.{asked_answered, asked_end, asked_lost, asked_more, asked_no_time, asked_none, fits_still, waits_still}
 use Rattle.server_client.proofs.client_io.ClientIo.ask.Goals as goal
 
-pub returns-in_err-step-clause-runs : goal.returns-in_err-step-clause-runs
-returns-in_err-step-clause-runs g c = λ past.
+pub returns-in-Ok-NeedsInput-clause-asked : goal.returns-in-Ok-NeedsInput-clause-asked
+returns-in-Ok-NeedsInput-clause-asked g c =
+    asked_more g.S.Space g.S.GroupCommit g.M.Moments c.args.context.explaining c.args.context.tokens.now c.args.commit g.T.ClientSocket.name c.args.self.now c.requires.none_waits c.requires.open c.number-self.result c.number-self.ensures
+    c.args.service.now c.args.moments.now c.next.new.self (rw c.in-Ok-NeedsInput.field-0-is at c.in-Ok-NeedsInput.ensures.next)
+
+pub returns-in-Ok-Ended-clause-asked : goal.returns-in-Ok-Ended-clause-asked
+returns-in-Ok-Ended-clause-asked g c =
+    asked_end g.S.Space g.S.GroupCommit g.M.Moments c.args.context.explaining c.args.context.tokens.now c.args.commit g.T.ClientSocket.name c.args.self.now c.requires.none_waits c.requires.open c.number-self.result c.number-self.ensures
+    c.args.service.now c.args.moments.now c.next.new.self c.in-Ok-Ended.end (rw c.in-Ok-Ended.field-0-is at c.in-Ok-Ended.ensures.next)
+
+pub call-requires-clause-none_waits : goal.call-requires-clause-none_waits
+call-requires-clause-none_waits g c =
+    waits_still (callers_of c.args.context.tokens.now) c.args.self.now.connection c.next.new.self c.in-Ok-Request.next (rw c.in-Ok-Request.field-0-is at c.in-Ok-Request.ensures.next) c.requires.none_waits
+
+pub call-requires-clause-fits : goal.call-requires-clause-fits
+call-requires-clause-fits g c =
+    fits_still (callers_of c.args.context.tokens.now) c.args.self.now.connection c.next.new.self c.in-Ok-Request.next (rw c.in-Ok-Request.field-0-is at c.in-Ok-Request.ensures.next)
+
+pub returns-in_default-clause-asked : goal.returns-in_default-clause-asked
+returns-in_default-clause-asked g c =
+    asked_no_time g.S.Space g.S.GroupCommit g.M.Moments c.args.context.explaining c.args.context.tokens.now c.args.commit g.T.ClientSocket.name c.args.self.now c.requires.none_waits c.requires.open c.number-self.result c.number-self.ensures
+    c.args.service.now c.args.moments.now c.next-in-Ok-Request.new.self c.next.new.self c.abort.new.self c.in-Ok-Request.next (rw c.in-Ok-Request.field-0-is at c.in-Ok-Request.ensures.next) c.abort.ensures c.in_default.ensures.err
+
+pub returns-in-Ok-call-clause-asked : goal.returns-in-Ok-call-clause-asked
+returns-in-Ok-call-clause-asked g c =
     let io = c.args.self.now in
-    let name = g.T.ClientSocket.name io.socket in
-    let table = c.args.context.tokens.now in
-    let commit = c.args.commit in
-    runs_at g.S.Space g.S.GroupCommit g.M.Moments c.args.context.explaining table commit name c.number-self.result io.aborted (served_client c.args.service.now c.args.moments.now (client_state g.T.ClientSocket.name io))
-    c.advance.new.service c.advance.new.moments c.advance.new.self past c.number-self.ensures
-    (part_runs g.S.Space g.S.GroupCommit g.M.Moments c.args.context.explaining table commit name io.batch io.aborted c.args.service.now c.advance.new.service c.args.moments.now c.advance.new.moments
-    io.connection (none_held io.connection c.requires.none_back) c.requires.open c.advance.new.self _
-    (λ same. c.in_err-step.ensures.clock (ap (λ (x : StreamFault). Err x) same)) c.in_err-step.ensures.part past)
+    subst (λ (v : ClientIo _). AskedSo g.S.Space g.S.GroupCommit g.M.Moments c.args.context.explaining c.args.context.tokens.now c.args.commit g.T.ClientSocket.name c.args.service.now c.call.new.service c.args.moments.now c.next-in-Ok-Request.new.self io v
+    (Ok (steps.Answered c.left-left.result))) (sym c.call.ensures.same)
+    (asked_answered g.S.Space g.S.GroupCommit g.M.Moments c.args.context.explaining c.args.context.tokens.now c.args.commit g.T.ClientSocket.name io c.requires.none_waits c.requires.open c.number-self.result c.number-self.ensures
+    c.args.service.now c.call.new.service c.args.moments.now c.next-in-Ok-Request.new.self c.in-Ok.moment c.in-Ok.ensures.moment c.next.new.self c.call.new.self.connection c.in-Ok-Request.next
+    (rw c.in-Ok-Request.field-0-is at c.in-Ok-Request.ensures.next) c.left-left.result c.left-left.ensures c.in-Ok-call.ensures.calls)
 
-pub returns-in_err-step-clause-is_running : goal.returns-in_err-step-clause-is_running
-returns-in_err-step-clause-is_running g c =
-    asked_goes_on g.S.Space g.S.GroupCommit g.M.Moments (callers_of c.args.context.tokens.now) c.args.service.now c.advance.new.service c.args.moments.now c.advance.new.moments
-    c.args.context.explaining c.args.self.now.connection c.advance.new.self c.advance.result c.advance.ensures.step c.advance.ensures.part c.advance.ensures.clock
-
-pub returns-clause-step : goal.returns-clause-step
-returns-clause-step g c = (
-  c.advance.new.self,
-  c.in_ok-step.ensures.step,
-  goes_unless c.has_pending-waited.result c.has_pending-waits.result _ _ c.advance.new.self _ c.has_pending-waited.ensures c.has_pending-waits.ensures c.release_unless.ensures.goes,
-)
-
-pub returns-clause-runs : goal.returns-clause-runs
-returns-clause-runs g c = λ past.
+pub returns-in-Err-call-clause-asked : goal.returns-in-Err-call-clause-asked
+returns-in-Err-call-clause-asked g c =
     let io = c.args.self.now in
-    let name = g.T.ClientSocket.name io.socket in
-    let table = c.args.context.tokens.now in
-    let commit = c.args.commit in
-    let first = served_client c.args.service.now c.args.moments.now (client_state g.T.ClientSocket.name io) in
-    let goes = goes_unless c.has_pending-waited.result c.has_pending-waits.result _ _ c.advance.new.self c.release_unless.new.self.connection c.has_pending-waited.ensures c.has_pending-waits.ensures
-    c.release_unless.ensures.goes in
-    let done = runs_at g.S.Space g.S.GroupCommit g.M.Moments c.args.context.explaining table commit name c.number-self.result io.aborted first
-    c.advance.new.service c.advance.new.moments c.release_unless.new.self.connection past c.number-self.ensures
-    (step_runs g.S.Space g.S.GroupCommit g.M.Moments c.args.context.explaining table commit name io.batch io.aborted c.args.service.now c.advance.new.service c.args.moments.now c.advance.new.moments
-    io.connection (none_held io.connection c.requires.none_back) c.requires.open c.advance.new.self c.release_unless.new.self.connection _ c.in_ok-step.ensures.step goes past) in
-    subst (λ (v : ClientIo _). ClientRuns g.S.Space g.S.GroupCommit g.M.Moments c.args.context.explaining table commit first (served_client c.advance.new.service c.advance.new.moments (client_state g.T.ClientSocket.name v)) past past)
-    (sym c.release_unless.ensures.same) done
+    subst (λ (v : ClientIo _). AskedSo g.S.Space g.S.GroupCommit g.M.Moments c.args.context.explaining c.args.context.tokens.now c.args.commit g.T.ClientSocket.name c.args.service.now c.call.new.service c.args.moments.now c.next-in-Ok-Request.new.self io v
+    (Err c.in-Err-call.fault)) (sym c.call.ensures.same)
+    (asked_lost g.S.Space g.S.GroupCommit g.M.Moments c.args.context.explaining c.args.context.tokens.now c.args.commit g.T.ClientSocket.name io c.requires.none_waits c.requires.open c.number-self.result c.number-self.ensures
+    c.args.service.now c.call.new.service c.args.moments.now c.next-in-Ok-Request.new.self c.in-Ok.moment c.in-Ok.ensures.moment c.next.new.self c.call.new.self.connection c.in-Ok-Request.next
+    (rw c.in-Ok-Request.field-0-is at c.in-Ok-Request.ensures.next) c.in-Err-call.fault c.in-Err-call.ensures.memory c.in-Err-call.ensures.lost)
 
-pub returns-clause-is_running : goal.returns-clause-is_running
-returns-clause-is_running g c =
-    asked_goes_on g.S.Space g.S.GroupCommit g.M.Moments (callers_of c.args.context.tokens.now) c.args.service.now c.advance.new.service c.args.moments.now c.advance.new.moments
-    c.args.context.explaining c.args.self.now.connection c.advance.new.self c.advance.result c.advance.ensures.step c.advance.ensures.part c.advance.ensures.clock
+pub returns-in-Err-clause-asked : goal.returns-in-Err-clause-asked
+returns-in-Err-clause-asked g c =
+    asked_none g.S.Space g.S.GroupCommit g.M.Moments c.args.context.explaining c.args.context.tokens.now c.args.commit g.T.ClientSocket.name c.args.self.now c.requires.none_waits c.requires.open c.number-self.result c.number-self.ensures
+    c.args.service.now c.args.moments.now c.next.new.self c.in-Err.ensures.lost

@@ -1,4 +1,4 @@
-use Rattle.std.proofs.Common.{◌≡◌, ◌-◌, ◌∙◌, drop, refl, ap, sym, arith}
+use Rattle.std.proofs.Common.{◌≡◌, ◌-◌, ◌∙◌, drop, refl, ap, sym}
 use Rattle.std.specs.Prelude.{◌==◌}
 use Rattle.httparse.specs.Spans.{span_bytes}
 use Rattle.wire_http.specs.DeferredResponse.{before_last}
