@@ -17,6 +17,8 @@ pub struct PoolMetrics {
     pub revision: u64,
     /// The time since the log last answered. It is at least 4 seconds until the log was read.
     pub silence: Duration,
+    /// The number of other organizations whose last comparable link differs from the own chain.
+    pub differing: usize,
     /// The time of the last call of another organization since the start, if there was one.
     pub heard: Option<u64>,
     /// The latest end of a purge, or 0, in Unix seconds.
@@ -56,6 +58,12 @@ impl PoolMetrics {
             help: "Whole seconds since the pool's log last answered; at least 4 until the instance has read it.",
         };
         text.one(silence, self.silence.as_secs())?;
+        let differing = Metric {
+            name: "dss_pool_organizations_differing",
+            kind: MetricKind::Gauge,
+            help: "Other organizations whose last comparable link differs from the instance's own chain.",
+        };
+        text.one(differing, wide(self.differing))?;
         let purged = Metric {
             name: "dss_pool_purged_until_seconds",
             kind: MetricKind::Gauge,

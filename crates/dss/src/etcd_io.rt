@@ -117,6 +117,7 @@ impl<'a> LogIo<EtcdLog> for EtcdIo<'a> {
             revision,
             open: log.open_batches(),
             silence: log.silence(now),
+            differing: log.differing(),
         }
     }
 }

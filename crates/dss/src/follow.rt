@@ -6,7 +6,7 @@ use crate::etcd_io::EtcdIo;
 use crate::etcd_waiting::EtcdWaiting;
 use crate::new_database::make_database;
 use crate::pool_files::{FileName, PoolFiles, beginning_of, print_name};
-use crate::pool_log::{LogArgs, new_poll, open_log, settings_of, with_loss};
+use crate::pool_log::{LogArgs, check_settings, new_poll, open_log, settings_of, with_loss};
 use crate::serving::served_tokens;
 use dss_args::follow_args::FollowArgs;
 use dss_command::fault::{Fault, io_fault};
@@ -110,6 +110,7 @@ pub(crate) fn follow<F: Start, W: Write, E: Write>(
     let (lock, newest) = files.take(cause)?;
     let beginning = beginning_of(newest);
     let settings = settings_of(rt, &tokens, beginning)?;
+    check_settings(newest, settings)?;
     let log_args = LogArgs {
         endpoints: given.endpoints.as_slice(),
         name: given.name,

@@ -6,7 +6,7 @@ use crate::etcd_io::EtcdIo;
 use crate::log_file::SystemLog;
 use crate::pool_file_check::check_file;
 use crate::pool_files::{FileName, PoolFiles, beginning_of};
-use crate::pool_log::{LogArgs, new_poll, open_log, settings_of, with_loss};
+use crate::pool_log::{LogArgs, check_settings, new_poll, open_log, settings_of, with_loss};
 use crate::serving::{Ports, admin_listener, clients_of, explaining, log_of, served_tokens};
 use crate::tokens::TokenFile;
 use dss_args::pool_args::PoolArgs;
@@ -106,13 +106,15 @@ fn begin<'a, F: Start>(
         Some(found) => Some(found.name),
         None => None,
     };
+    let agreed = settings_of(rt, tokens, beginning_of(newest))?;
+    check_settings(newest, agreed)?;
     let log_args = LogArgs {
         endpoints: given.endpoints.as_slice(),
         name: given.name,
         etcd_user: given.etcd_user,
         chain: chain_of(rt, given.files, newest, cause)?,
         file: newest,
-        agreed: settings_of(rt, tokens, beginning_of(newest))?,
+        agreed,
     };
     let log = open_log(rt, log_args, cause)?;
     let access_log = log_of(rt, given.access_log, cause)?;

@@ -88,11 +88,11 @@ fn pool_settings(file: FileName) -> Option<u64> {
     }
 }
 
-// Returns true if the file is of a pool with other settings than these.
-fn is_other(file: Option<FileName>, agreed: u64) -> bool {
+/// Returns a fault if the file is of a pool with other settings than these.
+pub(crate) fn check_settings(file: Option<FileName>, agreed: u64) -> Result<(), Fault> {
     match file {
-        Some(file) => file.settings != agreed,
-        None => false,
+        Some(file) if file.settings != agreed => Err(Fault::Pool(PoolFault::Settings)),
+        _ => Ok(()),
     }
 }
 
@@ -121,16 +121,12 @@ fn new_log(
     EtcdLog::new(rt.alloc(), settings, LOG_REQUESTS, LOG_WATCH)
 }
 
-/// Creates the log of a process, which has received nothing. Returns a fault if the file is of a
-/// pool with other settings.
+/// Creates the log of a process, which has received nothing.
 pub(crate) fn open_log(
     rt: &HostRuntime,
     given: LogArgs<'_>,
     cause: &mut Cause,
 ) -> Result<EtcdLog, Fault> {
-    if is_other(given.file, given.agreed) {
-        return Err(Fault::Pool(PoolFault::Settings));
-    }
     let user = match given.etcd_user {
         Some(file) => Some(read_user(rt, file, cause)?),
         None => None,

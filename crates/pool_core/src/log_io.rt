@@ -11,6 +11,8 @@ pub struct LogStatus {
     pub open: usize,
     /// The time since the log last answered.
     pub silence: Duration,
+    /// The number of other organizations whose last comparable record of the log differs.
+    pub differing: usize,
 }
 
 /// The input and output of a log. It is the only part of an instance or a follower that a network
@@ -30,6 +32,7 @@ pub trait LogIo<L: Log> {
             revision: 0,
             open: 0,
             silence: Duration::ZERO,
+            differing: 0,
         }
     }
 }

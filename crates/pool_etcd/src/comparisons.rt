@@ -1,6 +1,6 @@
 //! The last comparable links of other organizations.
 ghost use Rattle.std.specs.Prelude.{◌≡◌, ◌↔◌, [], IsTrue, OnOk};
-ghost use Rattle.pool_etcd.specs.Comparisons.{IsDiverged, noted, without};
+ghost use Rattle.pool_etcd.specs.Comparisons.{IsDiverged, differing, noted, without};
 
 use crate::payload::Payload;
 use std::alloc::{AllocError, Global};
@@ -41,6 +41,19 @@ fn remove(items: &mut Vec<Comparison>, organization: &[u8])
             return;
         }
     }
+}
+
+// Returns how many organizations differ.
+fn differing(items: &[Comparison]) -> usize
+    ensures { result ≡ differing items.now }
+{
+    let mut differing: usize = 0;
+    for comparison in items {
+        if comparison.differs {
+            differing += 1;
+        }
+    }
+    differing
 }
 
 // Returns true if more organizations differ than agree, with the own one.
@@ -98,5 +111,12 @@ impl Comparisons {
         ensures { IsTrue result ↔ IsDiverged self.now }
     {
         is_diverged(self.items.as_slice())
+    }
+
+    /// Returns the number of organizations that differ.
+    pub fn differing(&self) -> usize
+        ensures { result ≡ differing self.now }
+    {
+        differing(self.items.as_slice())
     }
 }

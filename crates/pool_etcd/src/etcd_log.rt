@@ -75,7 +75,7 @@ pub(crate) struct LogState {
     pub(crate) differences: Differences,
     // True if an entry of another instance was given since the last own put.
     pub(crate) has_news: bool,
-    // True if the last value that was offered to etcd is a link without an entry.
+    // True if the last value that was offered to etcd is a link, and no batch waits for its outcome.
     pub(crate) sends_link: bool,
 }
 
@@ -131,10 +131,19 @@ impl LogState {
     }
 
     /// Lets the fence settle the outcome of the batch that is open, if its time is over. No response
-    /// to a put is awaited. A link that is open stays so: nothing depends on its outcome.
+    /// to a put is awaited. A link that is open stays so until a batch waits for its outcome.
     pub(crate) fn settle_in_time(&mut self, now: Duration) {
         if !self.sends_link && now >= later(self.offered, SETTLE_AFTER) {
             self.own.settle();
+        }
+    }
+
+    // Records that a batch waits. If it waits for the outcome of a link, the time of that outcome
+    // begins.
+    fn note_waiting(&mut self, now: Duration) {
+        if self.sends_link {
+            self.sends_link = false;
+            self.offered = now;
         }
     }
 
@@ -373,6 +382,9 @@ impl EtcdLog {
         ensures { self.new.number ≡ self.old.number }
     {
         if !self.state.may_offer() {
+            if !self.queue.is_empty() {
+                self.state.note_waiting(now);
+            }
             return;
         }
         if let Some(value) = self.queue.pop_front() {
@@ -432,6 +444,12 @@ impl EtcdLog {
         } else {
             silence.max(Duration::from_millis(UNREAD))
         }
+    }
+
+    /// Returns the number of other organizations whose last comparable link differs from the own
+    /// chain.
+    pub fn differing(&self) -> usize {
+        self.state.comparisons.differing()
     }
 
     /// Returns the number of batches without an outcome.

@@ -103,6 +103,7 @@ fn pool_metrics<L: Log + Drop, S: PurgeEnded + Drop, I: LogIo<L>>(
         revision,
         open,
         silence,
+        differing,
     } = log_io.status(instance.log(), now);
     PoolMetrics {
         entries: instance.taken(),
@@ -110,6 +111,7 @@ fn pool_metrics<L: Log + Drop, S: PurgeEnded + Drop, I: LogIo<L>>(
         open,
         revision,
         silence,
+        differing,
         heard: instance.heard(),
         purged_until: instance.purges().until,
     }

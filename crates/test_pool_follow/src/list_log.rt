@@ -153,6 +153,7 @@ impl LogIo<ListLog> for Arrivals {
             revision: log.arrived,
             open: 0,
             silence: log.plan.silence,
+            differing: 0,
         }
     }
 }
