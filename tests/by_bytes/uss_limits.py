@@ -4,6 +4,7 @@ import json
 import os
 import pathlib
 import resource
+import select
 import socket
 import time
 
@@ -181,6 +182,43 @@ def descriptors():
         return found + difference("standard error", (started.folder / "errors").read_bytes(), started.listening)
 
 
+def used_descriptors(process):
+    """Returns the descriptors of a process, once they are the same for a tenth of a second."""
+    used, until = None, time.monotonic() + SECONDS
+    while (now := {int(it) for it in os.listdir(f"/proc/{process}/fd")}) != used and time.monotonic() < until:
+        used = now
+        time.sleep(0.1)
+    return now
+
+
+def starve(process):
+    """Leaves a process the descriptors that it has now."""
+    used = used_descriptors(process)
+    free = min(set(range(len(used) + 1)) - used)
+    _, hard = resource.prlimit(process, resource.RLIMIT_NOFILE)
+    resource.prlimit(process, resource.RLIMIT_NOFILE, (free, hard))
+
+
+def waiting_client(started):
+    """Returns a connection that the service cannot accept, and when it was made.
+
+    A descriptor that was open for a moment, as that of the trusted time, is free again when the client connects. Then the
+    client is served, and the next one tries."""
+    until = time.monotonic() + SECONDS
+    while True:
+        starve(started.program.pid)
+        held, began = started.connect(), time.monotonic()
+        held.sendall(CLOSING)
+        while time.monotonic() < until:
+            if ACCEPT in (started.folder / "errors").read_bytes():
+                return held, began
+            if select.select([held], [], [], 0.01)[0]:
+                break
+        else:
+            return held, began
+        held.close()
+
+
 def failed_accepts():
     """If the system has no descriptor, the connection waits. The failed accepts are counted, and reported in one line."""
     with AdminService() as started:
@@ -189,15 +227,11 @@ def failed_accepts():
         stored, until = started.folder / "dss.db-clock", time.monotonic() + SECONDS
         while not stored.exists() and time.monotonic() < until:
             time.sleep(0.01)
-        most = max(int(it) for it in os.listdir(f"/proc/{process}/fd")) + 1
-        _, hard = resource.prlimit(process, resource.RLIMIT_NOFILE)
-        resource.prlimit(process, resource.RLIMIT_NOFILE, (most, hard))
-        with started.connect() as held:
-            began = time.monotonic()
-            held.sendall(CLOSING)
-            started.until_told(ACCEPT)
+        held, began = waiting_client(started)
+        with held:
             time.sleep(0.5)
             waited = time.monotonic() - began
+            _, hard = resource.prlimit(process, resource.RLIMIT_NOFILE)
             resource.prlimit(process, resource.RLIMIT_NOFILE, (hard, hard))
             found = difference("served later", until_closed(held), LAST)
         failures = int(started.counted()["dss_accept_failures_total"])
