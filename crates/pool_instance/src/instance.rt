@@ -371,7 +371,13 @@ impl<L: Log + Drop, S: PurgeEnded + Drop> Instance<L, S> {
     {
         let taken = self.taken.checked_add(1)?;
         let is_own = entry.writer == self.log.number();
-        let done = do_acts(&mut self.service, alloc, routes, entry.bytes.as_slice(), is_own)?;
+        let done = do_acts(
+            &mut self.service,
+            alloc,
+            routes,
+            entry.bytes.as_slice(),
+            is_own,
+        )?;
         let purges = self.purges.with(done.purges);
         if !is_own {
             self.taken = taken;
