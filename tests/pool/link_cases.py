@@ -58,7 +58,8 @@ def without_chain(pool):
     text = chain.read_text()
     first, digests = text.split("\n", 1)
     assert first == "dss-chain 1 0" and re.fullmatch(r"([0-9a-f]{64}\n)+", digests) and digests.startswith(64 * "0"), text
-    for bad in (None, "", first, f"{first}\n", text.replace("chain 1", "chain 2"), text[:-2] + "\n", text + "\n", f"dss-chain 1 1\n{digests}"):
+    bad_ones = None, "", first, f"{first}\n", text.replace("chain 1", "chain 2"), text[:-2] + "\n", text + "\n", f"dss-chain 1 1\n{digests}"
+    for bad in bad_ones:
         chain.unlink(missing_ok=True)
         if bad is not None:
             chain.write_text(bad)
