@@ -2,11 +2,11 @@
 //!
 //! Arguments: the addresses of etcd, separated by commas, a name, a number, and optionally a revision,
 //! the count of entries up to there, the settings (a salt and the number of the policy), the number
-//! of the pool's settings or `-`, the link of the changes up to the revision (their count and a digest) or
-//! `- -`, a user and a password. Commands, one a line: `offer TEXT`,
-//! `long BYTES` (offers a batch of so many bytes), `admits USS` (prints whether the instance may act
-//! for it), `end`, `wait MS` (goes on for that time), `settle MS` (goes on until no batch and no
-//! question is open, at most that time), `quit`.
+//! of the pool's settings or `-`, the count and the digest of the link at the revision or `- -`, a
+//! user and a password. Commands, one a line: `offer TEXT`, `long BYTES` (offers a batch of so many
+//! bytes), `admits USS` (prints whether the instance may act for it), `end`, `wait MS` (goes on for
+//! that time), `settle MS` (goes on until no batch and no question is open, at most that time),
+//! `quit`.
 #![tactic(auto)]
 
 mod commands;
