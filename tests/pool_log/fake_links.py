@@ -49,14 +49,14 @@ def links_that_differ():
     count = len(fake.at)
     fake.put_from_outside(b"in/b1", b"5\nfirst", link=other_link(fake))
     fake.put_from_outside(b"in/b1", b"5\nsecond", link=other_link(fake))
-    fake.put_from_outside(b"in/c", b"5\nthird", link=other_link(fake, count + 100))
-    fake.put_from_outside(b"in/d", b"5\nfourth")
+    fake.put_from_outside(b"in/d", b"5\nthird")
+    fake.put_from_outside(b"in/c", b"5\nfourth", link=other_link(fake, count + 100))
     # the link of no changes is that of every instance
     fake.put_from_outside(b"in/e", b"5\nfifth", link=link_text(0, FIRST))
     for it in (one, Instance(fake.addresses(), "f")):
         it.say("end")
         it.settle()
-        same(["t0", "fourth", "fifth"], [it[1] for it in it.until(3)], "entries")
+        same(["t0", "third", "fifth"], [it[1] for it in it.until(3)], "entries")
         same([("differs", "b1", str(count)), ("ahead", "c", str(count + 100))], it.differences(), "differences")
         same(None, it.lost(), "the log")
         it.close()
