@@ -17,9 +17,10 @@ def forked(pool, key, *calls, count=1):
     write(pool, key, entry(*calls).replace(FIRST, b"%d " % count + 64 * b"f", 1))
 
 
-def differs(door, name, count=1):
+def differs(lines, name, count=1):
+    """Returns how often lines report an instance as different."""
     line = re.compile(rf"dss: pool: {name} differs after {count} changes: f{{64}}, here [0-9a-f]{{64}}")
-    return sum(bool(line.fullmatch(it)) for it in door.lines)
+    return sum(bool(line.fullmatch(it)) for it in lines)
 
 
 def differing(pool):
@@ -40,13 +41,15 @@ def a_fork(pool):
     assert counts(pool) == [it + 1 for it in before], (before, counts(pool))
     all_see(pool, (1, 2, 3, 4, 5), [1, 5])
     for door in pool.doors:
-        until(lambda: differs(door, "d1") == 1 and differs(door, "d2") == 1, lambda: door.lines, 20)
+        until(lambda: [differs(door.lines, it) for it in ("d1", "d2")] == [1, 1], lambda: door.lines, 20)
     assert differing(pool) == [1, 1, 1], differing(pool)
     # an organization differs by its last link
     write(pool, "in/d1", entry(put(6)))
     all_see(pool, (1, 2, 3, 4, 5, 6), [1, 5, 6])
     assert differing(pool) == [0, 0, 0], differing(pool)
-    followed(pool, folder)
+    status, printed, errors = pool.follow(folder, TOKENS)
+    lines = errors.splitlines()
+    assert (status, printed, [differs(lines, it) for it in ("d1", "d2")]) == (0, f"{names(folder)[0]}\n", [1, 1]) and len(lines) == 2, errors
     door, _ = begin_from(pool, "a2", folder)
     assert seen(door, (1, 2, 3, 4, 5, 6)) == [1, 5, 6]
 
