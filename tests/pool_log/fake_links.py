@@ -2,7 +2,7 @@
 from fake_etcd import Fake
 from instances import LIMIT, Instance
 from links import FIRST, VALUE, link_text
-from over_fake import OPEN, offer_all, puts_of, same
+from over_fake import OPEN, ends_of, offer_all, puts_of, same
 
 
 def links_in(values):
@@ -86,6 +86,25 @@ def most_differ():
             same(loss, one.until_lost(), "the log while two of three differ")
 
 
+def most_differ_at_a_start():
+    """A start counts the organizations once it has read the log, so their order does not matter. If most differ, it reports no end."""
+    for agree, loss in ((b"ef", None), (b"", "diverged")):
+        fake = Fake()
+        for name in b"bc":
+            fake.put_from_outside(b"in/%c" % name, b"5\nwrong", link=other_link(fake, 0))
+        for name in agree:
+            fake.put_from_outside(b"in/%c" % name, b"5\nright")
+        one = Instance(fake.addresses(), "a")
+        one.say("end")
+        if loss is None:
+            one.settle()
+            same([["right"] * 2, ["end 1 2"]], [one.texts(), ends_of(one)], "entries and ends")
+            one.close()
+        else:
+            same([loss, []], [one.until_lost(), ends_of(one)], "the loss and ends if most differ")
+        same(2, len(one.differences()), "differences")
+
+
 def a_fork():
     """Two stores that were one: the instances of each see that the other ones differ, once their entries meet."""
     fake, other = Fake(), Fake()
@@ -159,5 +178,7 @@ def batches_behind_a_link():
 
 def cases():
     """All cases, by name."""
-    of_links = (no_heads, links_that_differ, most_differ, a_fork, links_of_silent_instances, batches_behind_a_link)
+    of_links = (
+        no_heads, links_that_differ, most_differ, most_differ_at_a_start, a_fork, links_of_silent_instances, batches_behind_a_link,
+    )
     return {it.__name__: it for it in of_links}
