@@ -20,7 +20,7 @@ import history
 import wire
 from cases import get, put
 from doors import PROGRAM, Exchange
-from file_cases import COMPACTED
+from file_cases import COMPACTED, copy_file
 from machines import Failed, command, connect, until
 from pool import Skipped
 from ports import free_port
@@ -462,11 +462,15 @@ def starts_from(site, folder):
         kill(second)
 
 
+def newest_of(site):
+    return max((site.own / "files").glob("*-*.db"))
+
+
 def takes_newest(site, other):
     """An organization whose files are too old removes them, and takes the newest one of another organization."""
-    for old in (site.own / "files").glob("*-*.db"):
+    for old in (site.own / "files").glob("*-*.*"):
         old.unlink()
-    shutil.copy(max((other.own / "files").glob("*-*.db")), site.own / "files")
+    copy_file(newest_of(other), site.own / "files")
 
 
 def files(sites):
@@ -498,7 +502,7 @@ def files(sites):
     # a file of another organization
     copied = site.own / "copied"
     copied.mkdir()
-    shutil.copy(max((other.own / "files").glob("*-*.db")), copied)
+    copy_file(newest_of(other), copied)
     starts_from(site, copied)
     # values that are no marks
     wrong = {"nonsense": "nonsense is no mark", "1": "1 is no mark", "900000000 1": "etcd has not reached revision 900000000"}
@@ -536,20 +540,20 @@ def restored_files(sites):
     site, backup = sites.sites[0], sites.room / "files.db"
     if not (site.own / "files").exists():
         files(sites)
-    file = sites.room / max((site.own / "files").glob("*-*.db")).name
-    shutil.copy(site.own / "files" / file.name, file)
+    file = sites.room / newest_of(site).name
+    copy_file(newest_of(site), sites.room)
     until(lambda: asks(site, put(6_030))[0] == 201, "a change before the backup", BACK)
     control(sites, "snapshot", "save", backup)
     until(lambda: asks(site, put(6_031))[0] == 201, "a change after the backup", BACK)
     late = marks(sites, site)[-1]
-    shutil.copy(site.own / "files" / late, sites.room)
+    copy_file(site.own / "files" / late, sites.room)
     stop_instances(sites)
     restore_members(sites, backup)
     for it in sites.sites:
         for old in (it.own / "files").iterdir():
             old.unlink()
     # a file of a later time is refused while the log is shorter
-    shutil.copy(sites.room / late, site.own / "files")
+    copy_file(sites.room / late, site.own / "files")
     site.start_instance("--files", site.own / "files")
     same(3, site.instance.wait(BACK), "the status of an instance with a later file")
     same(
@@ -557,9 +561,10 @@ def restored_files(sites):
         site.said(1)[0],
         "what it said",
     )
-    (site.own / "files" / late).unlink()
+    for it in (site.own / "files").glob("*-*.*"):
+        it.unlink()
     for it in sites.sites:
-        shutil.copy(file, it.own / "files")
+        copy_file(file, it.own / "files")
         it.start_instance("--files", it.own / "files")
     all_read(sites.sites, 6_030)
     all_read(sites.sites, 6_022)
@@ -589,6 +594,7 @@ ALERTS = {
     "DssPoolLogSilent": ({"dss_pool_silence_seconds": "0x35 11x5"}, {"dss_pool_silence_seconds": "11x20 10x20"}),
     "DssPoolInstanceStopped": ({'up{job="dss"}': "1x35 0x5"}, {'up{job="dss"}': "0x20 1x20"}, {"job": "dss"}),
     "DssPoolLogShortened": ({"dss_pool_revision": "9x30 8x10"}, {"dss_pool_revision": "9x20 9+1x20"}),
+    "DssPoolDiffers": ({"dss_pool_organizations_differing": "0x35 1x5"}, {"dss_pool_organizations_differing": "1x20 0x20"}),
     "DssPoolNoLeader": ({"etcd_server_has_leader": "1x35 0x5"}, {"etcd_server_has_leader": "0x20 1x20"}),
     "DssPoolNearlyFull": (
         {"etcd_mvcc_db_total_size_in_bytes": "76x40", "etcd_server_quota_backend_bytes": "100x40"},
@@ -730,7 +736,7 @@ def planted(_sites):
         changes.append(history.numbered(("PUT", path, "Bearer tok-v", body), number))
 
     def entry(*calls):
-        text = b"7\ndss-batch 1\n"
+        text = b"7 0 %s\ndss-batch 1\n" % (64 * b"0")
         for method, target, _, body in calls:
             parts = (b"3:PUT", f"{len(target)}:{target}".encode(), f"{len(body)}:".encode() + body)
             text += b"1790000000 5:uss-v ----a " + b" ".join(parts) + b"\n"
