@@ -28,6 +28,7 @@ from program import TOP
 from sites import ADMIN_PORT, BACK, DEPLOY, ETCD_PORT, NAMES, PORT, READ, code, kill, stop
 
 SECOND, SECOND_PORT, SECOND_ADMIN = "a2", 8180, 8178
+ETCD_METRICS_PORT = 2381
 UNREACHABLE, UNKNOWN = ((503, f'{{"message":"{it}"}}') for it in ("unreachable", "unknown"))
 NO_SERVICE = (503, '{"message":"proxy: the service is not available; nothing was sent"}')
 
@@ -582,6 +583,8 @@ def left(sites):
 
 # ---- the alerts
 
+# How the metrics of node_exporter begin, with those that node-metrics writes for it.
+OF_NODE = "node_", "dss_pool_files_", "dss_pool_certificate_", "dss_pool_port_"
 FAILED_UNIT = 'node_systemd_unit_state{name="dss-follow@a0.service",state="failed"}'
 TIMER = 'node_systemd_unit_state{{name="dss-{}@a0.timer",state="active"}}'
 # For each alert: the series that fire it, and those that do not, in promtool's notation; and the labels of the series that it has.
@@ -617,6 +620,12 @@ ALERTS = {
         {"node_timex_sync_status": "0x40", "node_timex_maxerror_seconds": "16x40"},
         {"node_timex_sync_status": "0x20 1x20", "node_timex_maxerror_seconds": "16x40"},
     ),
+    "DssPoolFilesOld": ({"dss_pool_files_time_seconds": "299x40"}, {"dss_pool_files_time_seconds": "0x20 600x20"}),
+    "DssPoolCertificateEnds": (
+        {'dss_pool_certificate_end_seconds{file="a.crt"}': "2594399x40"}, {'dss_pool_certificate_end_seconds{file="a.crt"}': "2594400x40"},
+        {"file": "a.crt"},
+    ),
+    "DssPoolPortOpen": ({"dss_pool_port_open": "1x40"}, {"dss_pool_port_open": "1x20 0x20"}),
     "DssPoolUnitFailed": (
         {FAILED_UNIT: "1x20 0 1x4 0 1x14"}, {FAILED_UNIT: "1x20 0x20"}, {"name": "dss-follow@a0.service"},
     ),
@@ -643,7 +652,8 @@ def alerts(_sites):
     for rule in rules:
         fires, rests, *labels = ALERTS[rule["alert"]]
         for series in fires, rests:
-            has = {"exp_labels": rule["labels"] | dict(*labels), "exp_annotations": rule["annotations"]}
+            text = rule["annotations"]["summary"].replace("{{ $labels.file }}", "a.crt")
+            has = {"exp_labels": rule["labels"] | dict(*labels), "exp_annotations": {"summary": text}}
             fired = [has] if series is fires else []
             minutes = 800 if rule["alert"] == "DssPoolFullSoon" else 40
             asked = {"eval_time": f"{minutes}m", "alertname": rule["alert"], "exp_alerts": fired}
@@ -662,12 +672,12 @@ def alerts(_sites):
 def metrics(sites):
     """The instances and etcd have the metrics of the alerts."""
     site = sites.sites[0]
-    had = {it.split("{")[0].split()[0] for port in (ADMIN_PORT, ETCD_PORT) for it in asked(site, port, "/metrics").splitlines() if it}
+    had = {it.split("{")[0].split()[0] for port in (ADMIN_PORT, ETCD_METRICS_PORT) for it in asked(site, port, "/metrics").splitlines() if it}
     named = {it for series in ALERTS.values() for it in (name.split("{")[0] for name in series[0])}
     # Prometheus makes the first one itself. An instance has the second one once it was given a call of another organization. node_exporter
     # has the others.
     others = {"up", "dss_pool_heard_time_seconds"}
-    same([], sorted(it for it in named - had - others if not it.startswith("node_")), "metrics that nothing has")
+    same([], sorted(it for it in named - had - others if not it.startswith(OF_NODE)), "metrics that nothing has")
 
 
 def node_metrics(_sites):
@@ -675,15 +685,22 @@ def node_metrics(_sites):
     program = shutil.which("prometheus-node-exporter")
     if not program:
         raise Skipped("the package prometheus-node-exporter is missing")
-    listening = f"127.0.0.1:{free_port()}"
-    process = subprocess.Popen([program, f"--web.listen-address={listening}"], stdout=subprocess.DEVNULL, stderr=subprocess.DEVNULL)
-    try:
-        text = until(lambda: page_of(listening), "node_exporter answers", BACK)
-    finally:
-        kill(process)
+    with tempfile.TemporaryDirectory() as room:
+        command("env", "-C", room, DEPLOY / "certificates", "ca")
+        given = f"FOLDER={room}", f"CERTIFICATES={room}/none.crt {room}/ca.crt"
+        command("env", *given, DEPLOY / "node-metrics")
+        listening = f"127.0.0.1:{free_port()}"
+        words = program, f"--web.listen-address={listening}", f"--collector.textfile.directory={room}"
+        process = subprocess.Popen(words, stdout=subprocess.DEVNULL, stderr=subprocess.DEVNULL)
+        try:
+            text = until(lambda: page_of(listening), "node_exporter answers", BACK)
+        finally:
+            kill(process)
     had = {it.split("{")[0].split()[0] for it in text.splitlines() if it}
-    named = {name.split("{")[0] for series in ALERTS.values() for name in series[0] if name.startswith("node_")}
+    named = {name.split("{")[0] for series in ALERTS.values() for name in series[0] if name.startswith(OF_NODE)}
     same(["node_systemd_unit_state"], sorted(named - had | {"node_systemd_unit_state"}), "metrics that node_exporter lacks")
+    ends = [float(it.split()[1]) for it in text.splitlines() if it.startswith('dss_pool_certificate_end_seconds{file="ca.crt"}')]
+    same([True], [3_649 < (it - time.time()) / 86_400 <= 3_650 for it in ends], "the end of the CA")
 
 
 def page_of(address):
@@ -701,11 +718,16 @@ def unit(_sites):
         text = (DEPLOY / "dss-pool@.service").read_text().replace("/usr/bin/dss ", "/bin/true ")
         (folder / "dss-pool@a1.service").write_text(text)
         shutil.copy(TOP / "deploy" / "dss-failure@.service", folder)
-        units, packaged = [folder / "dss-pool@a1.service"], pathlib.Path("/lib/systemd/system/etcd.service")
+        text = (DEPLOY / "dss-pool-port.service").read_text().replace("/usr/sbin/nft ", "/bin/true ")
+        (folder / "dss-pool-port.service").write_text(text)
+        units = [folder / "dss-pool@a1.service", folder / "dss-pool-port.service"]
+        packaged = pathlib.Path("/lib/systemd/system/etcd.service")
         for name, script in ("dss-follow", "mark"), ("dss-compact", "compact"):
             text = (DEPLOY / f"{name}@.service").read_text()
             same(1, text.count(f"ExecStart=/usr/local/lib/dss/{script} %i\n"), "the script of the unit")
-            (folder / f"{name}@.service").write_text(text.replace(f"/usr/local/lib/dss/{script}", "/bin/true"))
+            for it in script, "node-metrics":
+                text = text.replace(f"/usr/local/lib/dss/{it}", "/bin/true")
+            (folder / f"{name}@.service").write_text(text)
             shutil.copy(DEPLOY / f"{name}@.timer", folder)
             for kind in "service", "timer":
                 (folder / f"{name}@a0.{kind}").symlink_to(f"{name}@.{kind}")
