@@ -368,15 +368,22 @@ def revision_of(site):
     return next(int(it.split()[1]) for it in asked(site, ADMIN_PORT, "/metrics").splitlines() if it.startswith("dss_pool_revision "))
 
 
-def block_of(words):
-    """Returns the commands behind these words of docs/POOL_OPERATE.md."""
-    lines, indent = [], 7 * " "
+def blocks_of(words, indent=4):
+    """Returns the blocks of commands behind these words of docs/POOL_OPERATE.md, up to the next text."""
+    found = [[]]
     for line in (TOP / "docs" / "POOL_OPERATE.md").read_text().partition(words)[2].splitlines()[1:]:
-        if line.startswith(indent):
-            lines.append(line.removeprefix(indent))
-        elif lines:
+        if line.startswith(indent * " "):
+            found[-1].append(line[indent:])
+        elif line and found != [[]]:
             break
-    return "\n".join(lines)
+        elif found[-1]:
+            found.append([])
+    return ["\n".join(it) for it in found if it]
+
+
+def block_of(words, indent=7):
+    """Returns the first one."""
+    return blocks_of(words, indent)[0]
 
 
 def runs(site, folder, script):
