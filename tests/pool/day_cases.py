@@ -125,7 +125,7 @@ def revoked(room):
     room.administer(block_of("takes the right to write"))
     same(503, room.all[1].ask(PORT, *flight("tok-a", 20, 2_000))[0], "a change without the right to write")
     room.all[0].shell("systemctl start dss-follow@a0")
-    room.administer("for it in a1 a2 b1 c1; do etcdctl role grant-permission $it readwrite in/$it; done")
+    room.administer(block_of("and give the\nright back", 4))
     for it in room.all:
         it.shell(f"systemctl restart dss-pool@{it.name}1")
     room.all[0].shell("systemctl restart dss-pool@a2")

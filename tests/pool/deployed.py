@@ -5,6 +5,7 @@ import contextlib
 import http.client
 import json
 import pathlib
+import secrets
 import shlex
 import shutil
 import signal
@@ -413,14 +414,15 @@ def same_members(sites):
 
 
 def restore_members(sites, log, *more):
-    """Stops all members, and restores each of them from the same file. No instance runs meanwhile."""
+    """Stops all members, and restores each of them from the same file, as a cluster with a new token. No instance runs meanwhile."""
+    token = f"dss-pool-{secrets.token_hex(8)}"
     for it in sites.sites:
         stop(it.member)
         shutil.rmtree(it.own / "dss", ignore_errors=True)
         settings = it.settings()
         words = ["--name", it.name, "--initial-cluster", settings["ETCD_INITIAL_CLUSTER"], "--data-dir", settings["ETCD_DATA_DIR"]]
         words += ["--initial-advertise-peer-urls", settings["ETCD_INITIAL_ADVERTISE_PEER_URLS"]]
-        words += ["--initial-cluster-token", settings["ETCD_INITIAL_CLUSTER_TOKEN"]]
+        words += ["--initial-cluster-token", token]
         command("env", "ETCDCTL_API=3", "etcdctl", "snapshot", "restore", log, *words, *more)
     for it in sites.sites:
         it.start_member()
