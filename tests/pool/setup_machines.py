@@ -66,7 +66,7 @@ def lacking():
     """Returns why no machines are possible here, or None."""
     try:
         with tempfile.TemporaryDirectory() as room:
-            script = 'mount -t tmpfs files "$1" && cd "$1" && mkdir up work && mount -t overlay overlay -o lowerdir=/etc,upperdir=up,workdir=work /etc'
+            script = 'mount -t tmpfs files "$1" && cd "$1" && mkdir up work && mount -t overlay overlay -o lowerdir=/etc,upperdir=up,workdir=work /etc && nft add table inet machine'
             command(*NAMESPACES, "bash", "-c", script, "bash", room)
     except OSError as error:
         return f"there are no machines: {error}"
