@@ -48,10 +48,10 @@ def asked(machine, path):
     return {} if status else json.loads(said)["data"]
 
 
-def await_alerts(machine, *names):
-    """Waits until Prometheus has alerts of these names, pending or firing."""
+def await_alerts(machine, *names, asks=lambda: None):
+    """Waits until Prometheus has alerts of these names, pending or firing. Calls a function meanwhile."""
     has = lambda: {it["labels"]["alertname"] for it in asked(machine, "alerts").get("alerts", ())}
-    until(lambda: set(names) <= has(), f"the alerts {names}", ALERTED)
+    until(lambda: asks() or set(names) <= has(), f"the alerts {names}", ALERTED)
 
 
 def alerts(room):
@@ -95,6 +95,9 @@ def passwords(room):
     b, before = room.all[1], [(room.keeper / it).read_text().strip() for it in ("b1.user", "root.user")]
     first, second = blocks_of("### Rotating passwords"), blocks_of("For root:")
     room.administer(first[0])
+    refused = lambda: same(503, b.ask(PORT, "tok-a", "GET", flight("tok-a", 1)[2])[0], "a read with the password before")
+    if not room.done:
+        await_alerts(b, "DssPoolUnavailable", asks=refused)
     wants(room.organize(b), room.done, "ok: instance b1: serving")
     room.administer(second[0])
     for user in before:

@@ -613,9 +613,13 @@ ALERTS = {
         {"dss_pool_batches_open": "1x40", "dss_pool_entries_total": "0+9x40"},
     ),
     "DssPoolRequestsWaiting": ({"dss_pool_requests_waiting": "101x40"}, {"dss_pool_requests_waiting": "101x38 100 101"}),
+    "DssPoolUnavailable": (
+        {'dss_requests_total{status="503"}': "0+2x40", 'dss_requests_total{status="200"}': "0+8x40"},
+        {'dss_requests_total{status="503"}': "0+1x40", 'dss_requests_total{status="200"}': "0+19x40"},
+    ),
     "DssPoolBehind": (
-        {'dss_pool_revision{instance="a"}': "2000x40", 'dss_pool_revision{instance="b"}': "999x40"},
-        {'dss_pool_revision{instance="a"}': "2000x40", 'dss_pool_revision{instance="b"}': "1000x40"},
+        {"dss_pool_revision": "1700x40", "etcd_debugging_mvcc_current_revision": "1600+30x40"},
+        {"dss_pool_revision": "100x40", "etcd_debugging_mvcc_current_revision": "1600+15x40"},
     ),
     "DssPoolManyLeaders": (
         {"etcd_server_leader_changes_seen_total": "0x30 1+1x10"}, {"etcd_server_leader_changes_seen_total": "0x38 3x2"},
@@ -681,9 +685,9 @@ def metrics(sites):
     site = sites.sites[0]
     had = {it.split("{")[0].split()[0] for port in (ADMIN_PORT, ETCD_METRICS_PORT) for it in asked(site, port, "/metrics").splitlines() if it}
     named = {it for series in ALERTS.values() for it in (name.split("{")[0] for name in series[0])}
-    # Prometheus makes the first one itself. An instance has the second one once it was given a call of another organization. node_exporter
-    # has the others.
-    others = {"up", "dss_pool_heard_time_seconds"}
+    # Prometheus makes the first one itself. An instance has the others once it was given a call of another organization, and a request.
+    # node_exporter has the rest.
+    others = {"up", "dss_pool_heard_time_seconds", "dss_requests_total"}
     same([], sorted(it for it in named - had - others if not it.startswith(OF_NODE)), "metrics that nothing has")
 
 
