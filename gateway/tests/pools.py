@@ -7,10 +7,11 @@ import subprocess
 import threading
 import time
 
+import proxies
 from flows import EVERYWHERE, NEW, Place, reference
 from maps import AREA, enter, map_tokens, opened, over_map, text, until
 from world import (
-    BESIDE, FAR, FRONT, INTENTS, MANHATTAN, STRATEGIC, SUBSCRIPTIONS, Counted, Gateway, Service, circle, expect, extent, free_port, intent, new_id)
+    BESIDE, FAR, FRONT, INTENTS, MANHATTAN, STRATEGIC, SUBSCRIPTIONS, TOP, Counted, Gateway, Service, circle, expect, extent, free_port, intent, new_id)
 
 SILENT = "failing: the log of the pool does not answer"
 FILES = ("tokens", "tokens.toml"), ("keys", "keys.pem"), ("secret", "secret")
@@ -244,6 +245,45 @@ def a_denied_put_at_the_other_gateway(files, program, count=20):
             expect(one.a("DELETE", f"{path}/{named['ovn']}"), 200)
 
 
+# ---- behind the proxy of a pool
+
+def documented_configuration():
+    """Returns what the command of gateway/README.md makes of the configuration of the proxy."""
+    section = (TOP / "gateway" / "README.md").read_text().split("## Gateways in a pool\n")[1].split("\n## ")[0]
+    command = section[section.index("sed -e "):].split("\n\n")[0]
+    return subprocess.run(["bash", "-c", command], cwd=TOP, stdout=subprocess.PIPE, text=True, check=True).stdout
+
+
+def gateways_behind_haproxy(files, program):
+    """Requests go to the gateways whose instances serve; to any that responds if none does; and past a gateway that is gone."""
+    services, admins, token = [Counted(), Counted()], [Instance(), Instance()], files.token("uss-a", STRATEGIC)
+    gateways = [Gateway(program, files, service.port, "--admin-url", admin.url) for service, admin in zip(services, admins)]
+    changes = [it for k in (0, 1) for it in ((f"127.0.0.1:8{k}81 ", f"127.0.0.1:{gateways[k].port} "), (f"check port 8{k}78", f"check port {admins[k].port}"))]
+    path = f"{FRONT}uss_availability/uss-b"
+
+    def served(port):
+        """Returns which services got one of some requests, all of which are answered."""
+        before = [len(it.asked) for it in services]
+        assert [proxies.ask(port, token, "GET", path) for _ in range(6)] == [200] * 6
+        time.sleep(0.3)
+        return [len(it.asked) > count for it, count in zip(services, before)]
+    with proxies.haproxy_by(files, documented_configuration(), changes) as (port, _):
+        until(lambda: served(port), lambda it: it == [True, True])
+        admins[0].say(503, f"{SILENT}\n")
+        until(lambda: served(port), lambda it: it == [False, True])
+        admins[1].say(503, f"{SILENT}\n")
+        time.sleep(6)
+        assert any(served(port))
+        admins[0].say(200, "serving\n")
+        until(lambda: served(port), lambda it: it == [True, False])
+        admins[1].say(200, "serving\n")
+        until(lambda: served(port), lambda it: it == [True, True])
+        assert gateways[0].end(), gateways[0].lines()[-3000:]
+        assert [served(port) for _ in range(3)] == [[False, True]] * 3
+    assert gateways[1].end(), gateways[1].lines()[-3000:]
+    [it.end() for it in (*services, *admins)]
+
+
 # ---- the map
 
 def instances_on_the_map(files, program):
@@ -293,4 +333,4 @@ def instances_on_the_page(files, program):
 
 
 ALL = [health_by_the_admin_port, health_by_a_reading, health_of_a_service, refused_options, subscriptions_of_two_gateways, races_of_two_gateways,
-       a_denied_put_at_the_other_gateway, instances_on_the_map, instances_on_the_page]
+       a_denied_put_at_the_other_gateway, gateways_behind_haproxy, instances_on_the_map, instances_on_the_page]
