@@ -41,12 +41,18 @@ Condition Health::asked() const {
   return said ? of(*said) : Condition{false, "no answer", std::time(nullptr)};
 }
 
-Condition Health::now() {
+Condition Health::known() {
   std::lock_guard<std::mutex> lock(mutex_);
-  auto clock = [] { return std::chrono::steady_clock::now(); };
-  if (condition_.asked == 0 || clock() - last_ >= kFresh) {
-    condition_ = asked();
-    last_ = clock();
-  }
   return condition_;
+}
+
+Condition Health::now() {
+  std::unique_lock<std::mutex> turn(asking_, std::try_to_lock);
+  if (Condition before = known(); !turn && before.asked != 0) return before;
+  if (!turn) turn.lock();
+  if (condition_.asked != 0 && std::chrono::steady_clock::now() - last_ < kFresh) return condition_;
+  Condition made = asked();
+  last_ = std::chrono::steady_clock::now();
+  std::lock_guard<std::mutex> lock(mutex_);
+  return condition_ = made;
 }

@@ -21,19 +21,21 @@ class Health {
   // As a reading of the public port shows, which its caller may have answered; without a token an unknown path is read.
   static Health of_service(int port, const std::string& token);
 
-  // What was answered last, asked anew where that was a while ago. Takes two seconds at most, and a caller at a time.
+  // What was answered last, asked anew where that was a while ago, which takes two seconds at most. While a caller asks, others
+  // get what was answered before.
   Condition now();
 
  private:
   Health(const Place& place, std::string target, std::string token, bool is_operators)
       : place_(place), target_(std::move(target)), token_(std::move(token)), is_operators_(is_operators) {}
+  Condition known();
   Condition asked() const;
   Condition of(const Said& said) const;
 
   Place place_;
   std::string target_, token_;
   bool is_operators_;
-  std::mutex mutex_;
+  std::mutex asking_, mutex_;  // of the caller that asks, who alone changes what follows, and of the condition
   std::chrono::steady_clock::time_point last_ = {};
   Condition condition_ = {};
 };

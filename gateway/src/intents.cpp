@@ -95,7 +95,13 @@ Answer Intents::denied(Answer answer, const WantedSubscription& wanted) {
   return answer;
 }
 
-// The put with the subscription that it asks for, which it leaves where the answer is lost: the intent may name it.
+// Whether a pool may still make what was answered so.
+bool Intents::is_open(const Answer& answer) {
+  std::string message = answer.body.value("message", "");
+  return answer.status == 503 && (message == "unknown" || message == "stopped");
+}
+
+// The put with the subscription that it asks for, which it leaves where the intent may name it: also where the answer is lost.
 Answer Intents::put_once(const std::string& id, const std::string& ovn, IntentPut& put) {
   std::optional<std::string> made;
   if (put.wanted) {
@@ -104,7 +110,7 @@ Answer Intents::put_once(const std::string& id, const std::string& ovn, IntentPu
     put.body["subscription_id"] = *made;
   }
   Answer answer = service_.ask("PUT", kIntents + id + (ovn.empty() ? "" : "/" + ovn), put.body);
-  if (made && !answer.is_done()) take_away(*made);
+  if (made && !answer.is_done() && !is_open(answer)) take_away(*made);
   return answer;
 }
 

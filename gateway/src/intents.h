@@ -30,6 +30,7 @@ class Intents {
   std::string seal(const std::string& half) const;
   std::optional<std::string> named_by(const std::string& intent);
   Answer make(const std::string& intent, const std::string& ovn, const json& body, std::optional<std::string>& made);
+  static bool is_open(const Answer& answer);
   static Answer denied(Answer answer, const WantedSubscription& wanted);
   Answer put_once(const std::string& id, const std::string& ovn, IntentPut& put);
   void take_away(const std::string& subscription);

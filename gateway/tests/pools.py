@@ -245,6 +245,41 @@ def a_denied_put_at_the_other_gateway(files, program, count=20):
             expect(one.a("DELETE", f"{path}/{named['ovn']}"), 200)
 
 
+def an_open_put_keeps_its_subscription(files, program):
+    """If a pool may still make the intent, the subscription that it names stays, and the same put at another gateway finds it. If the
+    intent is denied, the subscription is deleted."""
+    shared, asked, said = files.folder / "subscription-secret", [], {}
+    shared.write_text("fedcba9876543210" * 4)
+
+    class Handler(http.server.BaseHTTPRequestHandler):
+        def answer(self):
+            self.rfile.read(int(self.headers["Content-Length"] or 0))
+            asked.append((self.command, self.path))
+            made = {"subscription": {"id": new_id(), "version": "0123456789abcdef", "dependent_operational_intents": []}}
+            status, body = said["intent"] if self.path.startswith(INTENTS) else (200, made)
+            body = json.dumps(body).encode()
+            self.wfile.write(b"HTTP/1.1 %d X\r\nContent-Length: %d\r\nConnection: close\r\n\r\n%s" % (status, len(body), body))
+        do_PUT = do_GET = do_DELETE = answer
+
+        def log_message(self, *_):
+            pass
+    server = http.server.ThreadingHTTPServer(("127.0.0.1", free_port()), Handler)
+    threading.Thread(target=server.serve_forever, daemon=True).start()
+    gateways = [Gateway(program, files, server.server_port, "--subscription-secret", str(shared), without=["secret"]) for _ in range(2)]
+    token, name, body = files.token("uss-a", STRATEGIC), new_id(), intent(extent(MANHATTAN), **NEW)
+    for status, message in (503, "unknown"), (503, "stopped"), (503, "unreachable"), (409, "P14 KEY"):
+        said["intent"] = status, {"message": message}
+        for it in gateways:
+            expect(it.ask(token, "PUT", f"{INTENTS}/{name}", body), status, message)
+        of_subscriptions = [it for it in asked if it[1].startswith(SUBSCRIPTIONS)]
+        methods = ["PUT"] if message in ("unknown", "stopped") else ["PUT", "GET", "DELETE"]
+        assert [method for method, _ in of_subscriptions] == methods * 2 and len({path.split("/")[4] for _, path in of_subscriptions}) == 1, asked
+        asked.clear()
+    assert all(it.end() for it in gateways), [it.lines()[-3000:] for it in gateways]
+    server.shutdown()
+    server.server_close()
+
+
 # ---- behind the proxy of a pool
 
 def documented_configuration():
@@ -333,4 +368,4 @@ def instances_on_the_page(files, program):
 
 
 ALL = [health_by_the_admin_port, health_by_a_reading, health_of_a_service, refused_options, subscriptions_of_two_gateways, races_of_two_gateways,
-       a_denied_put_at_the_other_gateway, gateways_behind_haproxy, instances_on_the_map, instances_on_the_page]
+       a_denied_put_at_the_other_gateway, an_open_put_keeps_its_subscription, gateways_behind_haproxy, instances_on_the_map, instances_on_the_page]
