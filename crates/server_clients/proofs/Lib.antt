@@ -1,0 +1,5 @@
+mod Backends
+mod CallOrders
+mod Keys
+mod Replies
+mod Served
