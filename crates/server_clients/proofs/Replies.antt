@@ -35,7 +35,7 @@ no_notes On = tt
 
 notes_for : (explaining : Explaining) (t : RequestTexts) (reply : Reply) → MayHaveTexts explaining t → MayBeNotes explaining (texts_for t reply)
 notes_for explaining t (replies.Done answer) may = may.1
-notes_for explaining t (replies.Denied rule missing) may = may.0
+notes_for explaining t (replies.Denied _ _) may = may.0
 notes_for explaining t replies.Fault may = no_notes explaining
 notes_for explaining t replies.Stopped may = no_notes explaining
 

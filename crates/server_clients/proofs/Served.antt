@@ -148,7 +148,7 @@ told_name None ticket outcome lost l = refl
 told_name (Some w) ticket outcome lost l = told_name_so (w.ticket == ticket) lost w outcome l
 
 module _ {B M : Type 0} (b : backends.Ghosts B) (m : moments.Ghosts M) (explaining : Explaining) (table : TokenFile) where
-  event_name : (event : ClientEvent) (old new : ServedClient B M) → Occurs b m explaining table event old new → new.client.name ≡ old.client.name
+  pub event_name : (event : ClientEvent) (old new : ServedClient B M) → Occurs b m explaining table event old new → new.client.name ≡ old.client.name
   event_name (Steps step) old new h = ap (λ (v : ServedClient B M). v.client.name) h.2 ∙ step_name step old.client h.0 h.1
   event_name (Asks asked made received texts lost) old new h = ap (λ (v : ServedClient B M). v.client.name) h.5 ∙ asked_name lost asked received texts h.0 old.client
   event_name (EndsStream end) old new h = ap (λ (v : ServedClient B M). v.client.name) h.3

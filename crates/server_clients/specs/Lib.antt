@@ -1,8 +1,10 @@
 pub mod Backends
 pub mod CallOrder
 pub mod ClientEvents
+pub mod ClientIo
 pub mod ClientState
 pub mod Clients
+pub mod Offered
 pub mod Replies
 pub mod ServerEvents
 pub mod Texts

@@ -34,7 +34,7 @@ MayHaveTexts explaining t = MayBeNotes explaining t.if_denied × MayBeNotes expl
 -- The texts of the response to a reply.
 abbrev pub texts_for : RequestTexts → Reply → List (List ℕ)
 texts_for t (replies.Done answer) = t.if_done
-texts_for t (replies.Denied rule missing) = t.if_denied
+texts_for t (replies.Denied _ _) = t.if_denied
 texts_for t replies.Fault = []
 texts_for t replies.Stopped = []
 
