@@ -2,6 +2,7 @@ mod Backends
 mod CallOrders
 pub mod Events
 mod Keys
+mod Queues
 mod Replies
 mod Served
 pub mod States

@@ -3,7 +3,8 @@ ghost use Rattle.std.specs.Prelude.{◌≡◌, IfOk, IsTrue};
 ghost use Rattle.token_conf.specs.TokenFile.{callers_of};
 ghost use Rattle.server_clients.specs.ClientEvents.{ClientRuns, served_client};
 ghost use Rattle.server_clients.specs.ClientIo.{Reads, Writes, client_state, connection_of};
-ghost use Rattle.server_clients.specs.ClientState.{ClientSteps, aborted, limited, new_client, told};
+ghost use Rattle.server_clients.specs.ClientState.{ClientSteps, IsClosable, aborted, limited};
+ghost use Rattle.server_clients.specs.ClientState.{new_client, told};
 ghost use Rattle.server_clients.specs.Offered.{LosesOffer, OffersNext, PutsAs, Resolved};
 
 use crate::reason::Reason;
@@ -195,6 +196,18 @@ impl<T: ClientSocket> ClientIo<T> {
         ensures { client_state T.name self.new ≡ aborted (client_state T.name self.old) why }
     {
         self.why = Some(why);
+    }
+
+    /// Stops answering the client for this reason, unless it has all its responses or was stopped
+    /// before.
+    pub(crate) fn conclude(&mut self, why: Reason)
+        ensures steps { (past : Option (List HistoryEvent)) → ClientSteps
+            (client_state T.name self.old) (client_state T.name self.new) past past }
+        ensures closable { IsClosable (client_state T.name self.new) }
+    {
+        if self.why.is_none() && (self.wants_write() || self.is_waiting()) {
+            self.why = Some(why);
+        }
     }
 
     /// Reads at most `most` bytes of requests, and no more than there is room for.
@@ -418,7 +431,7 @@ impl<T: ClientSocket> ClientIo<T> {
         next: NextRequest,
     ) -> Result<(), AllocError>
         requires none_waits { is_waiting (connection_of self.old) ≡ false }
-        requires front { IsFront (callers_of context.entry.tokens.now)
+        requires front { IsFront (callers_of context.tokens.now)
             (left_of (connection_of self.old)) (buffered_of (connection_of self.old)) next }
         ensures { MatchResult result
             (λ _. OffersNext B.Backend context.entry.explaining moment next
