@@ -31,6 +31,10 @@ EVERYWHERE = ("uss-v", "uss-w")
 # The number of the process that writes the entries of a test.
 NUMBER = 77
 WATCHED = f"{wire.SUBSCRIPTIONS}/00000000-0000-4000-8000-00000000beef"
+# How many calls an entry has at most, and how many flights each of them meets in the case of large replies.
+MOST_CALLS, FLIGHTS = 64, 4_096
+# How many kilobytes an entry of another organization may add to the peak memory. All its replies together have over 100 MB.
+LITTLE = 32_768
 
 
 def with_organizations(case):
@@ -403,6 +407,34 @@ def one_service(pool):
     assert pages(pool.ports[0]) == pages(pool.ports[1]) == pages(pool.ports[2])
 
 
+def peak(door):
+    """Returns the peak memory of an instance, in kilobytes."""
+    status = pathlib.Path(f"/proc/{door.process.pid}/status").read_text()
+    return next(int(it.split()[1]) for it in status.splitlines() if it.startswith("VmHWM:"))
+
+
+def large_replies(pool):
+    """An instance keeps no reply to a call of others: 64 large ones in one entry cost the memory of one."""
+    for first in range(0, FLIGHTS, MOST_CALLS):
+        lie(pool, "in/d1", *map(put, range(first, first + MOST_CALLS)))
+    ends = [0, FLIGHTS - 1]
+    all_see(pool, ends, ends)
+    # each of these meets every flight, and has no key
+    area = json.loads(intent_body(0))
+    area["extents"][0]["time_end"] = json.loads(intent_body(FLIGHTS))["extents"][0]["time_end"]
+    denied = [(*put(FLIGHTS + it, "tok-b")[:3], json.dumps(area).encode()) for it in range(MOST_CALLS)]
+    taken, before = counts(pool), [peak(it) for it in pool.doors]
+    lie(pool, "in/d2", *denied)
+    assert counts(pool) == [it + 1 for it in taken], (taken, counts(pool))
+    after = [peak(it) for it in pool.doors]
+    assert all(new < old + LITTLE for old, new in zip(before, after)), (before, after)
+    status, body = ask(pool.doors[0], denied[0])
+    assert (status, len(json.loads(body)["missing_operational_intents"])) == (409, FLIGHTS), (status, body[:500])
+    created(pool.doors[1], 2 * FLIGHTS)
+    all_see(pool, [*ends, FLIGHTS, 2 * FLIGHTS], [*ends, 2 * FLIGHTS])
+    assert [it.process.poll() for it in pool.doors] == [None] * 3, [it.lines[-5:] for it in pool.doors]
+
+
 class Gate:
     """Connects an instance to a member of etcd, and can hold what the watch gives, at once or after some lines."""
 
@@ -616,4 +648,5 @@ CASES = {
     "suppliers and an own entry": with_organizations(own_entry),
     "suppliers at a start": with_organizations(at_a_start),
     "suppliers by a script": with_cluster(by_script, 1),
+    "large replies of others": with_organizations(large_replies),
 }

@@ -1,7 +1,8 @@
 //! The chain of a pool's file: the digests over the changes of the log up to the revision of the file,
 //! and over fewer.
 //!
-//! The first line has the number of changes of the first digest. Each further line is a digest.
+//! The first line has the numbers of changes of the first digest and of the last one. Each further line
+//! is a digest.
 use crate::cause::Cause;
 use crate::pool_files::{FileName, PoolFiles};
 use dss_command::fault::{Fault, io_fault};
@@ -12,7 +13,7 @@ use pool_chain::link::{Link, MAX_BEHIND};
 use std::alloc::{AllocError, Global};
 use std::io;
 
-// The first line, up to the number.
+// The first line, up to the numbers.
 const FIRST: &str = "dss-chain 1 ";
 
 // Adds the line of a digest.
@@ -27,7 +28,8 @@ fn text_of(alloc: Global, chain: &Chain) -> Result<String, AllocError> {
     let link = chain.link();
     let kept = chain.kept();
     let first = link.count.saturating_sub(kept as u64);
-    let mut text = format!(in alloc; "{FIRST}{first}\n")?;
+    let count = link.count;
+    let mut text = format!(in alloc; "{FIRST}{first} {count}\n")?;
     for index in 0..kept {
         if let Some(digest) = chain.earlier(index) {
             push_digest(alloc, &mut text, &digest)?;
@@ -45,31 +47,38 @@ fn digest_of(line: Option<&str>) -> Option<[u8; 32]> {
     }
 }
 
-// Returns the number in the first line.
-fn first_number(line: Option<&str>) -> Option<u64> {
-    match line?.strip_prefix(FIRST)?.parse::<u64>() {
-        Ok(number) => Some(number),
-        Err(_) => None,
+// Returns the numbers in the first line.
+fn numbers_of(line: Option<&str>) -> Option<(u64, u64)> {
+    let (first, last) = line?.strip_prefix(FIRST)?.split_once(' ')?;
+    match (first.parse::<u64>(), last.parse::<u64>()) {
+        (Ok(first), Ok(last)) => Some((first, last)),
+        _ => None,
     }
 }
 
-// Returns the chain that a text is. It must keep all digests that links are compared with.
+// Returns the chain that a text is. It must keep all digests that links are compared with, so a text
+// that was cut is none.
 fn parse(alloc: Global, text: &str) -> Result<Option<Chain>, AllocError> {
     let mut lines = text.lines();
-    let Some(count) = first_number(lines.next()) else {
+    let Some((first, last)) = numbers_of(lines.next()) else {
         return Ok(None);
     };
     let Some(digest) = digest_of(lines.next()) else {
         return Ok(None);
     };
-    let mut chain = Chain::behind(alloc, Link { count, digest });
+    let link = Link {
+        count: first,
+        digest,
+    };
+    let mut chain = Chain::behind(alloc, link);
     for line in lines {
         let Some(digest) = digest_of(Some(line)) else {
             return Ok(None);
         };
         chain.push(digest)?;
     }
-    if count > 0 && (chain.kept() as u64) < MAX_BEHIND {
+    let is_short = first > 0 && (chain.kept() as u64) < MAX_BEHIND;
+    if is_short || chain.link().count != last {
         return Ok(None);
     }
     Ok(Some(chain))

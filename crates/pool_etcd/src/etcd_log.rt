@@ -168,9 +168,6 @@ impl LogState {
         let organization = organization_of(key);
         if organization != organization_of(self.key.as_bytes()) {
             let _ = self.comparisons.note(self.alloc, organization, differs);
-            if self.comparisons.is_diverged() {
-                self.loss = Some(Loss::Diverged);
-            }
         }
     }
 
@@ -205,16 +202,17 @@ impl LogState {
         }
     }
 
-    // Takes the verdicts on links, until the log is lost.
+    // Takes the verdicts on links. The log is lost if most organizations differ. Before it was read,
+    // those that agree may not have been compared.
     fn note_verdicts(&mut self, now: Duration) {
         for _ in 0..u64::MAX {
-            if self.loss.is_some() {
-                return;
-            }
             match self.following.next_verdict() {
                 Some(verdict) => self.note_verdict(verdict, now),
-                None => return,
+                None => break,
             }
+        }
+        if self.is_read && self.loss.is_none() && self.comparisons.is_diverged() {
+            self.loss = Some(Loss::Diverged);
         }
     }
 

@@ -17,7 +17,7 @@ use Rattle.service_calls.specs.Held.{is_shut, salt_of, space_of}
 use Rattle.service_calls.specs.Run.{IsReplyTo}
 use Rattle.pool_core.specs.Acts.{airspace_by, replies_by}
 use Rattle.service_calls.specs.Service.{Leaves}
-use Rattle.pool_core.specs.Events.{AfterFirst, Answers, Drops, Fails, Gets, InstanceEvent, Offers, batches_offered, entries_given}
+use Rattle.pool_core.specs.Events.{AfterFirst, Answers, Drops, Gets, InstanceEvent, Offers, batches_offered, entries_given}
 use Rattle.pool_core.specs.Log.{Continues, GivesEntry, LogEntry, TakesBatch}
 use Rattle.pool_core.specs.Serves.{AllMayFollow, AreOpen, ReachesEnd, airspace_at, acts_in, ended_in, ids_offered, offered_in}
 use Rattle.pool_core.specs.Unlogged.{reads}

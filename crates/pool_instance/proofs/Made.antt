@@ -1,22 +1,24 @@
 -- Lemmas: replies that are all those of the policy, and acts.
-use Rattle.std.proofs.Common.{◌≡◌, ℕ, zero, suc, false, List, [], ◌∷◌, length, map, Option, Some, None, slice_get, refl, sym, ap, subst, ◌∙◌, arith}
-use Rattle.std.specs.Prelude.{All, Contains}
-use Rattle.std.proofs.lemmas.List.Elements.{All-head, All-tail}
+use Rattle.std.proofs.Common.{◌≡◌, ◌+◌, ℕ, zero, suc, Bool, true, false, List, [], ◌∷◌, ◌++◌, length, map, take, Option, Some, None, slice_get, get_or, refl, sym, ap, subst, ◌∙◌, arith}
+use Rattle.std.specs.Prelude.{All, Contains, ◌<◌, if◌then◌else◌}
+use Rattle.std.proofs.lemmas.List.{append-nil, take_more}
+use Rattle.std.proofs.lemmas.List.Elements.{All-head, All-nil, All-push, All-tail}
 use Rattle.space_core.specs.Space.{IsContent}
 use Rattle.space_core.specs.declared.space.Space.{Ghosts}
 use Rattle.service_step.specs.declared.reply.Reply.{Reply}
 use Rattle.service_step.specs.declared.reply.Reply.TheVariants.{Done, Denied, Fault, Stopped}
 use Rattle.service_step.specs.Step.{IsDoneOrDenied}
 use Rattle.service_calls.specs.Held.{is_shut, salt_of, space_of}
-use Rattle.service_calls.specs.Run.{Answered, TimedCall, airspace_after, answered_calls, delivered_replies, has_stopped, replies_of}
+use Rattle.service_calls.specs.Run.{Answered, AskedInOrder, IsReplyTo, TimedCall, airspace_after, answered_calls, delivered_replies, has_stopped, replies_of}
 use Rattle.service_calls.specs.declared.service.Service.{Service}
+use Rattle.service_calls.proofs.Runs.{answered, asked_more}
 use Rattle.entity_core.specs.Airspace.{Airspace}
 use Rattle.pool_core.specs.Acts.{Act, Makes, Purges, makes_all}
 use Rattle.pool_core.proofs.Acts.{calls_are_acts}
 use Rattle.pool_core.proofs.Lists.{contains_get}
-use Rattle.std.proofs.lemmas.List.{append-nil}
-use Rattle.pool_core.specs.Purging.{PurgesAll}
-use Rattle.pool_instance.specs.Lists.{DidActs}
+use Rattle.pool_core.specs.Purging.{Keeps, PurgesAll}
+use Rattle.pool_core.proofs.Purges.{keeps_stays}
+use Rattle.pool_instance.specs.Lists.{DidActs, DidKeeping}
 use Rattle.pool_instance.proofs.Times.{image_in}
 
 deliver_one : (r : Reply) (rs : List Reply) → IsDoneOrDenied r → delivered_replies (r ∷ rs) ≡ r ∷ delivered_replies rs
@@ -70,8 +72,59 @@ made_calls g old new cs rs a all goes =
           );
     }
 
-pub acts_same : {S : Type 0} (g : Ghosts S) (xs ys : List Act) (old new : Service S) (rs : List Reply) → xs ≡ ys → DidActs g xs old new rs → DidActs g ys old new rs
-acts_same g xs ys old new rs e did = subst (λ (v : List Act). DidActs g v old new rs) e did
+-- ---- replies that are kept
+
+keep_next : (b : Bool) (r : Reply) (rs kept kept' : List Reply) → kept ≡ (if b then rs else []) → (b ≡ true → kept' ≡ kept ++ r ∷ []) → (b ≡ false → kept' ≡ kept) → kept' ≡ (if b then rs ++ r ∷ [] else [])
+keep_next true r rs kept kept' h own other = own refl ∙ ap (λ (v : List Reply). v ++ r ∷ []) h
+keep_next false r rs kept kept' h own other = other refl ∙ h
+
+no_replies : (b : Bool) (kept : List Reply) → kept ≡ [] → kept ≡ (if b then [] else [])
+no_replies true kept h = h
+no_replies false kept h = h
+
+module _ {S : Type 0} (g : Ghosts S) (is_own : Bool) where
+  -- Holds if the service made these calls, and kept these of the replies, which are all of the policy.
+  pub record KeptSome (old : Service S) (calls : List TimedCall) (new : Service S) (kept : List Reply) : Type 0 where
+    pub replies : List Reply
+    pub asked : AskedInOrder g old calls replies new
+    pub final : All IsDoneOrDenied replies
+    pub keeps : kept ≡ (if is_own then replies else [])
+
+  pub kept_none : (old : Service S) (kept : List Reply) → kept ≡ [] → KeptSome old [] old kept
+  kept_none old kept none = record { replies = []; asked = refl; final = All-nil IsDoneOrDenied; keeps = no_replies is_own kept none }
+
+  pub kept_made : (old : Service S) (calls : List TimedCall) (new : Service S) (kept : List Reply) → KeptSome old calls new kept → DidKeeping g is_own (makes_all calls) old new kept
+  kept_made old calls new kept k = record {
+    replies = k.replies;
+    did = λ goes. made_calls g old new calls k.replies (answered g old calls k.replies new k.asked) k.final goes;
+    keeps = k.keeps;
+  }
+
+  pub kept_stays : (old : Service S) (calls : List TimedCall) (new : Service S) (kept : List Reply) → KeptSome old calls new kept → Keeps g old new
+  kept_stays old calls new kept k = keeps_stays g old new (answered g old calls k.replies new k.asked).stays
+
+  module _ (old : Service S) (calls : List TimedCall) (n : ℕ) (mid new : Service S) (kept : List Reply) (k : KeptSome old (take n calls) mid kept)
+      (c : TimedCall) (there : n < length calls) (is : c ≡ get_or calls n c) (r : Reply) (reply : IsReplyTo g mid new c.0 c.1 r) where
+    one_more : take (n + 1) calls ≡ take n calls ++ c ∷ []
+    one_more = take_more calls n c there ∙ ap (λ (v : TimedCall). take n calls ++ v ∷ []) (sym is)
+
+    asked_next : AskedInOrder g old (take n calls ++ c ∷ []) (k.replies ++ r ∷ []) new
+    asked_next = asked_more g old (take n calls) k.replies mid new c r k.asked reply
+
+    -- Also a call that failed left what a service keeps.
+    pub stays_next : Keeps g old new
+    stays_next = keeps_stays g old new (answered g old (take n calls ++ c ∷ []) (k.replies ++ r ∷ []) new asked_next).stays
+
+    pub kept_next : IsDoneOrDenied r → (kept' : List Reply) → (is_own ≡ true → kept' ≡ kept ++ r ∷ []) → (is_own ≡ false → kept' ≡ kept) → KeptSome old (take (n + 1) calls) new kept'
+    kept_next final kept' own other = record {
+      replies = k.replies ++ r ∷ [];
+      asked = subst (λ (v : List TimedCall). AskedInOrder g old v (k.replies ++ r ∷ []) new) (sym one_more) asked_next;
+      final = All-push IsDoneOrDenied k.replies r k.final final;
+      keeps = keep_next is_own r k.replies kept kept' k.keeps own other;
+    }
+
+pub acts_keeping : {S : Type 0} (g : Ghosts S) (is_own : Bool) (xs ys : List Act) (old new : Service S) (kept : List Reply) → xs ≡ ys → DidKeeping g is_own xs old new kept → DidKeeping g is_own ys old new kept
+acts_keeping g is_own xs ys old new kept e did = subst (λ (v : List Act). DidKeeping g is_own v old new kept) e did
 
 -- The call at a place of a list is among the acts that make these calls.
 pub made_at : (calls : List TimedCall) (n : ℕ) (timed : TimedCall) → Some timed ≡ slice_get calls n → Contains (makes_all calls) (Makes timed)
@@ -91,3 +144,6 @@ did_purge g until old new all = record {
     all.content sound a content,
   );
 }
+
+pub purge_keeping : {S : Type 0} (g : Ghosts S) (is_own : Bool) (until : ℕ) (old new : Service S) (kept : List Reply) → kept ≡ [] → (is_shut old ≡ false → PurgesAll g until old new) → DidKeeping g is_own (Purges until ∷ []) old new kept
+purge_keeping g is_own until old new kept none all = record { replies = []; did = λ goes. did_purge g until old new (all goes); keeps = no_replies is_own kept none }

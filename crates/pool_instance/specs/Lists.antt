@@ -1,5 +1,5 @@
 -- Lists of requests, and the acts of an entry.
-use Rattle.std.specs.Prelude.{◌≡◌, ◌<◌, ◌+◌, ℕ, false, List, [], ◌∷◌, ◌++◌, All, Option, Some, None, length, map, take}
+use Rattle.std.specs.Prelude.{◌≡◌, ◌<◌, ◌+◌, ℕ, Bool, false, List, [], ◌∷◌, ◌++◌, All, Option, Some, None, length, map, take, if◌then◌else◌}
 use Rattle.entity_core.specs.Airspace.{Airspace}
 use Rattle.space_core.specs.Space.{IsContent}
 use Rattle.space_core.specs.declared.space.Space.{Ghosts}
@@ -53,6 +53,14 @@ pub record DidActs {S : Type 0} (g : Ghosts S) (acts : List Act) (old new : Serv
   pub made : g.is_sound (space_of new) → (a : Airspace) → IsContent g.holds (space_of old) a
       → AreReplies replies (replies_by (salt_of old) a acts)
       × IsContent g.holds (space_of new) (airspace_by (salt_of old) a acts)
+
+-- Holds if the service did acts, and kept these replies of the policy: all of own acts, and none of
+-- others.
+pub record DidKeeping {S : Type 0} (g : Ghosts S) (is_own : Bool) (acts : List Act)
+    (old new : Service S) (kept : List Reply) : Type 0 where
+  pub replies : List Reply
+  pub did : is_shut old ≡ false → DidActs g acts old new replies
+  pub keeps : kept ≡ (if is_own then replies else [])
 
 -- The replies to the requests of a batch that have a number, each with it.
 abbrev pub told_of : List (Option ℕ) → List Reply → List (ℕ × Reply)

@@ -333,7 +333,8 @@ impl<L: Log + Drop, S: PurgeEnded + Drop> Instance<L, S> {
     }
 
     /// Takes the next entry, if the log gives one, and does its acts in order. Returns the replies
-    /// to the requests of its own batch, each with the number of its request.
+    /// to the requests of its own batch, each with the number of its request. Keeps no reply to a
+    /// call of another process.
     ///
     /// If memory runs out in a call, the instance ends: others have made the call.
     pub fn take(
@@ -369,9 +370,16 @@ impl<L: Log + Drop, S: PurgeEnded + Drop> Instance<L, S> {
         ensures { MakesEntry L.Log S.Space (entry_of entry.now) self.old self.new result }
     {
         let taken = self.taken.checked_add(1)?;
-        let done = do_acts(&mut self.service, alloc, routes, entry.bytes.as_slice())?;
+        let is_own = entry.writer == self.log.number();
+        let done = do_acts(
+            &mut self.service,
+            alloc,
+            routes,
+            entry.bytes.as_slice(),
+            is_own,
+        )?;
         let purges = self.purges.with(done.purges);
-        if entry.writer != self.log.number() {
+        if !is_own {
             self.taken = taken;
             self.purges = purges;
             if has_other_clock && done.last.is_some() {

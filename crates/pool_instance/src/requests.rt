@@ -1,6 +1,5 @@
 //! Lists of requests, and the acts of an entry.
-ghost use Rattle.std.specs.Prelude.{◌≡◌, ◌==◌, All, false, true, IfOk, IfSome, length, map, position};
-ghost use Rattle.service_calls.specs.Held.{is_shut};
+ghost use Rattle.std.specs.Prelude.{◌≡◌, ◌==◌, ◌∷◌, ◌++◌, [], All, false, true, IfOk, IfSome, OnOk, length, map, position};
 ghost use Rattle.service_step.specs.Step.{IsDoneOrDenied};
 ghost use Rattle.pool_core.specs.Acts.{makes_all};
 ghost use Rattle.pool_core.specs.Purging.{Keeps};
@@ -9,7 +8,7 @@ ghost use Rattle.pool_entry.specs.Acts.{acts_of, acts_read};
 ghost use Rattle.pool_instance.specs.declared.waiting.Held.{Held};
 ghost use Rattle.pool_instance.specs.declared.waiting.Reading.{Reading};
 ghost use Rattle.pool_instance.specs.Effects.{IsLastTime};
-ghost use Rattle.pool_instance.specs.Lists.{DidActs, IsFirstBatch, asked, told, told_of};
+ghost use Rattle.pool_instance.specs.Lists.{DidKeeping, IsFirstBatch, asked, told, told_of};
 ghost use Rattle.pool_instance.specs.Parts.{asked_stage, is_due, is_due_by, is_fresh, is_number};
 ghost use Rattle.pool_instance.specs.Parts.{stage_after};
 
@@ -176,19 +175,6 @@ fn is_final(reply: &Reply) -> bool
     }
 }
 
-// Returns true if all replies say what the policy says.
-fn all_final(replies: &[Reply]) -> bool
-    ensures { result ≡ true → All IsDoneOrDenied replies.now }
-{
-    for reply in replies {
-        let is_final = is_final(reply);
-        if !is_final {
-            return false;
-        }
-    }
-    true
-}
-
 // Returns the acts that the bytes of an entry represent, or `None` if memory runs out.
 fn acts_in(alloc: Global, routes: &Routes, bytes: &[u8]) -> Option<EntryActs>
     ensures { IfSome result (λ acts. acts_read acts ≡ acts_of bytes.now) }
@@ -200,30 +186,49 @@ fn acts_in(alloc: Global, routes: &Routes, bytes: &[u8]) -> Option<EntryActs>
     }
 }
 
-// Makes calls, and returns the replies. Returns `None` if a call failed, or if memory ran out.
+// Keeps the reply to an own call, and no other.
+fn keep(kept: &mut Vec<Reply>, is_own: bool, reply: Reply) -> Result<(), AllocError>
+    ensures own { is_own ≡ true → OnOk result (kept.new.items ≡ kept.old.items ++ reply ∷ []) }
+    ensures other { is_own ≡ false → kept.new.items ≡ kept.old.items }
+{
+    if !is_own {
+        return Ok(());
+    }
+    kept.push(reply)?;
+    Ok(())
+}
+
+// Makes calls, and returns the replies to own ones. Keeps no reply to a call of another process.
+//
+// Returns `None` if a call failed, or if memory ran out.
 fn make_calls<S: Space + Drop>(
     service: &mut Service<S>,
     alloc: Global,
     calls: &[(u64, Call)],
+    is_own: bool,
 ) -> Option<Vec<Reply>>
     ensures keeps { Keeps S.Space service.old service.new }
-    ensures made { is_shut service.old ≡ false → IfSome result (λ replies.
-        DidActs S.Space (makes_all calls.now) service.old service.new replies.items) }
+    ensures made { IfSome result (λ kept.
+        DidKeeping S.Space is_own (makes_all calls.now) service.old service.new kept.items) }
 {
-    let Ok(replies) = service.run(alloc, calls) else {
-        return None;
-    };
-    if all_final(replies.as_slice()) {
-        Some(replies)
-    } else {
-        None
+    let mut kept = Vec::new(alloc);
+    for timed in calls {
+        let reply = service.call(alloc, timed.0, &timed.1);
+        let is_final = is_final(&reply);
+        if !is_final {
+            return None;
+        }
+        let Ok(()) = keep(&mut kept, is_own, reply) else {
+            return None;
+        };
     }
+    Some(kept)
 }
 
 /// What the acts of an entry gave.
 #[derive(Drop)]
 pub(crate) struct Done {
-    /// The replies to its calls.
+    /// The replies to its calls, if it is an own entry.
     pub replies: Vec<Reply>,
     /// The time of its last call, if it has one.
     pub last: Option<u64>,
@@ -241,7 +246,7 @@ fn last_time(calls: &[(u64, Call)]) -> Option<u64>
     }
 }
 
-/// Does the acts that the bytes of an entry represent.
+/// Does the acts that the bytes of an entry represent. Keeps the replies of an own entry only.
 ///
 /// Returns `None` if an act failed, or if memory ran out.
 pub(crate) fn do_acts<S: PurgeEnded + Drop>(
@@ -249,10 +254,11 @@ pub(crate) fn do_acts<S: PurgeEnded + Drop>(
     alloc: Global,
     routes: &Routes,
     bytes: &[u8],
+    is_own: bool,
 ) -> Option<Done>
     ensures keeps { Keeps S.Space service.old service.new }
-    ensures made { is_shut service.old ≡ false → IfSome result (λ done.
-        DidActs S.Space (acts_of bytes.now) service.old service.new done.replies.items) }
+    ensures made { IfSome result (λ done. DidKeeping S.Space is_own (acts_of bytes.now)
+        service.old service.new done.replies.items) }
     ensures last { IfSome result (λ done. IsLastTime (acts_of bytes.now) done.last) }
 {
     let Some(acts) = acts_in(alloc, routes, bytes) else {
@@ -260,7 +266,7 @@ pub(crate) fn do_acts<S: PurgeEnded + Drop>(
     };
     match acts {
         EntryActs::Calls(calls) => {
-            let replies = make_calls(service, alloc, calls.as_slice())?;
+            let replies = make_calls(service, alloc, calls.as_slice(), is_own)?;
             let last = last_time(calls.as_slice());
             Some(Done {
                 replies,

@@ -10,7 +10,7 @@ use Rattle.wire_http.specs.Notes.{MayBeNotes}
 -- explained.
 abbrev pub texts_for : Texts → Reply → List (List ℕ)
 texts_for texts (Done answer) = map string_bytes texts.if_done.items
-texts_for texts (Denied rule missing) = map string_bytes texts.if_denied.items
+texts_for texts (Denied broken_rule missing) = map string_bytes texts.if_denied.items
 texts_for texts Fault = []
 texts_for texts Stopped = []
 
