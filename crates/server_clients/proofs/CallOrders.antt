@@ -1,5 +1,5 @@
 -- The requests of a client are the first in its bytes, in order.
-use Rattle.std.proofs.Common.{◌≡◌, ◌<◌, ◌-◌, ◌==◌, ◌||◌, ℕ, zero, suc, min, Bool, true, false, List, [], ◌∷◌, ◌++◌, Option, Some, None, option_map, if◌then◌else◌, refl, sym, ap, subst, ◌∙◌, append_assoc, arith, unwrap_or}
+use Rattle.std.proofs.Common.{◌≡◌, ◌<◌, ◌-◌, ◌==◌, ◌||◌, ℕ, zero, suc, min, Bool, true, false, List, [], ◌∷◌, ◌++◌, Option, Some, None, option_map, if◌then◌else◌, refl, sym, ap, subst, ◌∙◌, append_assoc, arith}
 use Rattle.std.specs.Prelude.{nat_eq}
 use Rattle.std.specs.List.{flat_map}
 use Rattle.std.proofs.lemmas.List.{append-nil}
@@ -235,19 +235,19 @@ module _ {B M T : Type 0} (b : backends.Ghosts B) (m : moments.Ghosts M) (t : so
         let at = ap (λ (s : ServerState B M T). s.clients key) h.5 in
         by_cases (nat_eq key other)
         (λ e. let same = same_client old.clients key other l h.0 e is h.1 in
-          let after = event_in_order b m setup.explaining old.table received all event _ h.3 h.4 (subst (λ (v : ClientState). IsInOrder received all v) (sym same) p) in (
-            h.3.client,
-            at ∙ at_same old.clients other key (Some h.3.client) e,
-            subst (λ (v : Bool). IsInOrder (received ++ flat_map received_by (if v then event ∷ [] else [])) (all ++ flat_map (ordered_by (callers_of old.table)) (if v then event ∷ [] else [])) h.3.client) (sym e)
-            (subst (λ (v : List ℕ). IsInOrder (received ++ v) (all ++ flat_map (ordered_by (callers_of old.table)) (event ∷ [])) h.3.client) (sym (append-nil (received_by event)))
-            (subst (λ (v : List OrderedEvent). IsInOrder (received ++ received_by event) (all ++ v) h.3.client) (sym (append-nil (ordered_by (callers_of old.table) event))) after)),
-            table,
-          ))
+        let after = event_in_order b m setup.explaining old.table received all event _ h.3 h.4 (subst (λ (v : ClientState). IsInOrder received all v) (sym same) p) in (
+          h.3.client,
+          at ∙ at_same old.clients other key (Some h.3.client) e,
+          subst (λ (v : Bool). IsInOrder (received ++ flat_map received_by (if v then event ∷ [] else [])) (all ++ flat_map (ordered_by (callers_of old.table)) (if v then event ∷ [] else [])) h.3.client) (sym e)
+              (subst (λ (v : List ℕ). IsInOrder (received ++ v) (all ++ flat_map (ordered_by (callers_of old.table)) (event ∷ [])) h.3.client) (sym (append-nil (received_by event)))
+              (subst (λ (v : List OrderedEvent). IsInOrder (received ++ received_by event) (all ++ v) h.3.client) (sym (append-nil (ordered_by (callers_of old.table) event))) after)),
+          table,
+        ))
         (λ e. (
           l,
           at ∙ at_other old.clients other key (Some h.3.client) e ∙ is,
           subst (λ (v : Bool). IsInOrder (received ++ flat_map received_by (if v then event ∷ [] else [])) (all ++ flat_map (ordered_by (callers_of old.table)) (if v then event ∷ [] else [])) l) (sym e)
-          (alike received all l l refl refl (λ done. done) p),
+              (alike received all l l refl refl (λ done. done) p),
           table,
         ))
 
@@ -256,11 +256,12 @@ module _ {B M T : Type 0} (b : backends.Ghosts B) (m : moments.Ghosts M) (t : so
         (l, ap (λ (s : ServerState B M T). s.clients key) h.1 ∙ beside old.clients other key (Some (new_client name)) l h.0 is, alike received all l l refl refl (λ done. done) p, ap (λ (s : ServerState B M T). s.table) h.1)
     next (Refuses name) old mid key h is stays = (l, ap (λ (s : ServerState B M T). s.clients key) h ∙ is, alike received all l l refl refl (λ done. done) p, ap (λ (s : ServerState B M T). s.table) h)
     next (Acts other name event) old mid key h is stays = acts key other name event old mid h is
-    next (Tells event ticket outcome lost) old mid key h is stays =
-        (told ticket outcome lost l,
-        ap (λ (s : ServerState B M T). s.clients key) h.5 ∙ ap (λ (v : Option ClientState). option_map (told ticket outcome lost) v) is,
-        told_in_order received all l.waits ticket outcome lost l p,
-        ap (λ (s : ServerState B M T). s.table) h.5)
+    next (Tells event ticket outcome lost) old mid key h is stays = (
+      told ticket outcome lost l,
+      ap (λ (s : ServerState B M T). s.clients key) h.5 ∙ ap (λ (v : Option ClientState). option_map (told ticket outcome lost) v) is,
+      told_in_order received all l.waits ticket outcome lost l p,
+      ap (λ (s : ServerState B M T). s.table) h.5,
+    )
     next (Works event) old mid key h is stays = (l, ap (λ (s : ServerState B M T). s.clients key) h.3 ∙ is, alike received all l l refl refl (λ done. done) p, ap (λ (s : ServerState B M T). s.table) h.3)
     next (Moves moment held now) old mid key h is stays = (l, ap (λ (s : ServerState B M T). s.clients key) h.7 ∙ is, alike received all l l refl refl (λ done. done) p, ap (λ (s : ServerState B M T). s.table) h.7)
     next (Looks now found) old mid key h is stays = (l, ap (λ (s : ServerState B M T). s.clients key) h.2 ∙ is, alike received all l l refl refl (λ done. done) p, ap (λ (s : ServerState B M T). s.table) h.2)
@@ -279,8 +280,8 @@ module _ {B M T : Type 0} (b : backends.Ghosts B) (m : moments.Ghosts M) (t : so
         r.0,
         r.1,
         subst (λ (v : List ℕ). IsInOrder v (all ++ ordered_of key old.table (event ∷ events)) r.0) (append_assoc received (here key event) (received_from key events))
-        (subst (λ (v : List OrderedEvent). IsInOrder ((received ++ here key event) ++ received_from key events) v r.0)
-        (append_assoc all (there key old.table event) (ordered_of key h.0.table events) ∙ ap (λ (v : TokenFile). all ++ (there key old.table event ++ ordered_of key v events)) n.3) r.2),
+            (subst (λ (v : List OrderedEvent). IsInOrder ((received ++ here key event) ++ received_from key events) v r.0)
+            (append_assoc all (there key old.table event) (ordered_of key h.0.table events) ∙ ap (λ (v : TokenFile). all ++ (there key old.table event ++ ordered_of key v events)) n.3) r.2),
       )
 
 module _ {B M T : Type 0} (b : backends.Ghosts B) (m : moments.Ghosts M) (t : sources.Ghosts T) where

@@ -1,5 +1,6 @@
 -- How the events of one client follow one another, and what a connection's next step is among them.
-use Rattle.std.proofs.Common.{◌≡◌, ℕ, ◌<◌, ◌-◌, ◌==◌, ◌||◌, ◌∷◌, ◌++◌, Bool, true, false, List, [], Option, Some, None, drop, is_some, map, refl, sym, ap, subst, ◌∙◌, inl, inr}
+use Rattle.std.proofs.Common.{◌≡◌, ℕ, ◌<◌, ◌-◌, ◌==◌, ◌||◌, ◌∷◌, ◌++◌, Bool, true, false, List, [], Option, Some, None, Result, Ok, Err, drop, is_err, is_some, map, refl, sym, ap, subst, ◌∙◌, inl, inr}
+use Rattle.std.specs.Prelude.{MatchResult}
 use Rattle.std.specs.List.{flat_map}
 use Rattle.std.proofs.lemmas.List.{append-nil}
 use Rattle.std.proofs.lemmas.List.Concat.{flat_map-append}
@@ -13,27 +14,29 @@ use Rattle.wire_http.specs.declared.connection.next.NextRequest.{NextRequest}
 use Rattle.wire_http.specs.declared.end.End.{End}
 use Rattle.wire_http.specs.declared.explaining.Explaining.{Explaining}
 use Rattle.wire_http.specs.declared.moments.Moments as moments
-use Rattle.wire_http.specs.Connection.{buffered_of, is_done, left_of}
+use Rattle.wire_http.specs.Connection.{awaited_of, buffered_of, is_done, is_waiting, left_of}
 use Rattle.wire_http.specs.Count.{one_more}
 use Rattle.wire_http.specs.Later.{EndsStream}
-use Rattle.wire_http.specs.NextRequest.{IsFront, body_in, call_in, closes_after, endpoint_in, method_in, path_in, size_in}
+use Rattle.wire_http.specs.NextRequest.{GivesRequest, IsFront, LosesNext, NeedsMore, body_in, call_in, closes_after, endpoint_in, method_in, path_in, size_in}
 use Rattle.wire_http.specs.Unread.{IsMadeFor}
-use Rattle.wire_http.specs.Wire.{AsksCall, RequestCall, left_after}
+use Rattle.wire_http.specs.Wire.{AsksCall, RequestCall}
 use Rattle.server_base.specs.History.{Extends, HistoryEvent}
 use Rattle.server_base.proofs.Histories.{extends_none, extends_same, extends_then}
+use Rattle.server_backend.specs.BackendEvent.{Receives as Takes}
 use Rattle.server_backend.specs.Request.{IsRequestFor}
 use Rattle.server_backend.specs.declared.backend.Backend as backends
 use Rattle.server_backend.specs.declared.outcome.Received.{Received}
 use Rattle.server_backend.specs.declared.request.Request.{Request}
-use Rattle.server_clients.specs.ClientEvents.{Asks, ClientEvent, ClientRuns, EndsStream as Ends, IsAskedFor, OccurAll, Occurs, ReadsClock, ReadsOnceAs, ServedClient, Steps, history_of_event, served_client}
+use Rattle.server_clients.specs.ClientEvents.{Asks, ClientEvent, ClientRuns, EndsStream as Ends, OccurAll, Occurs, ReadsClock, ReadsOnceAs, ServedClient, Steps, history_of_event, served_client}
 use Rattle.server_clients.specs.ClientIo.{state_of}
 use Rattle.server_clients.specs.ClientState.{Aborts, ClientState, ClientStep, ClientSteps, StepsBy, aborted, after_asking, finished, history_of_step, received_as}
-use Rattle.server_clients.specs.Offered.{LosesOffer, OffersNext, PutsAs, after_offering, slot_with, without_next}
+use Rattle.server_clients.specs.Offered.{LosesOffer, OffersNext, PutsAs, after_offering, slot_with}
 use Rattle.server_clients.specs.Texts.{RequestTexts}
 use Rattle.server_clients.specs.declared.reason.Reason.{Reason}
 use Rattle.server_clients.specs.declared.reason.Reason.TheVariants as reasons
 use Rattle.server_clients.proofs.Served.{event_name}
-use Rattle.server_clients.proofs.States.{IsFree, waits_none}
+use Rattle.server_clients.proofs.States.{IsFree, finished_state, is_free, stopped_state, waits_none}
+use Rattle.server_clients.proofs.Steps.{io_same}
 
 -- ---- the request that the backend receives
 
@@ -45,11 +48,11 @@ is_request r callers left bytes next front call method path body = (
   (
     endpoint_in next,
     subst (λ (v : List ℕ). IsAsked v r.method.now r.body.now (endpoint_in next) front.call.op) (sym (path ∙ front.path))
-    (subst (λ (v : List ℕ). IsAsked (path_of front.head.target) v r.body.now (endpoint_in next) front.call.op) (sym (method ∙ front.method))
-    (subst (λ (v : List ℕ). IsAsked (path_of front.head.target) front.head.method v (endpoint_in next) front.call.op) (sym (body ∙ front.body_is)) front.is_call.op)),
+        (subst (λ (v : List ℕ). IsAsked (path_of front.head.target) v r.body.now (endpoint_in next) front.call.op) (sym (method ∙ front.method))
+        (subst (λ (v : List ℕ). IsAsked (path_of front.head.target) front.head.method v (endpoint_in next) front.call.op) (sym (body ∙ front.body_is)) front.is_call.op)),
   ),
   subst (λ (v : Call). IsMadeFor v (record { caller = v.caller; op = front.call.op })) (sym call)
-  (subst (λ (v : Option Caller). IsMadeFor (call_in next) (record { caller = v; op = front.call.op })) (sym front.made.caller) front.made),
+      (subst (λ (v : Option Caller). IsMadeFor (call_in next) (record { caller = v; op = front.call.op })) (sym front.made.caller) front.made),
 )
 
 module _ {B M : Type 0} (b : backends.Ghosts B) (m : moments.Ghosts M) (explaining : Explaining) (table : TokenFile) where
@@ -170,3 +173,59 @@ module _ {B M : Type 0} (b : backends.Ghosts B) (m : moments.Ghosts M) (explaini
           | inr unasked ↦ subst (λ (v : B). ClientRuns b m explaining table (served_client old clock l) (served_client v clock' l') past past) (sym unasked.0)
               (read_runs (Some moment) old clock clock' l l' reasons.Memory gives unasked.1 past)
         ]
+
+-- ---- the next step of a connection
+
+-- What the backend did with a request, by what its response became.
+pub offered : {B E : Type 0} (b : backends.Ghosts B) (explaining : Explaining) (moment : ℕ) (next : NextRequest) (old new : B) (l l' : ClientState) (received : Received) (told : Result (Unit {0}) E)
+    → b.steps old (Takes moment (call_in next) received) new → PutsAs explaining next received (is_err told) l l'
+    → MatchResult told (λ _. OffersNext b explaining moment next old new l l' false) (λ _. LosesOffer b explaining moment next old new l l')
+offered b explaining moment next old new l l' received (Ok x) steps puts = record { received = received; steps = steps; puts = puts }
+offered b explaining moment next old new l l' received (Err e) steps puts = inl (record { received = received; steps = steps; puts = puts })
+
+pub still_free : (callers : Callers) (c c1 : Connection) (next : NextRequest) → GivesRequest callers c c1 next → is_waiting c ≡ false → is_waiting c1 ≡ false
+still_free callers c c1 next found none = subst (λ (v : Connection). is_waiting v ≡ false) (sym found.same) none
+
+pub still_front : (callers : Callers) (c c1 : Connection) (next : NextRequest) → GivesRequest callers c c1 next → IsFront callers (left_of c1) (buffered_of c1) next
+still_front callers c c1 next found = subst (λ (v : Connection). IsFront callers (left_of v) (buffered_of v) next) (sym found.same) found.front
+
+module _ {B M : Type 0} (b : backends.Ghosts B) (m : moments.Ghosts M) (explaining : Explaining) (table : TokenFile) (name : ℕ) (ticket : Option ℕ) (why : Option Reason) (c c1 : Connection)
+    (running : (is_some why || is_done c) ≡ false) (none : is_waiting c ≡ false) where
+  pub asked_more : (s : B) (clock : M) → NeedsMore c c1 → awaited_of c1 ≡ awaited_of c → (past : Option (List HistoryEvent))
+      → ClientRuns b m explaining table (served_client s clock (state_of name ticket why c)) (served_client s clock (state_of name ticket why c1)) past past
+  asked_more s clock needs awaited past =
+      let same = needs.same in
+      still_runs b m explaining table s clock (state_of name ticket why c) (state_of name ticket why c1)
+      (io_same name ticket why c c1 (record { held_is = same.held; ended_is = same.ended; left_is = same.left; output = same.output; ready = same.ready; slot = same.slot; awaited = awaited; done = same.done })) past
+
+  pub asked_end : (s : B) (clock : M) (end : End) → EndsStream c c1 end → awaited_of c1 ≡ awaited_of c → (past : Option (List HistoryEvent))
+      → ClientRuns b m explaining table (served_client s clock (state_of name ticket why c)) (served_client s clock (state_of name ticket why c1)) past past
+  asked_end s clock end ends awaited past =
+      let free = is_free c none in
+      end_runs b m explaining table s clock name ticket why c c1 end (state_of name ticket why c1) running free ends (finished_state name ticket ticket why c c1 free end ends awaited) past
+
+  pub asked_none : (s : B) (clock : M) → LosesNext c c1 → (past : Option (List HistoryEvent))
+      → ClientRuns b m explaining table (served_client s clock (state_of name ticket why c)) (served_client s clock (state_of name ticket (Some reasons.Memory) c1)) past past
+  asked_none s clock loses past =
+      abort_runs b m explaining table s clock (state_of name ticket why c) (state_of name ticket (Some reasons.Memory) c1) reasons.Memory (stopped_state name ticket ticket why c c1 (is_free c none) loses.stopped reasons.Memory) past
+
+  module _ (next : NextRequest) (found : GivesRequest (callers_of table) c c1 next) where
+    -- The clock failed.
+    pub asked_no_time : (s : B) (clock clock' : M) → m.failures clock' ≡ one_more (m.failures clock) → (past : Option (List HistoryEvent))
+        → ClientRuns b m explaining table (served_client s clock (state_of name ticket why c)) (served_client s clock' (state_of name ticket (Some reasons.Clock) c1)) past past
+    asked_no_time s clock clock' failed past =
+        read_runs b m explaining table None s clock clock' (state_of name ticket why c) (state_of name ticket (Some reasons.Clock) c1) reasons.Clock failed
+        (ap (λ (v : Connection). state_of name ticket (Some reasons.Clock) v) found.same) past
+
+    module _ (moment : ℕ) (old new : B) (clock clock' : M) (gives : m.gives clock moment clock') (l' : ClientState) where
+      pub asked_received : OffersNext b explaining moment next old new (state_of name ticket why c1) l' false → (past : Option (List HistoryEvent))
+          → ClientRuns b m explaining table (served_client old clock (state_of name ticket why c)) (served_client new clock' l') past past
+      asked_received offers past =
+          offer_runs b m explaining table name ticket why c next running (is_free c none) found.some found.front moment clock clock' gives old new false l'
+          (subst (λ (v : Connection). OffersNext b explaining moment next old new (state_of name ticket why v) l' false) found.same offers) past
+
+      pub asked_lost : LosesOffer b explaining moment next old new (state_of name ticket why c1) l' → (past : Option (List HistoryEvent))
+          → ClientRuns b m explaining table (served_client old clock (state_of name ticket why c)) (served_client new clock' l') past past
+      asked_lost loses past =
+          lose_runs b m explaining table name ticket why c next running (is_free c none) found.some found.front moment clock clock' gives old new l'
+          (subst (λ (v : Connection). LosesOffer b explaining moment next old new (state_of name ticket why v) l') found.same loses) past

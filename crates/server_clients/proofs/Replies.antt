@@ -1,12 +1,9 @@
 -- The text of a response is that of the reply of its request.
-use Rattle.std.proofs.Common.{◌≡◌, ◌==◌, ℕ, Bool, true, false, List, [], ◌∷◌, ◌++◌, Option, Some, None, if◌then◌else◌, refl, sym, ap, subst, ◌∙◌, inl, inr}
-use Rattle.policy_core.specs.declared.call.Call.{Call}
+use Rattle.std.proofs.Common.{◌≡◌, ◌==◌, ℕ, Bool, true, false, List, [], ◌∷◌, ◌++◌, Option, Some, None, if◌then◌else◌, refl, sym, ap, subst, inl, inr}
 use Rattle.service_step.specs.declared.reply.Reply.{Reply}
 use Rattle.service_step.specs.declared.reply.Reply.TheVariants as replies
-use Rattle.token_conf.specs.TokenFile.{TokenFile}
 use Rattle.wire_http.specs.Notes.{MayBeNotes}
-use Rattle.wire_http.specs.Text.{noted_text, unavailable_text}
-use Rattle.wire_http.specs.Wire.{RequestCall}
+use Rattle.wire_http.specs.Text.{unavailable_text}
 use Rattle.wire_http.specs.declared.explaining.Explaining.{Explaining}
 use Rattle.wire_http.specs.declared.explaining.Explaining.TheVariants.{Off, On}
 use Rattle.wire_http.specs.declared.moments.Moments as moments
@@ -20,12 +17,12 @@ use Rattle.server_backend.specs.declared.outcome.Outcome.TheVariants as outcomes
 use Rattle.server_backend.specs.declared.outcome.Received.{Received}
 use Rattle.server_backend.specs.declared.outcome.Received.TheVariants as came
 use Rattle.server_clients.specs.Backends.{all_backend_events}
-use Rattle.server_clients.specs.ClientEvents.{Asks, ClientEvent, EndsStream, ReadsClock, Steps}
+use Rattle.server_clients.specs.ClientEvents.{Asks, EndsStream, ReadsClock, Steps}
 use Rattle.server_clients.specs.ClientState.{Waiting, drafted, slot_for, waiting}
 use Rattle.server_clients.specs.Clients.{text_for, told_text}
 use Rattle.server_clients.specs.Replies.{IsTextFor, IsTextOf, TextsAreOfReplies}
-use Rattle.server_clients.specs.ServerEvents.{Accepts, Acts, Closes, Confirms, FollowAll, Follows, Looks, Moves, Refuses, ServerEvent, ServerState, Setup, Stops, Tells, Works}
-use Rattle.server_clients.specs.Texts.{MayHaveTexts, RequestTexts, Slot, no_texts, outcome_text, reply_in, texts_for, without_texts}
+use Rattle.server_clients.specs.ServerEvents.{Accepts, Acts, Closes, Confirms, FollowAll, Looks, Moves, Refuses, ServerEvent, ServerState, Setup, Stops, Tells, Works}
+use Rattle.server_clients.specs.Texts.{MayHaveTexts, RequestTexts, Slot, outcome_text, reply_in, texts_for, without_texts}
 
 -- ---- texts
 

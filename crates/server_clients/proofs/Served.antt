@@ -18,7 +18,7 @@ use Rattle.server_backend.specs.declared.outcome.Received.{Received}
 use Rattle.server_backend.specs.declared.outcome.Received.TheVariants as came
 use Rattle.server_clients.specs.ClientEvents.{Asks, ClientEvent, EndsStream, Occurs, ReadsClock, ServedClient, Steps}
 use Rattle.server_clients.specs.ClientState.{Aborts, ClientState, ClientStep, Discards, Limits, Receives, ReceivesEnd, Sends, StepsTo, Waiting, after_asking, drafted, finished, new_client, resolved, slot_for, told, told_if, waiting}
-use Rattle.server_clients.specs.Clients.{EachClientIsServed, StaysOpen, closes, sent_by, sent_to, text_for, texts_of, texts_to, told_by, told_text}
+use Rattle.server_clients.specs.Clients.{EachClientIsServed, StaysOpen, closes, sent_by, sent_to, texts_of, texts_to, told_by, told_text}
 use Rattle.server_clients.specs.ServerEvents.{Accepts, Acts, Closes, Confirms, FollowAll, Follows, Looks, Moves, Refuses, ServerEvent, ServerState, Setup, Stops, Tells, Works}
 use Rattle.server_clients.specs.Texts.{RequestTexts, outcome_text, reply_in}
 use Rattle.server_clients.proofs.Keys.{at_other, at_same, beside, by_cases, same_client}
@@ -203,11 +203,12 @@ module _ {B M T : Type 0} (b : backends.Ghosts B) (m : moments.Ghosts M) (t : so
       keeps key (Accepts other name) l mid (ap (λ (s : ServerState B M T). s.clients key) h.1 ∙ beside old.clients other key (Some (new_client name)) l h.0 is) (λ events l' k. k)
   next (Refuses name) old mid key l h is stays = keeps key (Refuses name) l mid (ap (λ (s : ServerState B M T). s.clients key) h ∙ is) (λ events l' k. k)
   next (Acts other name event) old mid key l h is stays = by_cases (nat_eq key other) (acts_here key other name event l old mid h is) (acts_there key other name event l old mid h is)
-  next (Tells event ticket outcome lost) old mid key l h is stays =
-      (told ticket outcome lost l,
-      ap (λ (s : ServerState B M T). s.clients key) h.5 ∙ ap (λ (v : Option ClientState). option_map (told ticket outcome lost) v) is,
-      told_name l.waits ticket outcome lost l,
-      λ events l' k. told_as ticket outcome lost l.waits l refl (sent_to key events ++ l'.ready) (concat (texts_to key events)) events k)
+  next (Tells event ticket outcome lost) old mid key l h is stays = (
+    told ticket outcome lost l,
+    ap (λ (s : ServerState B M T). s.clients key) h.5 ∙ ap (λ (v : Option ClientState). option_map (told ticket outcome lost) v) is,
+    told_name l.waits ticket outcome lost l,
+    λ events l' k. told_as ticket outcome lost l.waits l refl (sent_to key events ++ l'.ready) (concat (texts_to key events)) events k,
+  )
   next (Works event) old mid key l h is stays = keeps key (Works event) l mid (ap (λ (s : ServerState B M T). s.clients key) h.3 ∙ is) (λ events l' k. k)
   next (Moves moment held now) old mid key l h is stays = keeps key (Moves moment held now) l mid (ap (λ (s : ServerState B M T). s.clients key) h.7 ∙ is) (λ events l' k. k)
   next (Looks now found) old mid key l h is stays = keeps key (Looks now found) l mid (ap (λ (s : ServerState B M T). s.clients key) h.2 ∙ is) (λ events l' k. k)

@@ -1,5 +1,5 @@
 -- The state of a client after each kind of step of its connection.
-use Rattle.std.proofs.Common.{◌≡◌, ℕ, ◌||◌, ◌++◌, Bool, true, false, List, [], drop, length, Option, Some, None, is_some, option_map, refl, sym, ap, ◌∙◌}
+use Rattle.std.proofs.Common.{◌≡◌, ℕ, ◌||◌, ◌++◌, Bool, true, false, List, drop, length, Option, Some, None, is_some, option_map, refl, sym, ap, ◌∙◌}
 use Rattle.std.specs.List.{concat}
 use Rattle.std.proofs.Math.Seq.{drop-append_seam}
 use Rattle.service_step.specs.declared.reply.Reply.{Reply}
@@ -9,6 +9,8 @@ use Rattle.wire_http.specs.declared.connection.DeferredResponse.{DeferredRespons
 use Rattle.wire_http.specs.declared.connection.awaited.Awaited.{Awaited}
 use Rattle.wire_http.specs.declared.connection.next.NextRequest.{NextRequest}
 use Rattle.wire_http.specs.declared.end.End.{End}
+use Rattle.wire_http.specs.declared.explaining.Explaining.{Explaining}
+use Rattle.wire_http.specs.declared.explaining.Explaining.TheVariants.{Off, On}
 use Rattle.wire_http.specs.declared.texts.Texts.{Texts}
 use Rattle.wire_http.specs.declared.unavailable.Unavailable.{Unavailable}
 use Rattle.wire_http.specs.Connection.{awaited_of, buffered_of, has_ended, holds_back, is_done, is_waiting, left_of, output_of, ready_of, slot_of}
@@ -22,7 +24,7 @@ use Rattle.server_backend.specs.declared.outcome.Received.TheVariants as came
 use Rattle.server_clients.specs.ClientIo.{draft_slot, state_of, waiting_in}
 use Rattle.server_clients.specs.ClientState.{aborted, drafted, finished, waiting}
 use Rattle.server_clients.specs.Offered.{after_offering, slot_with}
-use Rattle.server_clients.specs.Texts.{RequestTexts, reply_in, texts_for, texts_in}
+use Rattle.server_clients.specs.Texts.{MayHaveTexts, RequestTexts, no_texts, reply_in, texts_for, texts_in}
 use Rattle.server_clients.specs.declared.reason.Reason.{Reason}
 
 -- ---- connections without a request that waits
@@ -81,6 +83,10 @@ same_texts texts (replies.Done answer) = refl
 same_texts texts (replies.Denied _ _) = refl
 same_texts texts replies.Fault = refl
 same_texts texts replies.Stopped = refl
+
+pub no_texts_may_be : (explaining : Explaining) → MayHaveTexts explaining no_texts
+no_texts_may_be Off = (refl, refl)
+no_texts_may_be On = (tt, tt)
 
 text_is : (next : NextRequest) (texts : Texts) (reply : Reply) → noted_text (texts_of texts reply) (endpoint_in next) (closes_after next) reply ≡ reply_in (slot_with next (texts_in texts)) reply
 text_is next texts reply = ap (λ v. noted_text v (endpoint_in next) (closes_after next) reply) (same_texts texts reply)

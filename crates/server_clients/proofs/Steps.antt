@@ -1,5 +1,5 @@
 -- How the steps of one client follow one another.
-use Rattle.std.proofs.Common.{◌≡◌, ℕ, min, ◌<◌, ◌≤◌, ◌||◌, ◌∷◌, ◌++◌, Bool, true, false, List, [], length, take, drop, Option, Some, None, is_some, refl, sym, ap, subst, ◌∙◌, arith}
+use Rattle.std.proofs.Common.{◌≡◌, ℕ, min, ◌<◌, ◌≤◌, ◌||◌, ◌∷◌, ◌++◌, Bool, true, List, [], length, take, drop, Option, Some, is_some, refl, sym, ap, subst, ◌∙◌, arith}
 use Rattle.std.specs.List.{flat_map}
 use Rattle.std.proofs.lemmas.List.{append-nil, drop-drop, length-drop, length-take-le, take-take}
 use Rattle.std.proofs.lemmas.List.Concat.{flat_map-append}
@@ -48,6 +48,14 @@ step_once x l l' past now h seen = record {
   by = (l', h, refl);
   history = subst (λ (v : List HistoryEvent). Extends past now v) (sym (append-nil (history_of_step l.name x))) seen;
 }
+
+-- The client was stopped.
+pub stopped_once : (l l' : ClientState) (reason : Reason) (past : Option (List HistoryEvent)) → l' ≡ aborted l reason → ClientSteps l l' past past
+stopped_once l l' reason past same = step_once (Aborts reason) l l' past past same (extends_none past)
+
+-- The same client under another name of its state.
+pub steps_to : (l l' : ClientState) (past : Option (List HistoryEvent)) → l' ≡ l → ClientSteps l l' past past
+steps_to l l' past same = record { steps = []; by = same; history = extends_none past }
 
 -- ---- steps of a connection
 

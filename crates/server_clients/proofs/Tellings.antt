@@ -1,5 +1,5 @@
 -- The state of a client that is told an outcome.
-use Rattle.std.proofs.Common.{◌≡◌, ℕ, zero, suc, ◌==◌, ◌||◌, ◌∷◌, ◌++◌, Bool, true, false, List, [], take, drop, length, Option, Some, None, Result, Ok, Err, OnOk, cond, is_some, is_err, option_map, if◌then◌else◌, refl, sym, ap, subst, ◌∙◌, append-nil}
+use Rattle.std.proofs.Common.{◌≡◌, ℕ, zero, suc, ◌||◌, ◌∷◌, ◌++◌, Bool, true, false, List, [], take, drop, length, Option, Some, None, Result, Ok, Err, OnOk, is_some, is_err, option_map, if◌then◌else◌, refl, sym, ap, ◌∙◌, append-nil}
 use Rattle.std.specs.Prelude.{OnErr}
 use Rattle.std.proofs.lemmas.Bool.{eq-eqb, ne_eqb}
 use Rattle.service_step.specs.declared.reply.Reply.{Reply}
@@ -8,7 +8,7 @@ use Rattle.wire_http.specs.Awaited.{outcome_text as draft_text, refusal_text}
 use Rattle.wire_http.specs.Connection.{awaited_of, buffered_of, has_ended, holds_back, is_done, is_waiting, left_of, output_of, ready_of, slot_of}
 use Rattle.wire_http.specs.DeferredResponse.{Slot as DraftSlot, before_last, slot_at}
 use Rattle.wire_http.specs.Outcomes.{Resolves}
-use Rattle.wire_http.specs.Text.{noted_text, response_text}
+use Rattle.wire_http.specs.Text.{noted_text}
 use Rattle.wire_http.specs.declared.connection.Connection.{Connection}
 use Rattle.wire_http.specs.declared.connection.DeferredResponse.{DeferredResponse}
 use Rattle.wire_http.specs.declared.connection.awaited.Awaited.{Awaited}
@@ -21,7 +21,7 @@ use Rattle.server_backend.specs.declared.outcome.Outcome.TheVariants as outcomes
 use Rattle.server_clients.specs.ClientIo.{awaited_slot, draft_slot, state_of, waiting_in}
 use Rattle.server_clients.specs.ClientState.{ClientState, Waiting, resolved, told, told_if, waiting}
 use Rattle.server_clients.specs.Offered.{Resolved, text_of}
-use Rattle.server_clients.specs.Texts.{no_texts, reply_in, texts_for}
+use Rattle.server_clients.specs.Texts.{no_texts, texts_for}
 use Rattle.server_clients.specs.declared.reason.Reason.{Reason}
 use Rattle.server_clients.specs.declared.reason.Reason.TheVariants.{Memory}
 use Rattle.server_clients.proofs.States.{is_free, not_held, same_texts, waits_none}

@@ -1,5 +1,5 @@
 -- Which requests the bytes of a client represent.
-use Rattle.std.specs.Prelude.{◌≡◌, ◌-◌, ◌==◌, ◌||◌, ℕ, zero, suc, min, Bool, true, false, List, [], ◌∷◌, ◌++◌, Option, Some, if◌then◌else◌, unwrap_or}
+use Rattle.std.specs.Prelude.{◌≡◌, ◌==◌, ℕ, zero, suc, min, Bool, true, false, List, [], ◌∷◌, ◌++◌, Some, if◌then◌else◌, unwrap_or}
 use Rattle.std.specs.List.{flat_map}
 use Rattle.token_conf.specs.TokenFile.{Callers, TokenFile, callers_of}
 use Rattle.wire_http.specs.Count.{max_requests}
@@ -33,10 +33,10 @@ has_loss (Requests callers asked ∷ more) = has_loss more
 has_loss (LosesResponse callers asked ∷ more) = true
 has_loss (LetsOneCome ∷ more) = has_loss more
 
--- Holds if these requests are the first of at most `bound` requests, in order. After a limit at most
--- one more request is among them. No request follows one whose response is lost. After all of them
--- `n` requests may still come, and `left` is left of the bytes; a request whose response is lost is
--- still among these.
+-- Holds if these requests are the first of at most `bound` requests, in order. After a limit at
+-- most one more request is among them. No request follows one whose response is lost. After all of
+-- them `n` requests may still come, and `left` is left of the bytes; a request whose response is
+-- lost is still among these.
 abbrev pub LeadsBy : (bound : ℕ) → List ℕ → List OrderedEvent → (n : ℕ) → (left : List ℕ) → Type 0
 LeadsBy bound rest [] n left = (n ≡ bound) × (left ≡ rest)
 LeadsBy bound rest (LetsOneCome ∷ more) n left = LeadsBy (min bound 1) rest more n left
@@ -51,8 +51,8 @@ LeadsBy (suc bound) rest (LosesResponse callers asked ∷ more) n left =
     × (asked.closing ≡ (left_after bound asked.head == 0))
     × (has_request more ≡ false) × LeadsBy (suc bound) rest more n left
 
--- Holds if these requests are the first that were received, whatever follows, and the buffered bytes
--- follow those requests. After a lost response no more requests are received.
+-- Holds if these requests are the first that were received, whatever follows, and the buffered
+-- bytes follow those requests. After a lost response no more requests are received.
 pub record IsInOrder (received : List ℕ) (all : List OrderedEvent) (l : ClientState) : Type 0 where
   pub leads : (later : List ℕ)
       → LeadsBy max_requests (received ++ later) all l.left (l.held ++ later)
@@ -131,12 +131,12 @@ ordered_of key table (event ∷ events) =
 -- ---- the law
 
 module _ {B M T : Type 0} (b : backends.Ghosts B) (m : moments.Ghosts M) (t : sources.Ghosts T)
-    where
-  -- States that the requests of a client that the backend received are the first in the bytes of the
-  -- client, in order, each once, each by the caller of its token in the table that was active.
-  abbrev pub RequestsAreAskedInOrder : Type 0
-  RequestsAreAskedInOrder = (setup : Setup) (events : List ServerEvent)
-      (old new : ServerState B M T) (key name : ℕ) → FollowAll b m t setup events old new
-      → old.clients key ≡ Some (new_client name) → StaysOpen key events
-      → (l : ClientState) × (new.clients key ≡ Some l)
-      × IsInOrder (received_from key events) (ordered_of key old.table events) l
+  where
+    -- States that the requests of a client that the backend received are the first in the bytes of
+    -- the client, in order, each once, each by the caller of its token in the table that was active.
+    abbrev pub RequestsAreAskedInOrder : Type 0
+    RequestsAreAskedInOrder = (setup : Setup) (events : List ServerEvent)
+        (old new : ServerState B M T) (key name : ℕ) → FollowAll b m t setup events old new
+        → old.clients key ≡ Some (new_client name) → StaysOpen key events
+        → (l : ClientState) × (new.clients key ≡ Some l)
+        × IsInOrder (received_from key events) (ordered_of key old.table events) l

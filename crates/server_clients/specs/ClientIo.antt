@@ -42,8 +42,8 @@ waiting_in (Some ticket) None (Some awaited) output ready =
     Some (waiting ticket (awaited_slot awaited))
 waiting_in (Some ticket) None None output ready = None
 
--- The state of a client with that name and connection. It has a ticket, if it has a request that was
--- drafted or waits, and a reason, if the server stopped answering it.
+-- The state of a client with that name and connection. It has a ticket, if it has a request that
+-- was drafted or waits, and a reason, if the server stopped answering it.
 abbrev pub state_of : (name : ℕ) → (ticket : Option ℕ) → (why : Option Reason) → Connection
     → ClientState
 state_of name ticket why c = record {

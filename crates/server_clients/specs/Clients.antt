@@ -1,5 +1,5 @@
 -- What each client sent and was sent over events of a server.
-use Rattle.std.specs.Prelude.{◌≡◌, ◌==◌, ℕ, Bool, true, false, List, [], ◌∷◌, ◌++◌, Option, Some, None, if◌then◌else◌}
+use Rattle.std.specs.Prelude.{◌≡◌, ◌==◌, ℕ, Bool, false, List, [], ◌∷◌, ◌++◌, Option, Some, None, if◌then◌else◌}
 use Rattle.std.specs.List.{AllByRecursion, concat, flat_map}
 use Rattle.wire_http.specs.Text.{end_texts, unavailable_text}
 use Rattle.wire_http.specs.declared.moments.Moments as moments
@@ -47,8 +47,8 @@ sent_to key events = flat_map (sent_in key) events
 
 -- ---- responses
 
--- The text of an outcome for a request that waits, and `later` if the outcome has another ticket. If
--- memory ran out for it, there is none.
+-- The text of an outcome for a request that waits, and `later` if the outcome has another ticket.
+-- If memory ran out for it, there is none.
 abbrev pub told_by : Option Waiting → (ticket : ℕ) → Outcome → (lost : Bool) → (later : List ℕ)
     → List ℕ
 told_by None ticket outcome lost later = []
@@ -124,13 +124,13 @@ StaysOpen key events = AllByRecursion (λ event. closes key event ≡ false) eve
 -- ---- the law
 
 module _ {B M T : Type 0} (b : backends.Ghosts B) (m : moments.Ghosts M) (t : sources.Ghosts T)
-    where
-  -- States that what was sent to a client, and what may be sent, is the texts of the outcomes that
-  -- the backend gave for its requests, in the order of the requests, each once. This holds from its
-  -- acceptance on, as long as it is not closed.
-  abbrev pub EachClientIsServed : Type 0
-  EachClientIsServed = (setup : Setup) (events : List ServerEvent) (old new : ServerState B M T)
-      (key name : ℕ) → FollowAll b m t setup events old new
-      → old.clients key ≡ Some (new_client name) → StaysOpen key events
-      → (l : ClientState) × (new.clients key ≡ Some l) × (l.name ≡ name)
-      × (sent_to key events ++ l.ready ≡ concat (texts_to key events))
+  where
+    -- States that what was sent to a client, and what may be sent, is the texts of the outcomes that
+    -- the backend gave for its requests, in the order of the requests, each once. This holds from its
+    -- acceptance on, as long as it is not closed.
+    abbrev pub EachClientIsServed : Type 0
+    EachClientIsServed = (setup : Setup) (events : List ServerEvent) (old new : ServerState B M T)
+        (key name : ℕ) → FollowAll b m t setup events old new
+        → old.clients key ≡ Some (new_client name) → StaysOpen key events
+        → (l : ClientState) × (new.clients key ≡ Some l) × (l.name ≡ name)
+        × (sent_to key events ++ l.ready ≡ concat (texts_to key events))

@@ -31,8 +31,8 @@ after_offering true next received texts l = aborted l Memory
 after_offering false next received texts l =
     received_as received (slot_with next texts) (without_next next l)
 
--- Holds if a request that was received so has its response, or waits. If memory ran out, its response
--- is lost.
+-- Holds if a request that was received so has its response, or waits. If memory ran out, its
+-- response is lost.
 pub record PutsAs (explaining : Explaining) (next : NextRequest) (received : Received) (lost : Bool)
     (l l' : ClientState) : Type 0 where
   pub texts : RequestTexts

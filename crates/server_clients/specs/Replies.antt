@@ -33,15 +33,15 @@ IsTextFor explaining slot None text =
     (text ≡ []) ⊎ ((reason : Unavailable) × (text ≡ unavailable_text slot.closing reason))
 
 module _ {B M T : Type 0} (b : backends.Ghosts B) (m : moments.Ghosts M) (t : sources.Ghosts T)
-    where
-  -- States that the text of the response to each request is that of the reply that the backend gave
-  -- to it, at once or by an outcome under its ticket.
-  abbrev pub TextsAreOfReplies : Type 0
-  TextsAreOfReplies = (setup : Setup) (before after : List ServerEvent) (key name : ℕ)
-      (asked : RequestCall) (made : Call) (received : Received) (texts : RequestTexts)
-      (old new : ServerState B M T)
-      → FollowAll b m t setup
-      (before ++ Acts key name (Asks asked made received texts false) ∷ after) old new
-      → IsTextFor setup.explaining (slot_for asked texts)
-      (reply_after received (all_backend_events after))
-      (text_for received (slot_for asked texts) after)
+  where
+    -- States that the text of the response to each request is that of the reply that the backend gave
+    -- to it, at once or by an outcome under its ticket.
+    abbrev pub TextsAreOfReplies : Type 0
+    TextsAreOfReplies = (setup : Setup) (before after : List ServerEvent) (key name : ℕ)
+        (asked : RequestCall) (made : Call) (received : Received) (texts : RequestTexts)
+        (old new : ServerState B M T)
+        → FollowAll b m t setup
+        (before ++ Acts key name (Asks asked made received texts false) ∷ after) old new
+        → IsTextFor setup.explaining (slot_for asked texts)
+        (reply_after received (all_backend_events after))
+        (text_for received (slot_for asked texts) after)

@@ -1,8 +1,7 @@
 -- The events of a server: what it does for its clients, and with its backend.
-use Rattle.std.specs.Prelude.{◌≡◌, ℕ, Bool, true, false, List, [], ◌∷◌, Option, Some, None, option_map, unwrap_or}
+use Rattle.std.specs.Prelude.{◌≡◌, ℕ, Bool, true, List, [], ◌∷◌, Option, Some, None, option_map, unwrap_or}
 use Rattle.std.specs.List.{flat_map}
 use Rattle.std.specs.declared.time.Duration.{Duration}
-use Rattle.policy_core.specs.declared.call.Call.{Call}
 use Rattle.token_conf.specs.TokenFile.{TokenFile}
 use Rattle.wire_http.specs.SetAt.{set_at}
 use Rattle.wire_http.specs.declared.explaining.Explaining.{Explaining}
@@ -22,10 +21,10 @@ use Rattle.server_clients.specs.ClientEvents.{ClientEvent, Occurs, ReadsOnceAs, 
 use Rattle.server_clients.specs.ClientState.{ClientState, IsClosable, new_client, told}
 
 -- An event of a server. A client is accepted under a key, or closed as soon as it is accepted. An
--- event of one client. The backend gives an outcome under a ticket, for which memory may run out, or
--- does something else. It advances, at a reading of the clock, which may be held as wrong. The token
--- file is looked at, with the table to load. An operator confirms the clock, or stops the server. A
--- client is closed.
+-- event of one client occurs. The backend gives an outcome under a ticket, for which memory may run
+-- out, or does something else. It advances, at a reading of the clock, which may be held as wrong.
+-- The token file is looked at, with the table to load. An operator confirms the clock, or stops the
+-- server. A client is closed.
 pub data ServerEvent : Type 0 where
   Accepts : (key name : ℕ) → ServerEvent
   Refuses : (name : ℕ) → ServerEvent
@@ -86,16 +85,16 @@ pub record ServerState (B M T : Type 0) : Type 0 where
   pub watch : TokenWatch T
   pub stops : Bool
 
--- How a server was set up: whether responses have explanations, the first token table, whether there
--- is an admin port, and whether the number of connections is limited.
+-- How a server was set up: whether responses have explanations, the first token table, whether
+-- there is an admin port, and whether the number of connections is limited.
 pub record Setup : Type 0 where
   pub explaining : Explaining
   pub first : TokenFile
   pub is_operated : Bool
   pub is_counted : Bool
 
--- Holds if that is known of the clock after this result: a wrong time holds purges, any other is the
--- last right one. A failure changes nothing.
+-- Holds if that is known of the clock after this result: a wrong time holds purges, any other is
+-- the last right one. A failure changes nothing.
 abbrev pub KnowsAfter : Option ℕ → (now : Duration) → ClockWatch → ClockWatch → Type 0
 KnowsAfter (Some moment) now known known' =
     (news : Option ClockEvent) × Records moment now known known' news

@@ -362,8 +362,8 @@ impl<T: ClientSocket> ClientConnection<T> {
         self.asked
     }
 
-    /// Begins its turn at this time, if it waits in the class. Returns false if it does not: another
-    /// client may have had its key before.
+    /// Begins its turn at this time, if it waits in the class. Returns false if it does not:
+    /// another client may have had its key before.
     pub fn begin_turn(&mut self, class: usize, clock: Option<Duration>) -> bool
         ensures { state_of_client T.name self.new ≡ state_of_client T.name self.old }
     {
@@ -608,7 +608,7 @@ impl<T: ClientSocket> ClientConnection<T> {
         self.lacks = match asked {
             Asked::NeedsInput => true,
             Asked::Received(left) => left > 0 && !self.io.holds_any(),
-            Asked::Ended => false,
+            Asked::Ended(_) => false,
         };
         if asked == Asked::NeedsInput {
             return Ok(again_if(self.readable));
@@ -619,8 +619,8 @@ impl<T: ClientSocket> ClientConnection<T> {
         self.answered(sockets, now)
     }
 
-    /// Runs one turn: reads at most one chunk, gives one request to the backend and sends twice. The
-    /// backend receives no request of a client that is known to be gone.
+    /// Runs one turn: reads at most one chunk, gives one request to the backend and sends twice.
+    /// The backend receives no request of a client that is known to be gone.
     pub fn turn<B: Backend, M: Moments, N: Sockets<Client = T>>(
         &mut self,
         context: RequestContext<'_>,
@@ -685,8 +685,8 @@ impl<T: ClientSocket> ClientConnection<T> {
         }
     }
 
-    /// Stops answering the client for this reason, unless it has all its responses. It may be closed
-    /// then.
+    /// Stops answering the client for this reason, unless it has all its responses. It may be
+    /// closed then.
     pub fn conclude(&mut self, why: Reason)
         ensures steps { (past : Option (List HistoryEvent)) → ClientSteps
             (state_of_client T.name self.old) (state_of_client T.name self.new) past past }

@@ -21,8 +21,9 @@ use std::io::ErrorKind;
 use std::net::SocketAddr;
 use std::time::Duration;
 use token_conf::token_table::TokenTable;
-use wire_http::{Connection, Moments, NextRequest, NextStep, Peeked};
-use wire_http::{RequestInfo, StreamFault, Unavailable};
+use wire_http::{
+    Connection, End, Moments, NextRequest, NextStep, Peeked, RequestInfo, StreamFault, Unavailable,
+};
 
 /// What a read did.
 #[derive(Clone, Copy, Debug, PartialEq, Eq)]
@@ -51,8 +52,8 @@ pub(crate) enum Asked {
     NeedsInput,
     /// The backend received a request. The number is that of the requests that may follow.
     Received(u32),
-    /// The stream ended.
-    Ended,
+    /// The stream ended in this way.
+    Ended(End),
 }
 
 /// A client's socket with its HTTP connection.
@@ -205,9 +206,13 @@ impl<T: ClientSocket> ClientIo<T> {
             (client_state T.name self.old) (client_state T.name self.new) past past }
         ensures closable { IsClosable (client_state T.name self.new) }
     {
-        if self.why.is_none() && (self.wants_write() || self.is_waiting()) {
-            self.why = Some(why);
+        if self.why.is_some() {
+            return;
         }
+        if !self.wants_write() && !self.is_waiting() {
+            return;
+        }
+        self.why = Some(why);
     }
 
     /// Reads at most `most` bytes of requests, and no more than there is room for.
@@ -420,8 +425,8 @@ impl<T: ClientSocket> ClientIo<T> {
         }
     }
 
-    // Gives the next request to the backend, at this time. If memory runs out, its response is lost,
-    // or the backend did not receive it.
+    // Gives the next request to the backend, at this time. If memory runs out, its response is
+    // lost, or the backend did not receive it.
     fn offer<B: Backend>(
         &mut self,
         context: RequestContext<'_>,
@@ -480,7 +485,7 @@ impl<T: ClientSocket> ClientIo<T> {
             .next(context.alloc, context.routes, context.tokens)
         {
             Ok(NextStep::NeedsInput) => Ok(Asked::NeedsInput),
-            Ok(NextStep::Ended(_)) => Ok(Asked::Ended),
+            Ok(NextStep::Ended(end)) => Ok(Asked::Ended(end)),
             Ok(NextStep::Request(next)) => {
                 let Ok(moment) = moments.next() else {
                     self.why = Some(Reason::Clock);
@@ -540,7 +545,13 @@ impl<T: ClientSocket> ClientIo<T> {
         ensures { client_state T.name self.new
             ≡ told ticket outcome (is_err result) (client_state T.name self.old) }
     {
-        if self.ticket != Some(ticket) || !self.connection.is_waiting() {
+        let Some(own) = self.ticket else {
+            return Ok(());
+        };
+        if own != ticket {
+            return Ok(());
+        }
+        if !self.connection.is_waiting() {
             return Ok(());
         }
         self.ticket = None;
@@ -551,6 +562,18 @@ impl<T: ClientSocket> ClientIo<T> {
                 Err(AllocError)
             }
         }
+    }
+
+    // Stops answering the client for this reason, unless no more requests are received.
+    fn stop(&mut self, why: Reason)
+        ensures steps { (past : Option (List HistoryEvent)) → ClientSteps
+            (client_state T.name self.old) (client_state T.name self.new) past past }
+        ensures done { (client_state T.name self.new).done ≡ true }
+    {
+        if self.is_done() {
+            return;
+        }
+        self.why = Some(why);
     }
 
     /// Ends sending to a client, which is stopped for this reason if more requests may be received.
@@ -564,9 +587,7 @@ impl<T: ClientSocket> ClientIo<T> {
             (N.history sockets.old) (N.history sockets.new) }
         ensures done { (client_state T.name self.new).done ≡ true }
     {
-        if !self.is_done() {
-            self.why = Some(why);
-        }
+        self.stop(why);
         sockets.end_sending(&mut self.socket).is_ok()
     }
 

@@ -16,8 +16,8 @@ pub fn events_are_the_backends<B: Backend, M: Moments, T: TokenSource>()
     ensures { EventsAreTheBackends B.Backend M.Moments T.TokenSource }
 {}
 
-/// States that what each client was sent, and what may be sent, is the texts of the outcomes for its
-/// requests, in order, each once.
+/// States that what each client was sent, and what may be sent, is the texts of the outcomes for
+/// its requests, in order, each once.
 ///
 /// No byte of a draft is among them before its outcome.
 pub fn each_client_is_served<B: Backend, M: Moments, T: TokenSource>()
