@@ -5,6 +5,7 @@ mod Keys
 mod Queues
 mod Replies
 mod Served
+pub mod Sets
 pub mod States
 pub mod Steps
 pub mod Tellings

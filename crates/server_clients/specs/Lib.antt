@@ -3,6 +3,7 @@ pub mod CallOrder
 pub mod ClientConnection
 pub mod ClientEvents
 pub mod ClientIo
+pub mod ClientSet
 pub mod ClientState
 pub mod Clients
 pub mod FairQueue

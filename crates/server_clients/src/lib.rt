@@ -3,6 +3,7 @@
 
 pub mod client_connection;
 mod client_io;
+pub mod client_set;
 pub mod fair_queue;
 pub mod laws;
 pub mod reason;
