@@ -18,41 +18,44 @@ serve::serve_clients
   event_loop::run_once
     server_client::client_connection::turn
       server_client::client_io::receive
-      connection::advance
-        buffered::next_buffered
-          rest::head_so_far
-        call::ask
-          routes::find
-          endpoint::kind
-          operation::read_as
-            body::read_body
-          token_table::caller
-        service::call
-          early::early
-          decide::decide
-            look_up::look_up
-              quota_space::entity
-                reads::entity
-                  indexed::entity
-            standing::standing
-            needed::needed_with
-              reads::meeting
-                indexed::meeting
-            needed::missing_from
-              missing::missing
-          effects::prepare
-            ovn::ovn_of
-            indexed_subscriptions::for_kind
-            notice::notices_of
-          space_quota::changes::apply
-            usage_table::delta
-            space_mirror::changes::enqueue
-              memory::replicate
-        notes::notes_on
-          explain::explain_request
-        text::noted_text
-          explained::explained_text
-            answer::reply_text
+      server_client::client_io::ask
+        next::next
+          buffered::next_buffered
+            rest::head_so_far
+          call::route
+            routes::find
+            endpoint::kind
+            operation::read_as
+              body::read_body
+            token_table::caller
+        client_io::call
+          service::call
+            early::early
+            decide::decide
+              look_up::look_up
+                quota_space::entity
+                  reads::entity
+                    indexed::entity
+              standing::standing
+              needed::needed_with
+                reads::meeting
+                  indexed::meeting
+              needed::missing_from
+                missing::missing
+            effects::prepare
+              ovn::ovn_of
+              indexed_subscriptions::for_kind
+              notice::notices_of
+            space_quota::changes::apply
+              usage_table::delta
+              space_mirror::changes::enqueue
+                memory::replicate
+          next::texts_for_reply
+            explain::explain_request
+          outcomes::draft
+            text::noted_text
+              explained::explained_text
+                answer::reply_text
     event_loop::commit_batch
       service::commit
         quota_space::commit
@@ -62,7 +65,7 @@ serve::serve_clients
                 put::put_entity
                 notify::notify_all
       server_client::client_connection::tell
-        connection::release_deferred
+        connection::release
         server_client::client_io::send
 """
 # where a part of the path begins, and its title
@@ -70,16 +73,16 @@ PARTS = {
     "serve::serve_clients": "All connections",
     "event_loop::run_once": "One iteration of the event loop",
     "server_client::client_connection::turn": "The turn of a client",
-    "connection::advance": "Its next request",
-    "call::ask": "The call of the request",
+    "next::next": "Its next request",
+    "call::route": "The call of the request",
     "early::early": "Stateless rules",
     "look_up::look_up": "What the call names, from the mirror",
     "standing::standing": "Stateful rules",
     "needed::needed_with": "The key",
     "effects::prepare": "Change and answer, prepared",
     "space_quota::changes::apply": "The quota, then the mirror: the change is pending",
-    "notes::notes_on": "With --explain: what is wrong, what is ignored",
-    "text::noted_text": "The response, deferred",
+    "next::texts_for_reply": "With --explain: what is wrong, what is ignored",
+    "outcomes::draft": "The response, deferred",
     "event_loop::commit_batch": "The end of the batch",
     "space_sql::batch::apply_batch": "The SQL space: one transaction, one sync",
     "server_client::client_connection::tell": "The response, sent",
@@ -99,13 +102,13 @@ HIGH, LANE, STEP, WIDE, BOX, MARGIN, SAID = 36, 136, 9, 126, 30, 12, 470
 def functions():
     """The functions of the sources: of the crate, the file and the name their texts, each with the comment above it."""
     found = {}
-    for path in sorted(TOP.glob("crates/*/src/*.rt")):
+    for path in sorted(TOP.glob("crates/*/src/**/*.rt")):
         text = path.read_text()
         begins = list(FUNCTION.finditer(text))
         for at, it in enumerate(begins):
             end = begins[at + 1].start() if at + 1 < len(begins) else len(text)
             said = COMMENT.search(text[: it.start()])
-            key = path.parent.parent.name, path.stem, it[2]
+            key = path.relative_to(TOP / "crates").parts[0], path.stem, it[2]
             found.setdefault(key, []).append((said[1] if said else "", text[it.start() : end]))
     return found
 

@@ -90,6 +90,11 @@ listens() {
     (exec 3<>/dev/tcp/127.0.0.1/2379) 2>/dev/null
 }
 
+# Returns whether a user without a part in the pool reaches etcd.
+others_reach_etcd() {
+    setpriv --reuid=65534 --regid=65534 --clear-groups bash -c 'exec 3<>/dev/tcp/127.0.0.1/2379' 2>/dev/null
+}
+
 # Returns whether etcd has the members of the table. Debian's package starts another etcd.
 runs_pool() {
     local said it

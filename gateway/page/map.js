@@ -5,6 +5,7 @@ import { Conflicts } from "./conflicts.js";
 import { Drawing } from "./drawing.js";
 import { Filter } from "./filter.js";
 import { Ground, lineOf } from "./ground.js";
+import { Instances } from "./instances.js";
 import { Pointing } from "./pointing.js";
 import { hashOf, keepChoices, storedToken, storeToken, viewOf } from "./session.js";
 import { chosen, clock, duration, height, heights, stamp } from "./units.js";
@@ -25,6 +26,7 @@ let token = "", airspace = null, data = null, ahead = 0, altitude = null, lastAn
 let isDue = false, resting = 0, isFirst = true, linking = 0, wantedSelection = [];
 // The pairs that are listed and for what, those that warnings are of and for which data, and what is looked for.
 let pairs = null, pairsKey = "", warned = null, warnedOf = -1, finding = null, warnings = new Warnings();
+let instances = new Instances(), askingInstances = false;
 let isSettled = false; // whether the gateway had found all flights once
 // What is selected: an item by its name, and the list or the map where it was chosen; also what else is in the cell there, or
 // the other one of a pair.
@@ -63,8 +65,20 @@ async function look() {
   }
   asking = null;
   if (!token) return;
+  lookAtInstances();
   const isSoon = isMoment && wanted !== `${ahead} ${altitude}`;
   timer = setTimeout(look, isSoon ? 0 : !data?.asked ? 700 : document.hidden ? 10 * EVERY : EVERY);
+}
+
+async function lookAtInstances() {
+  if (askingInstances || !airspace || !instances.isAsked) return;
+  askingInstances = true;
+  const { instances: found } = await read("map/instances.json").catch(() => ({}));
+  askingInstances = false;
+  if (!token) return; // the viewer has left meanwhile
+  if (found) instances.take(found).forEach(announce);
+  else instances.lose();
+  listInstances();
 }
 
 const since = (second) => second ? ` since ${clock(second)}` : "";
@@ -186,6 +200,7 @@ function leave(why) {
   warnedOf = -1;
   warnings = new Warnings();
   tellWarnings();
+  instances = new Instances();
   isFirst = true;
   of("entry").hidden = false;
   of("view").hidden = true;
@@ -553,6 +568,18 @@ function listSuppliers() {
   of("suppliers").tBodies[0].replaceChildren(...rows);
   const down = airspace.suppliers.filter((it) => airspace.availabilityOf(it) === "Down");
   of("suppliers-count").textContent = `${rows.length}${down.length ? `, down: ${down.join(", ")}` : ""}`;
+}
+
+function listInstances() {
+  of("pool").hidden = !instances.list?.length;
+  if (of("pool").hidden) return;
+  of("instances").tBodies[0].replaceChildren(...instances.list.map(({ name, state, is_well: isWell }) => {
+    const it = make("tr");
+    it.append(make("td", name), make("td", state, { className: isWell === false ? "Down" : "" }));
+    return it;
+  }));
+  of("instances-count").textContent = instances.text;
+  of("instances-count").className = instances.list.some((it) => it.is_well === false) ? "count ill" : "count";
 }
 
 // ---- what is selected

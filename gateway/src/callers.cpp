@@ -5,7 +5,6 @@
 #include <optional>
 #include <sstream>
 
-#include <openssl/pem.h>
 #include <strings.h>
 
 #include "refusal.h"
@@ -14,23 +13,6 @@
 namespace {
 
 constexpr int kClockSkew = 5;  // seconds by which an issuer's clock may be ahead
-constexpr int kLeastKeyBits = 2048;
-
-// The bytes of a text in base64url without padding.
-std::optional<std::string> base64url(const std::string& text) {
-  static const std::string kDigits = "ABCDEFGHIJKLMNOPQRSTUVWXYZabcdefghijklmnopqrstuvwxyz0123456789-_";
-  std::string bytes;
-  unsigned bits = 0;
-  int count = 0;
-  for (char it : text) {
-    size_t digit = kDigits.find(it);
-    if (digit == std::string::npos) return std::nullopt;
-    bits = (bits << 6 | unsigned(digit)) & 0xffff;
-    count += 6;
-    if (count >= 8) bytes.push_back(char(bits >> (count -= 8)));
-  }
-  return text.size() % 4 == 1 ? std::nullopt : std::make_optional(bytes);
-}
 
 [[noreturn]] void refuse_token(const std::string& why) { throw Refusal(401, "the token is not valid: " + why); }
 
@@ -60,35 +42,19 @@ bool names(const json& claim, const std::string& wanted) {
 
 }  // namespace
 
-Callers::Callers(const Files& files) : issuer_(files.issuer), audience_(files.audience) {
+Callers::Callers(const Files& files) : issuer_(files.issuer), audience_(files.audience), keys_(files.keys, files.form) {
   for (const ServiceToken& it : read_token_file(files.tokens)) {
     subjects_.insert(it.sub);
     callers_.emplace(std::make_pair(it.sub, it.scopes), Caller{it.uss, it.text});
   }
-  read_keys(files.keys);
 }
 
-void Callers::read_keys(const std::string& file) {
-  std::string text = contents(file);
-  std::unique_ptr<BIO, decltype(&BIO_free)> pem(BIO_new_mem_buf(text.data(), int(text.size())), BIO_free);
-  while (EVP_PKEY* key = PEM_read_bio_PUBKEY(pem.get(), nullptr, nullptr, nullptr)) {
-    keys_.emplace_back(key, EVP_PKEY_free);
-    if (EVP_PKEY_get_base_id(key) != EVP_PKEY_RSA || EVP_PKEY_get_bits(key) < kLeastKeyBits)
-      throw std::runtime_error(file + ": a key is not of RSA with 2,048 bits or more");
-  }
-  if (keys_.empty()) throw std::runtime_error(file + ": has no public key in PEM");
+std::string Callers::reader() const {
+  auto found = std::find_if(callers_.begin(), callers_.end(), [](const auto& it) { return it.first.second.count("utm.strategic_coordination"); });
+  return found == callers_.end() ? "" : found->second.token;
 }
 
-bool Callers::is_signed(const std::string& text, const std::string& signature) const {
-  auto bytes = [](const std::string& it) { return reinterpret_cast<const unsigned char*>(it.data()); };
-  return std::any_of(keys_.begin(), keys_.end(), [&](const Key& key) {
-    std::unique_ptr<EVP_MD_CTX, decltype(&EVP_MD_CTX_free)> context(EVP_MD_CTX_new(), EVP_MD_CTX_free);
-    return context && EVP_DigestVerifyInit(context.get(), nullptr, EVP_sha256(), nullptr, key.get()) == 1 &&
-           EVP_DigestVerify(context.get(), bytes(signature), signature.size(), bytes(text), text.size()) == 1;
-  });
-}
-
-Caller Callers::caller(const std::string& authorization, std::time_t now) const {
+Caller Callers::caller(const std::string& authorization, std::time_t now) {
   if (strncasecmp(authorization.c_str(), "bearer ", 7) != 0) throw Refusal(401, "a bearer token is needed");
   std::string token = authorization.substr(std::min(authorization.find_first_not_of(' ', 7), authorization.size()));
   size_t first = token.find('.'), last = token.rfind('.');
@@ -98,7 +64,7 @@ Caller Callers::caller(const std::string& authorization, std::time_t now) const 
   if (header.value("alg", json()) != "RS256") refuse_token("it is not signed by RS256");
   if (header.contains("crit")) refuse_token("it asks for extensions");
   auto signature = base64url(token.substr(last + 1));
-  if (!signature || !is_signed(token.substr(0, last), *signature)) refuse_token("its signature is of no key that is known here");
+  if (!signature || !keys_.have_signed(token.substr(0, last), *signature)) refuse_token("its signature is of no key that is known here");
 
   json claims = object_of(token.substr(first + 1, last - first - 1));
   if (claims.value("iss", json()) != issuer_) refuse_token("it is of another issuer");

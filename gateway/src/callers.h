@@ -3,14 +3,11 @@
 
 #include <ctime>
 #include <map>
-#include <memory>
 #include <set>
 #include <string>
 #include <utility>
-#include <vector>
 
-#include <openssl/evp.h>
-
+#include "keys.h"
 #include "tokens.h"
 
 struct Caller {
@@ -22,21 +19,19 @@ class Callers {
  public:
   struct Files {
     std::string tokens, keys, issuer, audience;
+    Keys::Form form = Keys::Form::pem;
   };
   // Of the service's own token file, in which a token may also have `sub`, the JWT's name of its supplier where that is another.
   explicit Callers(const Files& files);
 
-  // The caller of a field Authorization, else a Refusal.
-  Caller caller(const std::string& authorization, std::time_t now) const;
+  // The caller of a field Authorization, else a Refusal. On one thread.
+  Caller caller(const std::string& authorization, std::time_t now);
+  // A token of the service that may read availabilities; empty where there is none.
+  std::string reader() const;
 
  private:
-  using Key = std::unique_ptr<EVP_PKEY, decltype(&EVP_PKEY_free)>;
-
-  void read_keys(const std::string& file);
-  bool is_signed(const std::string& text, const std::string& signature) const;
-
   std::string issuer_, audience_;
-  std::vector<Key> keys_;
+  Keys keys_;
   std::map<std::pair<std::string, Scopes>, Caller> callers_;  // by `sub` and scopes
   std::set<std::string> subjects_;
 };

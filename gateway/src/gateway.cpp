@@ -45,9 +45,13 @@ constexpr std::array<std::pair<const char*, const char*>, 12> kAdvice = {{
     {"P17 DEPENDED", "intents name the subscription: delete them first, or update them without it"},
 }};
 
-void explain(json& answer) {
+void explain(json& answer, const Route& route) {
   auto message = answer.find("message");
   if (message == answer.end()) return;
+  if (*message == "P10 VERSION" && route.kind == "uss_availability") {
+    *message = "P10 VERSION: old_version is not the current version of the availability: read it, and send its version as old_version";
+    return;
+  }
   for (const auto& [rule, advice] : kAdvice)
     if (*message == rule) {
       *message = std::string(rule) + ": " + advice;
@@ -110,8 +114,9 @@ Task Gateway::admit(const Head& head, Note& note) {
 }
 
 Reply Gateway::health() {
-  Upstream(service_, "-").ask("GET", "/health");
-  return reply_of({200, {{"service", "answers"}}, nullptr});
+  Condition service = health_.now();
+  if (!service.is_well) throw Refusal(503, "the service does not serve: " + service.text);
+  return reply_of({200, {{"service", service.text}}, nullptr});
 }
 
 // A line of the log has the report, with an id that its sender gets.
@@ -145,7 +150,7 @@ Reply Gateway::pass(const Call& call, const std::string& text, const std::atomic
   Answer answer = ask(call, service, body, budget);
   Intents(secret_, wish_, call.caller, service).mark(answer.body);
   answer.body = answer_for_supplier(std::move(answer.body));
-  explain(answer.body);
+  explain(answer.body, call.route);
   return reply_of(answer);
 } catch (const json::exception&) {
   throw Refusal(502, "the service's answer has not its form");

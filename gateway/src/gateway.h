@@ -9,6 +9,7 @@
 
 #include "budget.h"
 #include "callers.h"
+#include "health.h"
 #include "intents.h"
 #include "map.h"
 #include "route.h"
@@ -25,10 +26,15 @@ class Gateway {
     NewSubscription wish;
     int service;
     size_t kept;
+    std::optional<Place> admin;  // the operator's port of the service
     std::optional<Map::Options> map;
   };
   explicit Gateway(const Options& options)
-      : secret_(options.secret), callers_(options.files), wish_(options.wish), service_(options.service, options.kept) {
+      : secret_(options.secret),
+        callers_(options.files),
+        wish_(options.wish),
+        service_(options.service, options.kept),
+        health_(options.admin ? Health(*options.admin) : Health::of_service(options.service, callers_.reader())) {
     if (options.map) map_ = std::make_unique<Map>(*options.map, service_);
   }
 
@@ -48,6 +54,7 @@ class Gateway {
   Callers callers_;
   NewSubscription wish_;
   Service service_;
+  Health health_;
   Turns turns_;
   std::unique_ptr<Map> map_;  // where there is one
 };

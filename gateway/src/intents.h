@@ -26,13 +26,13 @@ class Intents {
   void mark(json& answer) const;
 
  private:
-  struct Made {
-    std::string id, version;
-  };
-  std::string implicit_id(const std::string& intent, const std::string& ovn, int turn) const;
+  std::string implicit_id(const std::string& intent, const std::string& ovn, const json& body, int turn) const;
   std::string seal(const std::string& half) const;
   std::optional<std::string> named_by(const std::string& intent);
-  Answer make(const std::string& intent, const std::string& ovn, const json& body, std::optional<Made>& made);
+  Answer make(const std::string& intent, const std::string& ovn, const json& body, std::optional<std::string>& made);
+  static bool is_open(const Answer& answer);
+  static Answer denied(Answer answer, const WantedSubscription& wanted);
+  Answer put_once(const std::string& id, const std::string& ovn, IntentPut& put);
   void take_away(const std::string& subscription);
 
   const Secret& secret_;

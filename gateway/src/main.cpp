@@ -15,9 +15,11 @@
 namespace {
 
 constexpr const char* kUsage =
-    "gateway serve --port N|--socket PATH --service N --tokens FILE --keys FILE --issuer TEXT --audience TEXT --secret FILE\n"
-    "              [--new-subscription make|ignore|refuse] [--connections N] [--kept-connections N]\n"
-    "              [--map-token FILE [--map-area CELL,CELL..] [--airspace-url http://127.0.0.1:N] [--map-ground FILE]]\n"
+    "gateway serve --port N|--socket PATH --service N --tokens FILE --keys FILE|--jwks FILE --issuer TEXT --audience TEXT\n"
+    "              --secret FILE|--subscription-secret FILE [--new-subscription make|ignore|refuse] [--admin-url URL]\n"
+    "              [--connections N] [--kept-connections N]\n"
+    "              [--map-token FILE [--map-area CELL,CELL..] [--airspace-url URL] [--map-ground FILE] [--instances NAME=URL,..]]\n"
+    "              where a URL is http://127.0.0.1:N, an admin port of the service\n"
     "gateway tokens --secret FILE --suppliers FILE\n"
     "gateway map-token --tokens FILE --supplier USS\n"
     "gateway translate [--now SECONDS]\n";
@@ -42,20 +44,45 @@ NewSubscription wish_of(const std::string& text) {
   throw std::runtime_error(text + ": --new-subscription takes make, ignore or refuse");
 }
 
-void serve_by(const Options& options) {
-  auto or_else = [&](const char* name, const char* other) { return options.count(name) ? options.at(name) : other; };
-  if (options.count("port") == options.count("socket")) throw std::runtime_error("one of --port and --socket is needed");
-  int port = options.count("port") ? number_of(options.at("port"), 1, 65535, "port") : 0;
-  int connections = number_of(or_else("connections", kConnections), 1, 60000, "count of connections");
-  int kept = number_of(or_else("kept-connections", kKept), 0, 100, "count of connections");
+std::string or_else(const Options& options, const char* name, const char* other) { return options.count(name) ? options.at(name) : other; }
+
+// The one of two options that is given.
+const char* one_of(const Options& options, const char* name, const char* other) {
+  if (options.count(name) == options.count(other)) throw std::runtime_error(std::string("one of --") + name + " and --" + other + " is needed");
+  return options.count(name) ? name : other;
+}
+
+std::optional<Map::Options> map_of(const Options& options) {
   if (options.count("map-token") != (options.count("map-area") || options.count("airspace-url")))
     throw std::runtime_error("--map-token goes with --map-area or --airspace-url, and they with it");
-  if (options.count("map-ground") && !options.count("map-token")) throw std::runtime_error("--map-ground goes with --map-token");
-  std::optional<Map::Options> map;
-  if (options.count("map-token")) map = {options.at("map-token"), or_else("map-area", ""), or_else("airspace-url", ""), or_else("map-ground", "")};
-  Gateway gateway({{options.at("tokens"), options.at("keys"), options.at("issuer"), options.at("audience")}, options.at("secret"),
-                   wish_of(or_else("new-subscription", "make")), number_of(options.at("service"), 1, 65535, "port"), size_t(kept),
-                   map});
+  for (const char* name : {"map-ground", "instances"})
+    if (options.count(name) && !options.count("map-token")) throw std::runtime_error(std::string("--") + name + " goes with --map-token");
+  if (!options.count("map-token")) return std::nullopt;
+  auto given = [&](const char* name) { return or_else(options, name, ""); };
+  return Map::Options{given("map-token"), given("map-area"), given("airspace-url"), given("map-ground"), given("instances")};
+}
+
+// The operator's port of the service, where one is known.
+std::optional<Place> admin_of(const Options& options) {
+  for (const char* name : {"admin-url", "airspace-url"})
+    if (options.count(name)) return place_of(options.at(name), std::string("--") + name);
+  return std::nullopt;
+}
+
+Gateway::Options gateway_of(const Options& options) {
+  std::string keys = one_of(options, "keys", "jwks");
+  Callers::Files files = {options.at("tokens"), options.at(keys), options.at("issuer"), options.at("audience"),
+                          keys == "keys" ? Keys::Form::pem : Keys::Form::jwks};
+  int kept = number_of(or_else(options, "kept-connections", kKept), 0, 100, "count of connections");
+  return {files, options.at(one_of(options, "secret", "subscription-secret")), wish_of(or_else(options, "new-subscription", "make")),
+          number_of(options.at("service"), 1, 65535, "port"), size_t(kept), admin_of(options), map_of(options)};
+}
+
+void serve_by(const Options& options) {
+  bool has_port = one_of(options, "port", "socket") == std::string("port");
+  int port = has_port ? number_of(options.at("port"), 1, 65535, "port") : 0;
+  int connections = number_of(or_else(options, "connections", kConnections), 1, 60000, "count of connections");
+  Gateway gateway(gateway_of(options));
   // else each of the threads would keep the memory of the largest body that it once had
   mallopt(M_ARENA_MAX, 2);
   int listening = port ? listening_port(port) : listening_path(options.at("socket"));
@@ -111,8 +138,9 @@ int run(const std::vector<std::string>& words) {
   std::string command = words.empty() ? "" : words[0];
   std::vector<std::string> rest(words.begin() + !words.empty(), words.end());
   if (command == "serve") {
-    serve_by(options_of(rest, {"service", "tokens", "keys", "issuer", "audience", "secret"},
-                        {"port", "socket", "new-subscription", "connections", "kept-connections", "map-token", "map-area", "airspace-url", "map-ground"}));
+    serve_by(options_of(rest, {"service", "tokens", "issuer", "audience"},
+                        {"port", "socket", "keys", "jwks", "secret", "subscription-secret", "new-subscription", "admin-url", "connections", "kept-connections",
+                         "map-token", "map-area", "airspace-url", "map-ground", "instances"}));
     return 0;
   }
   if (command == "tokens") {

@@ -219,7 +219,7 @@ Reply packed(Reply reply) {
 // From the operator's port of the service where that is said, and else by queries.
 std::unique_ptr<Sight> Map::sight_of(const std::string& token, const Options& options, Service& service) {
   if (options.airspace.empty()) return std::make_unique<Survey>(service, token, area_of(options.area));
-  return std::make_unique<Whole>(port_of_url(options.airspace), options.area.empty() ? Cells() : area_of(options.area));
+  return std::make_unique<Whole>(place_of(options.airspace, "--airspace-url"), options.area.empty() ? Cells() : area_of(options.area));
 }
 
 Map::Map(const Options& options, Service& service) : Map(tokens_of(options.tokens), options, service) {}
@@ -227,7 +227,8 @@ Map::Map(const Options& options, Service& service) : Map(tokens_of(options.token
 Map::Map(const Tokens& tokens, const Options& options, Service& service)
     : viewer_(tokens.viewer),
       ground_(options.ground.empty() ? kNoGround : ground_of(contents(options.ground), options.ground)),
-      sight_(sight_of(tokens.service, options, service)) {}
+      sight_(sight_of(tokens.service, options, service)),
+      instances_(options.instances) {}
 
 Map::Tokens Map::tokens_of(const std::string& file) {
   std::istringstream lines(contents(file));
@@ -281,7 +282,7 @@ std::optional<Task> Map::admit(const Head& head, Note& note) {
   if (path != "/map" && path.compare(0, 5, "/map/") != 0) return std::nullopt;
   auto file = page_file(path);
   bool is_data = path == "/map/airspace.json" || path == "/map/airspace.geojson" || path == "/map/cell.json" || path == "/map/ground.geojson" ||
-                 path == "/map/changes.json";
+                 path == "/map/changes.json" || path == "/map/instances.json";
   if (!file && !is_data) throw Refusal(404, "there is no such path");
   note.route = path.substr(1);
   if (head.method != "GET") throw Refusal(405, "the path takes GET", "GET");
@@ -293,6 +294,7 @@ std::optional<Task> Map::admit(const Head& head, Note& note) {
   auto run = [this, path, sent, target = head.target](auto&, auto&) {
     if (path == "/map/ground.geojson") return sent({200, ground_, "", "application/geo+json", kDataFields});
     if (path == "/map/changes.json") return sent({200, changes_of(target), "", "application/json", kDataFields});
+    if (path == "/map/instances.json") return sent(data({{"now", long(std::time(nullptr))}, {"instances", instances_.shown()}}));
     Moment moment = moment_of(target);
     if (path == "/map/cell.json") return sent(data(cell_of(*sight_, target, moment)));
     auto picture = sight_->picture(moment);

@@ -6,6 +6,7 @@
 #include <optional>
 #include <string>
 
+#include "instances.h"
 #include "server.h"
 #include "sight.h"
 
@@ -16,6 +17,7 @@ class Map {
     std::string area;    // tokens of cells, with commas; may be empty where there is an airspace
     std::string airspace;  // the URL of the operator's port of the service, where the airspace is taken from there
     std::string ground;    // a GeoJSON file that the page draws on the ground; may be empty
+    std::string instances;  // names and URLs of the operator's ports of a pool; may be empty
   };
   Map(const Options& options, Service& service);
 
@@ -34,6 +36,7 @@ class Map {
 
   std::string viewer_, ground_;
   std::unique_ptr<Sight> sight_;
+  Instances instances_;
   std::mutex mutex_;  // of the changes
   Changes changes_;
 };

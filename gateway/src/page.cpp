@@ -19,6 +19,7 @@ PAGE_FILE("page_filter", "filter.js");
 PAGE_FILE("page_pointing", "pointing.js");
 PAGE_FILE("page_session", "session.js");
 PAGE_FILE("page_units", "units.js");
+PAGE_FILE("page_instances", "instances.js");
 PAGE_FILE("page_ground", "ground.json");
 
 extern "C" {
@@ -28,7 +29,7 @@ extern const char page_ground_js_begin[], page_ground_js_end[], page_ground_begi
 extern const char page_cells_begin[], page_cells_end[], page_conflicts_begin[], page_conflicts_end[];
 extern const char page_warnings_begin[], page_warnings_end[], page_filter_begin[], page_filter_end[];
 extern const char page_pointing_begin[], page_pointing_end[], page_session_begin[], page_session_end[];
-extern const char page_units_begin[], page_units_end[];
+extern const char page_units_begin[], page_units_end[], page_instances_begin[], page_instances_end[];
 }
 
 std::optional<PageFile> page_file(std::string_view path) {
@@ -36,7 +37,7 @@ std::optional<PageFile> page_file(std::string_view path) {
     std::string_view path;
     const char *begin, *end, *type;
   };
-  static const std::array<Named, 14> files = {{
+  static const std::array<Named, 15> files = {{
       {"/map", page_html_begin, page_html_end, "text/html; charset=utf-8"},
       {"/map/map.css", page_css_begin, page_css_end, "text/css; charset=utf-8"},
       {"/map/map.js", page_js_begin, page_js_end, "text/javascript; charset=utf-8"},
@@ -49,6 +50,7 @@ std::optional<PageFile> page_file(std::string_view path) {
       {"/map/filter.js", page_filter_begin, page_filter_end, "text/javascript; charset=utf-8"},
       {"/map/pointing.js", page_pointing_begin, page_pointing_end, "text/javascript; charset=utf-8"},
       {"/map/session.js", page_session_begin, page_session_end, "text/javascript; charset=utf-8"},
+      {"/map/instances.js", page_instances_begin, page_instances_end, "text/javascript; charset=utf-8"},
       {"/map/units.js", page_units_begin, page_units_end, "text/javascript; charset=utf-8"},
       {"/map/ground.json", page_ground_begin, page_ground_end, "application/json"},
   }};

@@ -36,10 +36,15 @@ constexpr size_t kAnswer = 16 << 20, kLarge = 1 << 20;
 // One connection, on which a thread waits for each step.
 class Connection {
  public:
-  bool open(int port) {
+  // All that it does ends at this time, where one is given.
+  explicit Connection(Clock::time_point ends = Clock::time_point::max()) : ends_(ends) {}
+
+  bool open(const Place& place) {
+    net::ip::address address = net::ip::address_v4::loopback();
+    if (place.is_v6) address = net::ip::address_v6::loopback();
     error_code fault;
-    stream_.expires_after(kConnecting);
-    stream_.async_connect(net::ip::tcp::endpoint(net::ip::address_v4::loopback(), uint16_t(port)), [&](error_code it) { fault = it; });
+    expire_after(kConnecting);
+    stream_.async_connect(net::ip::tcp::endpoint(address, uint16_t(place.port)), [&](error_code it) { fault = it; });
     wait();
     if (fault) return false;
     stream_.socket().set_option(net::ip::tcp::no_delay(true), fault);
@@ -67,6 +72,8 @@ class Connection {
   bool is_used() const { return is_used_; }
 
  private:
+  void expire_after(std::chrono::seconds most) { stream_.expires_at(std::min<Clock::time_point>(Clock::now() + most, ends_)); }
+
   void wait() {
     io_.restart();
     io_.run();
@@ -76,7 +83,7 @@ class Connection {
   boost::beast::tcp_stream stream_{io_};
   boost::beast::flat_buffer buffer_;
   bool is_used_ = false;
-  Clock::time_point used_ = Clock::now();
+  Clock::time_point used_ = Clock::now(), ends_;
 };
 
 Connection::Got Connection::exchange(const std::string& request, std::recursive_mutex& large) {
@@ -84,7 +91,7 @@ Connection::Got Connection::exchange(const std::string& request, std::recursive_
   parser.body_limit(kAnswer);
   error_code fault;
   auto note = [&](error_code it, size_t) { fault = it; };
-  stream_.expires_after(kAnswering);
+  expire_after(kAnswering);
   net::async_write(stream_, net::buffer(request), note);
   wait();
   // what the service said before it closed is read all the same
@@ -98,7 +105,7 @@ Connection::Got Connection::exchange(const std::string& request, std::recursive_
   got.is_too_long = fault == http::error::body_limit;
   if (fault) return got;
   if (parser.content_length().value_or(0) > kLarge) got.alone = std::make_shared<std::unique_lock<std::recursive_mutex>>(large);
-  stream_.expires_after(kAnswering);
+  expire_after(kAnswering);
   http::async_read(stream_, buffer_, parser, note);
   wait();
   if (fault) return got;
@@ -142,7 +149,7 @@ void Upstream::connect() {
   auto until = Clock::now() + kRestart;
   while (!connection_) {
     auto made = std::make_unique<Connection>();
-    if (made->open(service_.port_)) {
+    if (made->open({service_.port_})) {
       connection_ = std::move(made);
     } else {
       if (Clock::now() >= until) throw Refusal(503, "the service is not there: nothing was done");
@@ -180,12 +187,29 @@ Answer Upstream::ask(const std::string& method, const std::string& path, const j
   return {got.status, std::move(answer), std::move(got.alone)};
 }
 
-json read_operators(int port, const std::string& target) {
-  Connection connection;
-  if (!connection.open(port)) throw Refusal(503, "the operator's port of the service is not there");
+Place place_of(const std::string& url, const std::string& option) {
+  for (bool is_v6 : {false, true}) {
+    std::string front = is_v6 ? "http://[::1]:" : "http://127.0.0.1:", digits = url.compare(0, front.size(), front) == 0 ? url.substr(front.size()) : "";
+    bool is_number = !digits.empty() && digits.size() <= 5 && digits.find_first_not_of("0123456789") == std::string::npos;
+    if (int port = is_number ? std::stoi(digits) : 0; port >= 1 && port <= 65535) return {port, is_v6};
+  }
+  throw std::runtime_error(url + ": " + option + " takes http://127.0.0.1:PORT, an operator's port of the service");
+}
+
+std::optional<Said> read_within(std::chrono::milliseconds limit, const Place& place, const std::string& target, const std::string& token) {
+  Connection connection(Clock::now() + limit);
+  if (!connection.open(place)) return std::nullopt;
   std::recursive_mutex alone;
-  std::string host = "127.0.0.1:" + std::to_string(port);
-  Connection::Got got = connection.exchange("GET " + target + " HTTP/1.1\r\nHost: " + host + "\r\n\r\n", alone);
+  std::string field = token.empty() ? "" : "Authorization: Bearer " + token + "\r\n";
+  Connection::Got got = connection.exchange("GET " + target + " HTTP/1.1\r\nHost: " + place.host() + "\r\n" + field + "\r\n", alone);
+  return got.is_whole ? std::make_optional(Said{got.status, std::move(got.body)}) : std::nullopt;
+}
+
+json read_operators(const Place& place, const std::string& target) {
+  Connection connection;
+  if (!connection.open(place)) throw Refusal(503, "the operator's port of the service is not there");
+  std::recursive_mutex alone;
+  Connection::Got got = connection.exchange("GET " + target + " HTTP/1.1\r\nHost: " + place.host() + "\r\n\r\n", alone);
   if (got.is_whole && got.status != 200) throw Refusal(502, got.body.substr(0, got.body.find('\n')));
   json answer = got.is_whole ? json::parse(got.body, nullptr, false) : json();
   if (!answer.is_object()) throw Refusal(502, "the answer of the operator's port was lost");

@@ -1,15 +1,36 @@
 // The service behind, and the connections to it that are kept open.
 #pragma once
 
+#include <chrono>
 #include <memory>
 #include <mutex>
+#include <optional>
 #include <string>
 #include <vector>
 
 #include "translate.h"
 
+// A port of this machine.
+struct Place {
+  int port;
+  bool is_v6 = false;
+
+  // As a URL and the field Host have it, such as `127.0.0.1:8078`.
+  std::string host() const { return (is_v6 ? "[::1]:" : "127.0.0.1:") + std::to_string(port); }
+};
+
+// Of `http://127.0.0.1:PORT` or `http://[::1]:PORT`; an exception for any other text, which names the option.
+Place place_of(const std::string& url, const std::string& option);
+
 // What the operator's port of the service answers to a reading; a Refusal where that is none.
-json read_operators(int port, const std::string& target);
+json read_operators(const Place& place, const std::string& target);
+
+struct Said {
+  int status;
+  std::string body;
+};
+// What a place answers to a reading; none where no whole answer came within so long.
+std::optional<Said> read_within(std::chrono::milliseconds limit, const Place& place, const std::string& target, const std::string& token = "");
 
 struct Answer {
   int status;

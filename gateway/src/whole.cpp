@@ -12,18 +12,9 @@ constexpr std::chrono::milliseconds kFresh(2500);
 // How often it is read anew where the airspace changed between two of its pages, and the most references of all pages.
 constexpr int kTries = 3;
 constexpr size_t kMost = 20000;
-constexpr const char* kUrl = "http://127.0.0.1:";
 constexpr const char* kNames[] = {"operational_intent_reference", "constraint_reference"};
 
 }  // namespace
-
-int port_of_url(const std::string& url) {
-  std::string front = kUrl, digits = url.compare(0, front.size(), front) == 0 ? url.substr(front.size()) : "";
-  bool is_number = !digits.empty() && digits.size() <= 5 && digits.find_first_not_of("0123456789") == std::string::npos;
-  int port = is_number ? std::stoi(digits) : 0;
-  if (port < 1 || port > 65535) throw std::runtime_error(url + ": --airspace-url takes " + kUrl + "PORT, the operator's port of the service");
-  return port;
-}
 
 // ---- what is read
 
@@ -55,7 +46,7 @@ std::optional<Whole::Read> Whole::read_once(const Read* before) const {
   Read read{{}, {}, {}, -1, true, false};
   std::string next;
   do {
-    json page = read_operators(port_, "/airspace" + (next.empty() ? "" : "?after=" + next));
+    json page = read_operators(place_, "/airspace" + (next.empty() ? "" : "?after=" + next));
     long serial = page.at("serial");
     if (before && before->is_one && serial == before->serial) return std::nullopt;
     before = nullptr;

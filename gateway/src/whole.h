@@ -12,7 +12,7 @@
 class Whole : public Sight {
  public:
   // From the operator's port of this machine. An area is what is looked at first; nothing is left out for it.
-  Whole(int port, const Cells& area) : port_(port), area_(area) {}
+  Whole(const Place& place, const Cells& area) : place_(place), area_(area) {}
 
   Picture picture(const Moment& moment) override;
   State fill(Changes& changes) override;
@@ -53,7 +53,7 @@ class Whole : public Sight {
   // What was read last, anew where that was a while ago; none before the first that was read.
   std::shared_ptr<const Read> latest(State& state);
 
-  int port_;
+  Place place_;
   Cells area_;
   std::mutex mutex_;  // of all below
   std::shared_ptr<const Read> read_;
@@ -61,6 +61,3 @@ class Whole : public Sight {
   State state_ = {};
   std::shared_ptr<const Read> filled_;  // of one thread at a time, which fills
 };
-
-// The port of `http://127.0.0.1:PORT`; an exception for any other text.
-int port_of_url(const std::string& url);

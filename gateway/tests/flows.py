@@ -11,8 +11,8 @@ import shapes
 from properties import translate
 from standard import check
 from world import (
-    BESIDE, FAR, FRONT, INTENTS, MANHATTAN, MONITORING, STRATEGIC, SUBSCRIPTIONS, TOP, ZERO, Gateway, Recorded, Service, circle, expect,
-    extent, intent, new_id, stamp)
+    ARBITRATION, BESIDE, FAR, FRONT, INTENTS, MANAGEMENT, MANHATTAN, MONITORING, PROCESSING, STRATEGIC, SUBSCRIPTIONS, TOP, ZERO, Gateway, Recorded,
+    Service, circle, expect, extent, intent, new_id, stamp)
 
 URL = {"uss_base_url": "https://uss.example"}
 
@@ -263,6 +263,19 @@ def advice(files, program):
         expect(place.a("PUT", f"{INTENTS}/{name}", intent(extent(MANHATTAN))), 409, "P8 FRESH: the id is in use")
         expect(place.b("PUT", f"{INTENTS}/{new_id()}", intent(extent(MANHATTAN))), 409, "P14 KEY: the key lacks")
         expect(place.a("GET", f"{INTENTS}/{new_id()}"), 404, "P7 FOUND: nothing of this kind")
+        setting = {"availability": "Down", "old_version": "0123456789abcdef"}
+        expect(place.ask("uss-v", ARBITRATION, "PUT", f"{FRONT}uss_availability/uss-a", setting), 409, "P10 VERSION: old_version is not the current")
+
+
+def new_subscription_without_its_scope(files, program):
+    """The denial names the scopes that the subscription needs, whatever those of the intent are."""
+    strategic, processing = f"needs a token with the scope {STRATEGIC}", f", and with {PROCESSING} for notify_for_constraints"
+    with over_tables(files, program) as place:
+        for scopes, notify in (MONITORING, False), (MONITORING, True), (STRATEGIC, True), (f"{MANAGEMENT} {PROCESSING}", True):
+            body = intent(extent(MANHATTAN), state="Nonconforming", new_subscription={**URL, "notify_for_constraints": notify})
+            message = expect(place.ask("uss-a", scopes, "PUT", f"{INTENTS}/{new_id()}", body), 403)["message"]
+            assert message.partition(":")[0] in ("P4 SCOPE", "P11 ROLE") and strategic in message, message
+            assert message.endswith(processing if notify else STRATEGIC), message
 
 
 def explanations(files, program):
@@ -284,6 +297,6 @@ def explanations(files, program):
 
 
 ALL = [
-    reports, advice, explanations,
+    reports, advice, new_subscription_without_its_scope, explanations,
     states_and_scopes, explicit_subscriptions, implicit_subscriptions, shared_implicit_subscriptions, answers_lost_on_the_way,
     new_subscription_over_tables, drawn_outlines_meet, body_of_the_document]

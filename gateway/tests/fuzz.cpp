@@ -13,9 +13,9 @@
 
 namespace {
 
-const Callers& callers() {
+Callers& callers() {
   static const std::string folder = std::getenv("FUZZ_FILES") ? std::getenv("FUZZ_FILES") : ".";
-  static const Callers made({folder + "/tokens.toml", folder + "/keys.pem", "auth.example", "dss.example"});
+  static Callers made({folder + "/tokens.toml", folder + "/keys.pem", "auth.example", "dss.example"});
   return made;
 }
 

@@ -176,7 +176,7 @@ def a_service_that_is_not_there(files, program):
     expect(ask("GET", f"{INTENTS}/{name}"), 503, "not there")
     assert time.time() - began > 1.9
     expect(ask("PUT", f"{INTENTS}/{new_id()}", intent(extent(MANHATTAN))), 503, "nothing was done")
-    expect(gateway.ask(None, "GET", "/health"), 503, "not there")
+    expect(gateway.ask(None, "GET", "/health"), 503, "no answer")
     service.start()
     assert reference(ask("GET", f"{INTENTS}/{name}"))["ovn"] == told["ovn"]
     # The gateway waits for a service that comes back within the time of a restart.

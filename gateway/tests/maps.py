@@ -42,11 +42,11 @@ def map_tokens(files, program):
 
 
 @contextlib.contextmanager
-def over_map(files, program, area=AREA):
+def over_map(files, program, area=AREA, *options):
     """Makes a place whose gateway has a map, and `read` of its paths by the token of viewers."""
     file, viewer = map_tokens(files, program)
     service = Service(files, database=f"{new_id()}.db")
-    gateway = Gateway(program, files, service.port, "--map-token", str(file), "--map-area", area)
+    gateway = Gateway(program, files, service.port, "--map-token", str(file), "--map-area", area, *options)
     place = Place(files, gateway, service)
     place.program, place.viewer = program, viewer
     place.read = lambda path: gateway.ask(viewer, "GET", path)

@@ -190,9 +190,15 @@ def the_documented_nginx(files, built):
     assert f"PUT {INTENTS}/{name} 200 " in logs and OVN not in logs and token not in logs, logs[-2000:]
 
 
-@contextlib.contextmanager
 def haproxy(files, behind, admin):
     """Runs it before the service of a port, which has this admin port, and gives its port and the lines of its log."""
+    return haproxy_by(files, (TOP / "deploy" / "haproxy.cfg").read_text(), (
+        ("server dss 127.0.0.1:8080", f"server dss 127.0.0.1:{behind}"), (" check port 8078 ", f" check port {admin} ")))
+
+
+@contextlib.contextmanager
+def haproxy_by(files, text, changes):
+    """Runs it by a configuration with some changes, and gives its port and the lines of its log."""
     program = shutil.which("haproxy", path="/usr/sbin:/usr/bin")
     if not program:
         raise Skipped("haproxy is not installed: apt-get install haproxy")
@@ -200,9 +206,7 @@ def haproxy(files, behind, admin):
     folder.mkdir()
     certificate(folder)
     (folder / "dss.pem").write_bytes((folder / "dss.crt").read_bytes() + (folder / "dss.key").read_bytes())
-    text = (TOP / "deploy" / "haproxy.cfg").read_text()
-    for old, new in (("bind :443", f"bind 127.0.0.1:{port}"), ("/etc/haproxy/", f"{folder}/"), ("log /dev/log", f"log {folder}/log"),
-                     ("server dss 127.0.0.1:8080", f"server dss 127.0.0.1:{behind}"), (" check port 8078 ", f" check port {admin} ")):
+    for old, new in (("bind :443", f"bind 127.0.0.1:{port}"), ("/etc/haproxy/", f"{folder}/"), ("log /dev/log", f"log {folder}/log"), *changes):
         assert old in text, old
         text = text.replace(old, new)
     (folder / "haproxy.cfg").write_text(text)

@@ -16,11 +16,13 @@ import clients
 import flaws
 import flows
 import hostile
+import issuer_keys
 import map_page
 import map_warns
 import mapping
 import maps
 import packaged
+import pools
 import properties
 import proxies
 import walk
@@ -28,6 +30,8 @@ import world
 
 # Expensive cases, which run over the plain program.
 PLAIN = [flows.drawn_outlines_meet, hostile.hard_outlines_are_answered_soon, *bounds.PLAIN]
+
+MODULES = (bounds, flows, hostile, issuer_keys, map_page, map_warns, mapping, maps, pools, walk)
 
 
 def run(name, case):
@@ -65,13 +69,13 @@ def run_named(name, built, sanitized):
     for case in (*proxies.ALL, *clients.ALL, *packaged.ALL):
         if case.__name__ == name:
             return [run(name, lambda: over_files(lambda files, _: case(files, built), plain))]
-    case = next(it for module in (bounds, flows, hostile, map_page, map_warns, mapping, maps, walk) for it in module.ALL if it.__name__ == name)
+    case = next(it for module in MODULES for it in module.ALL if it.__name__ == name)
     return [run(name, lambda: over_files(case, plain if case in PLAIN else tried))]
 
 
 def main(built, sanitized, *names):
     known = ["points_inside_are_covered", "flaws", "slow_clients_keep_nobody_out", "a_service_that_is_not_there", "any_body_is_answered_with_sanitizers"]
-    known += [it.__name__ for module in (bounds, proxies, clients, packaged, hostile, maps, map_page, map_warns, flows, walk, properties, mapping) for it in module.ALL if it.__name__ not in known]
+    known += [it.__name__ for module in (bounds, pools, proxies, clients, packaged, hostile, issuer_keys, maps, map_page, map_warns, flows, walk, properties, mapping) for it in module.ALL if it.__name__ not in known]
     counts = {"passed": 0, "failed": 0, "skipped": 0}
     with concurrent.futures.ProcessPoolExecutor(int(os.environ.get("JOBS") or os.cpu_count())) as pool:
         asked = [pool.submit(run_named, it, built, sanitized) for it in names or known]

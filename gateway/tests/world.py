@@ -113,13 +113,14 @@ class Answer:
 class Gateway:
     """A gateway in front of the service on a port."""
 
-    def __init__(self, program, files, service, *options, path=None, prepare=None):
-        """Starts it on a port, or on a Unix socket at a path; `prepare` is called in its process before it begins."""
+    def __init__(self, program, files, service, *options, path=None, prepare=None, without=()):
+        """Starts it on a port, or on a Unix socket at a path, without some of the files; `prepare` is called in its process
+        before it begins."""
         self.port, self.log = free_port(), tempfile.TemporaryFile(mode="w+")
         self.files, self.service = files, service
         words = {"socket": path} if path else {"port": self.port}
         words |= {"service": service, "issuer": ISSUER, "audience": AUDIENCE}
-        words |= {name: files.folder / f for name, f in (("tokens", "tokens.toml"), ("keys", "keys.pem"), ("secret", "secret"))}
+        words |= {name: files.folder / f for name, f in (("tokens", "tokens.toml"), ("keys", "keys.pem"), ("secret", "secret")) if name not in without}
         self.words = [it for name, value in words.items() for it in (f"--{name}", str(value))] + list(options)
         self.words += [] if "--kept-connections" in options else ["--kept-connections", KEPT]
         self.process = started([program, "serve", *self.words], stderr=self.log, preexec_fn=prepare)

@@ -40,6 +40,8 @@ COMMANDS = "run", "serve", "begin", "follow", "report", "purge", "backup", "veri
 SLOW_STARTS = 12, 15e-6 * (4 << 30) / 600
 # Settings that protect files, memory and processes of either unit from others.
 KEPT = {"UMask=0077", "LimitCORE=0", "ProtectProc=invisible", "MemoryDenyWriteExecute=yes", "NoNewPrivileges=yes"}
+# The most exposure that systemd may find in a unit, in tenths, and the units that need more: a mount is for the whole machine.
+MOST_EXPOSED, OF_MACHINE = 20, {"dss-volume.service"}
 
 
 def paths(root):
@@ -145,6 +147,16 @@ def units(root):
         said = [it for it in (output + error).decode().splitlines() if "dss" in it]
         found += difference(f"systemd-analyze, {names}", (status, said), (0, []))
     shutil.rmtree(folder)
+    return found + exposed()
+
+
+def exposed():
+    """Returns the units that systemd finds more exposed than the service, if it can tell without running them."""
+    found = []
+    for file in sorted((TOP / "deploy").rglob("*.service")):
+        status, _, error = run(["systemd-analyze", "security", "--offline=yes", f"--threshold={MOST_EXPOSED}", "--no-pager", str(file)])
+        is_told = b"unrecognized option" not in error and file.name not in OF_MACHINE
+        found += [f"systemd-analyze security: {file.name} is exposed"] if status and is_told else []
     return found
 
 

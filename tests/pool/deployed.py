@@ -1,10 +1,11 @@
-"""Cases of the files of deploy/pool: certificates and users over real members, the proxy over two instances, alerts, and the unit.
+"""Cases of the files of deploy/pool: certificates and users over real members, the proxy over two instances, and alerts.
 
 And a case of planted faults, which the judgement of the rounds rejects."""
 import contextlib
 import http.client
 import json
 import pathlib
+import secrets
 import shlex
 import shutil
 import signal
@@ -12,7 +13,6 @@ import ssl
 import subprocess
 import tempfile
 import time
-import urllib.request
 
 import conforms
 import drawn_calls
@@ -20,14 +20,14 @@ import history
 import wire
 from cases import get, put
 from doors import PROGRAM, Exchange
-from file_cases import COMPACTED
+from file_cases import COMPACTED, copy_file
 from machines import Failed, command, connect, until
 from pool import Skipped
-from ports import free_port
 from program import TOP
 from sites import ADMIN_PORT, BACK, DEPLOY, ETCD_PORT, NAMES, PORT, READ, code, kill, stop
 
 SECOND, SECOND_PORT, SECOND_ADMIN = "a2", 8180, 8178
+ETCD_METRICS_PORT = 2381
 UNREACHABLE, UNKNOWN = ((503, f'{{"message":"{it}"}}') for it in ("unreachable", "unknown"))
 NO_SERVICE = (503, '{"message":"proxy: the service is not available; nothing was sent"}')
 
@@ -367,15 +367,22 @@ def revision_of(site):
     return next(int(it.split()[1]) for it in asked(site, ADMIN_PORT, "/metrics").splitlines() if it.startswith("dss_pool_revision "))
 
 
-def block_of(words):
-    """Returns the commands behind these words of docs/POOL_OPERATE.md."""
-    lines, indent = [], 7 * " "
+def blocks_of(words, indent=4):
+    """Returns the blocks of commands behind these words of docs/POOL_OPERATE.md, up to the next text."""
+    found = [[]]
     for line in (TOP / "docs" / "POOL_OPERATE.md").read_text().partition(words)[2].splitlines()[1:]:
-        if line.startswith(indent):
-            lines.append(line.removeprefix(indent))
-        elif lines:
+        if line.startswith(indent * " "):
+            found[-1].append(line[indent:])
+        elif line and found != [[]]:
             break
-    return "\n".join(lines)
+        elif found[-1]:
+            found.append([])
+    return ["\n".join(it) for it in found if it]
+
+
+def block_of(words, indent=7):
+    """Returns the first one."""
+    return blocks_of(words, indent)[0]
 
 
 def runs(site, folder, script):
@@ -405,14 +412,15 @@ def same_members(sites):
 
 
 def restore_members(sites, log, *more):
-    """Stops all members, and restores each of them from the same file. No instance runs meanwhile."""
+    """Stops all members, and restores each of them from the same file, as a cluster with a new token. No instance runs meanwhile."""
+    token = f"dss-pool-{secrets.token_hex(8)}"
     for it in sites.sites:
         stop(it.member)
         shutil.rmtree(it.own / "dss", ignore_errors=True)
         settings = it.settings()
         words = ["--name", it.name, "--initial-cluster", settings["ETCD_INITIAL_CLUSTER"], "--data-dir", settings["ETCD_DATA_DIR"]]
         words += ["--initial-advertise-peer-urls", settings["ETCD_INITIAL_ADVERTISE_PEER_URLS"]]
-        words += ["--initial-cluster-token", settings["ETCD_INITIAL_CLUSTER_TOKEN"]]
+        words += ["--initial-cluster-token", token]
         command("env", "ETCDCTL_API=3", "etcdctl", "snapshot", "restore", log, *words, *more)
     for it in sites.sites:
         it.start_member()
@@ -462,11 +470,15 @@ def starts_from(site, folder):
         kill(second)
 
 
+def newest_of(site):
+    return max((site.own / "files").glob("*-*.db"))
+
+
 def takes_newest(site, other):
     """An organization whose files are too old removes them, and takes the newest one of another organization."""
-    for old in (site.own / "files").glob("*-*.db"):
+    for old in (site.own / "files").glob("*-*.*"):
         old.unlink()
-    shutil.copy(max((other.own / "files").glob("*-*.db")), site.own / "files")
+    copy_file(newest_of(other), site.own / "files")
 
 
 def files(sites):
@@ -498,7 +510,7 @@ def files(sites):
     # a file of another organization
     copied = site.own / "copied"
     copied.mkdir()
-    shutil.copy(max((other.own / "files").glob("*-*.db")), copied)
+    copy_file(newest_of(other), copied)
     starts_from(site, copied)
     # values that are no marks
     wrong = {"nonsense": "nonsense is no mark", "1": "1 is no mark", "900000000 1": "etcd has not reached revision 900000000"}
@@ -536,20 +548,20 @@ def restored_files(sites):
     site, backup = sites.sites[0], sites.room / "files.db"
     if not (site.own / "files").exists():
         files(sites)
-    file = sites.room / max((site.own / "files").glob("*-*.db")).name
-    shutil.copy(site.own / "files" / file.name, file)
+    file = sites.room / newest_of(site).name
+    copy_file(newest_of(site), sites.room)
     until(lambda: asks(site, put(6_030))[0] == 201, "a change before the backup", BACK)
     control(sites, "snapshot", "save", backup)
     until(lambda: asks(site, put(6_031))[0] == 201, "a change after the backup", BACK)
     late = marks(sites, site)[-1]
-    shutil.copy(site.own / "files" / late, sites.room)
+    copy_file(site.own / "files" / late, sites.room)
     stop_instances(sites)
     restore_members(sites, backup)
     for it in sites.sites:
         for old in (it.own / "files").iterdir():
             old.unlink()
     # a file of a later time is refused while the log is shorter
-    shutil.copy(sites.room / late, site.own / "files")
+    copy_file(sites.room / late, site.own / "files")
     site.start_instance("--files", site.own / "files")
     same(3, site.instance.wait(BACK), "the status of an instance with a later file")
     same(
@@ -557,9 +569,10 @@ def restored_files(sites):
         site.said(1)[0],
         "what it said",
     )
-    (site.own / "files" / late).unlink()
+    for it in (site.own / "files").glob("*-*.*"):
+        it.unlink()
     for it in sites.sites:
-        shutil.copy(file, it.own / "files")
+        copy_file(file, it.own / "files")
         it.start_instance("--files", it.own / "files")
     all_read(sites.sites, 6_030)
     all_read(sites.sites, 6_022)
@@ -582,6 +595,8 @@ def left(sites):
 
 # ---- the alerts
 
+# How the metrics of node_exporter begin, with those that node-metrics writes for it.
+OF_NODE = "node_", "dss_pool_files_", "dss_pool_certificate_", "dss_pool_port_"
 FAILED_UNIT = 'node_systemd_unit_state{name="dss-follow@a0.service",state="failed"}'
 TIMER = 'node_systemd_unit_state{{name="dss-{}@a0.timer",state="active"}}'
 # For each alert: the series that fire it, and those that do not, in promtool's notation; and the labels of the series that it has.
@@ -589,6 +604,7 @@ ALERTS = {
     "DssPoolLogSilent": ({"dss_pool_silence_seconds": "0x35 11x5"}, {"dss_pool_silence_seconds": "11x20 10x20"}),
     "DssPoolInstanceStopped": ({'up{job="dss"}': "1x35 0x5"}, {'up{job="dss"}': "0x20 1x20"}, {"job": "dss"}),
     "DssPoolLogShortened": ({"dss_pool_revision": "9x30 8x10"}, {"dss_pool_revision": "9x20 9+1x20"}),
+    "DssPoolDiffers": ({"dss_pool_organizations_differing": "0x35 1x5"}, {"dss_pool_organizations_differing": "1x20 0x20"}),
     "DssPoolNoLeader": ({"etcd_server_has_leader": "1x35 0x5"}, {"etcd_server_has_leader": "0x20 1x20"}),
     "DssPoolNearlyFull": (
         {"etcd_mvcc_db_total_size_in_bytes": "76x40", "etcd_server_quota_backend_bytes": "100x40"},
@@ -603,9 +619,13 @@ ALERTS = {
         {"dss_pool_batches_open": "1x40", "dss_pool_entries_total": "0+9x40"},
     ),
     "DssPoolRequestsWaiting": ({"dss_pool_requests_waiting": "101x40"}, {"dss_pool_requests_waiting": "101x38 100 101"}),
+    "DssPoolUnavailable": (
+        {'dss_requests_total{status="503"}': "0+2x40", 'dss_requests_total{status="200"}': "0+8x40"},
+        {'dss_requests_total{status="503"}': "0+1x40", 'dss_requests_total{status="200"}': "0+19x40"},
+    ),
     "DssPoolBehind": (
-        {'dss_pool_revision{instance="a"}': "2000x40", 'dss_pool_revision{instance="b"}': "999x40"},
-        {'dss_pool_revision{instance="a"}': "2000x40", 'dss_pool_revision{instance="b"}': "1000x40"},
+        {"dss_pool_revision": "1700x40", "etcd_debugging_mvcc_current_revision": "1600+30x40"},
+        {"dss_pool_revision": "100x40", "etcd_debugging_mvcc_current_revision": "1600+15x40"},
     ),
     "DssPoolManyLeaders": (
         {"etcd_server_leader_changes_seen_total": "0x30 1+1x10"}, {"etcd_server_leader_changes_seen_total": "0x38 3x2"},
@@ -617,6 +637,12 @@ ALERTS = {
         {"node_timex_sync_status": "0x40", "node_timex_maxerror_seconds": "16x40"},
         {"node_timex_sync_status": "0x20 1x20", "node_timex_maxerror_seconds": "16x40"},
     ),
+    "DssPoolFilesOld": ({"dss_pool_files_time_seconds": "299x40"}, {"dss_pool_files_time_seconds": "0x20 600x20"}),
+    "DssPoolCertificateEnds": (
+        {'dss_pool_certificate_end_seconds{file="a.crt"}': "2594399x40"}, {'dss_pool_certificate_end_seconds{file="a.crt"}': "2594400x40"},
+        {"file": "a.crt"},
+    ),
+    "DssPoolPortOpen": ({"dss_pool_port_open": "1x40"}, {"dss_pool_port_open": "1x20 0x20"}),
     "DssPoolUnitFailed": (
         {FAILED_UNIT: "1x20 0 1x4 0 1x14"}, {FAILED_UNIT: "1x20 0x20"}, {"name": "dss-follow@a0.service"},
     ),
@@ -643,7 +669,8 @@ def alerts(_sites):
     for rule in rules:
         fires, rests, *labels = ALERTS[rule["alert"]]
         for series in fires, rests:
-            has = {"exp_labels": rule["labels"] | dict(*labels), "exp_annotations": rule["annotations"]}
+            text = rule["annotations"]["summary"].replace("{{ $labels.file }}", "a.crt")
+            has = {"exp_labels": rule["labels"] | dict(*labels), "exp_annotations": {"summary": text}}
             fired = [has] if series is fires else []
             minutes = 800 if rule["alert"] == "DssPoolFullSoon" else 40
             asked = {"eval_time": f"{minutes}m", "alertname": rule["alert"], "exp_alerts": fired}
@@ -662,60 +689,12 @@ def alerts(_sites):
 def metrics(sites):
     """The instances and etcd have the metrics of the alerts."""
     site = sites.sites[0]
-    had = {it.split("{")[0].split()[0] for port in (ADMIN_PORT, ETCD_PORT) for it in asked(site, port, "/metrics").splitlines() if it}
+    had = {it.split("{")[0].split()[0] for port in (ADMIN_PORT, ETCD_METRICS_PORT) for it in asked(site, port, "/metrics").splitlines() if it}
     named = {it for series in ALERTS.values() for it in (name.split("{")[0] for name in series[0])}
-    # Prometheus makes the first one itself. An instance has the second one once it was given a call of another organization. node_exporter
-    # has the others.
-    others = {"up", "dss_pool_heard_time_seconds"}
-    same([], sorted(it for it in named - had - others if not it.startswith("node_")), "metrics that nothing has")
-
-
-def node_metrics(_sites):
-    """Debian's node_exporter has the metrics of the alerts, except that of units, for which it needs systemd."""
-    program = shutil.which("prometheus-node-exporter")
-    if not program:
-        raise Skipped("the package prometheus-node-exporter is missing")
-    listening = f"127.0.0.1:{free_port()}"
-    process = subprocess.Popen([program, f"--web.listen-address={listening}"], stdout=subprocess.DEVNULL, stderr=subprocess.DEVNULL)
-    try:
-        text = until(lambda: page_of(listening), "node_exporter answers", BACK)
-    finally:
-        kill(process)
-    had = {it.split("{")[0].split()[0] for it in text.splitlines() if it}
-    named = {name.split("{")[0] for series in ALERTS.values() for name in series[0] if name.startswith("node_")}
-    same(["node_systemd_unit_state"], sorted(named - had | {"node_systemd_unit_state"}), "metrics that node_exporter lacks")
-
-
-def page_of(address):
-    with contextlib.suppress(OSError):
-        return urllib.request.urlopen(f"http://{address}/metrics", timeout=BACK).read().decode()
-    return ""
-
-
-def unit(_sites):
-    """systemd reads the units."""
-    if not shutil.which("systemd-analyze"):
-        raise Skipped("systemd-analyze is missing")
-    with tempfile.TemporaryDirectory() as room:
-        folder = pathlib.Path(room)
-        text = (DEPLOY / "dss-pool@.service").read_text().replace("/usr/bin/dss ", "/bin/true ")
-        (folder / "dss-pool@a1.service").write_text(text)
-        shutil.copy(TOP / "deploy" / "dss-failure@.service", folder)
-        units, packaged = [folder / "dss-pool@a1.service"], pathlib.Path("/lib/systemd/system/etcd.service")
-        for name, script in ("dss-follow", "mark"), ("dss-compact", "compact"):
-            text = (DEPLOY / f"{name}@.service").read_text()
-            same(1, text.count(f"ExecStart=/usr/local/lib/dss/{script} %i\n"), "the script of the unit")
-            (folder / f"{name}@.service").write_text(text.replace(f"/usr/local/lib/dss/{script}", "/bin/true"))
-            shutil.copy(DEPLOY / f"{name}@.timer", folder)
-            for kind in "service", "timer":
-                (folder / f"{name}@a0.{kind}").symlink_to(f"{name}@.{kind}")
-                units.append(folder / f"{name}@a0.{kind}")
-        if packaged.exists():
-            units.append(folder / "etcd.service")
-            shutil.copy(packaged, folder)
-            shutil.copytree(DEPLOY / "etcd.service.d", folder / "etcd.service.d")
-        done = subprocess.run(["systemd-analyze", "verify", "--man=no", *map(str, units)], capture_output=True, text=True)
-        same([], [it for it in (done.stdout + done.stderr).splitlines() if "dss" in it or "etcd" in it], "systemd-analyze")
+    # Prometheus makes the first one itself. An instance has the others once it was given a call of another organization, and a request.
+    # node_exporter has the rest.
+    others = {"up", "dss_pool_heard_time_seconds", "dss_requests_total"}
+    same([], sorted(it for it in named - had - others if not it.startswith(OF_NODE)), "metrics that nothing has")
 
 
 # ---- the judgement of the rounds
@@ -730,7 +709,7 @@ def planted(_sites):
         changes.append(history.numbered(("PUT", path, "Bearer tok-v", body), number))
 
     def entry(*calls):
-        text = b"7\ndss-batch 1\n"
+        text = b"7 0 %s\ndss-batch 1\n" % (64 * b"0")
         for method, target, _, body in calls:
             parts = (b"3:PUT", f"{len(target)}:{target}".encode(), f"{len(body)}:".encode() + body)
             text += b"1790000000 5:uss-v ----a " + b" ".join(parts) + b"\n"

@@ -38,6 +38,22 @@ def names(folder):
     return sorted(it.name for it in folder.iterdir() if NAME.fullmatch(it.name))
 
 
+def chain_of(name):
+    """Returns the name of the chain of a file."""
+    return f"{name.removesuffix('.db')}.chain"
+
+
+def with_chains(*files):
+    """Returns the names of files and of their chains. The first file of a pool has none."""
+    return {*files, *(chain_of(it) for it in files if int(it[:20]))}
+
+
+def copy_file(file, folder):
+    """Copies a file of a pool to a directory, its chain first."""
+    for it in file.with_suffix(".chain"), file:
+        shutil.copy(it, folder)
+
+
 def followed(pool, folder):
     """Runs `dss follow`. Returns the name that it prints, which is that of the newest file."""
     status, printed, errors = pool.follow(folder, TOKENS)
@@ -45,7 +61,7 @@ def followed(pool, folder):
     assert NAME.fullmatch(printed.removesuffix("\n")), printed
     kept = names(folder)
     assert kept[-1] == printed.removesuffix("\n") and len(kept) <= 2, (kept, printed)
-    assert {it.name for it in folder.iterdir() if not it.name.endswith("-wal")} - {"turn"} == {"lock", *kept}
+    assert {it.name for it in folder.iterdir() if not it.name.endswith("-wal")} - {"turn"} == {"lock", *with_chains(*kept)}
     return kept[-1]
 
 
@@ -168,7 +184,7 @@ def compacted(pool):
     pool.doors.pop()
     judge.calls(100)
     # the older file is the last one that is of use
-    shutil.copy(folder / first, old)
+    copy_file(folder / first, old)
     pool.add("older", TOKENS, options=("--files", old))
     pool.ready()
     judge.mark_all()
@@ -210,14 +226,20 @@ def refused(pool):
     with open(folder / "lock", "w") as lock:
         fcntl.flock(lock, fcntl.LOCK_EX)
         assert pool.follow(folder, TOKENS) == (1, "", f"{BUSY}\n")
+    # the settings are compared before the chain is read
+    chain = folder / chain_of(second)
+    chain.rename(folder / "moved")
+    assert serve(folder, salt="another") == (1, [SETTINGS])
+    assert pool.follow(folder, TOKENS, salt="another") == (1, "", f"{SETTINGS}\n")
+    (folder / "moved").rename(chain)
     # what a stopped process left, and files of others
-    for name in "next.db", "next.db-wal", "next.db.begun", "other.db", f"{first}.copy":
+    for name in "next.db", "next.db-wal", "next.db.begun", "next.chain", "other.db", f"{first}.copy":
         (folder / name).write_bytes(b"x" * 9_000)
     create(pool.doors[0], put(92))
     status, printed, errors = pool.follow(folder, TOKENS)
     third = printed.removesuffix("\n")
     assert (status, errors) == (0, "") and names(folder) == [second, third] and third > second, (status, printed, errors)
-    assert sorted(it.name for it in folder.iterdir()) == sorted(["lock", "turn", "other.db", f"{first}.copy", second, third])
+    assert {it.name for it in folder.iterdir()} == {"lock", "turn", "other.db", f"{first}.copy"} | with_chains(second, third)
     two = [pool.add(f"late-{it}", TOKENS, options=("--files", folder)) for it in range(2)]
     pool.ready(two)
     # a damaged file: the one before is of use
@@ -257,6 +279,7 @@ def without_airspace(pool):
     create(pool.doors[0], put(97))
     second = followed(pool, folder)
     file = folder / f"{int(second[:20]) + 1:020}{second[20:]}"
+    shutil.copy(folder / chain_of(second), folder / chain_of(file.name))
     content = lambda: file.read_bytes() if file.is_file() else None
     for name, make in WITHOUT_AIRSPACE.items():
         make(file)
@@ -344,7 +367,8 @@ def full_disk(pool):
         assert (status, printed) == (1, ""), (bytes_per_file, status, printed)
         assert errors.startswith((f"{UNUSABLE}\n", "dss: db: fault")), (bytes_per_file, errors)
         assert names(folder) == [first, second]
-        assert {it.name for it in folder.iterdir()} == {"lock", first, second}, (bytes_per_file, errors, sorted(it.name for it in folder.iterdir()))
+        found = {it.name for it in folder.iterdir()}
+        assert found == {"lock"} | with_chains(first, second), (bytes_per_file, errors, sorted(found))
     third = followed(pool, folder)
     assert names(folder) == [second, third]
     started(pool, "late", folder)
@@ -367,6 +391,10 @@ def killed(pool):
         after = names(folder)
         assert before[-1] in after, (before, after)
     assert killer.killed, "none was killed"
+    # A run that is killed between its two renames leaves a chain without its file.
+    for chain in folder.glob("*.chain"):
+        if not chain.with_suffix(".db").exists():
+            chain.unlink()
     assert followed(pool, folder) > newest
     started(pool, "late", folder)
     judge.calls(100)
@@ -385,7 +413,7 @@ def silent_log(pool):
     took = time.monotonic() - began
     assert (status, printed, errors.splitlines()[-1]) == (1, "", SILENT), (status, printed, errors)
     assert 25 < took < 60, took
-    assert {it.name for it in folder.iterdir()} == {"lock", first}
+    assert {it.name for it in folder.iterdir()} == {"lock"} | with_chains(first)
     for it in (0, 1):
         pool.cluster.go_on(it)
     pool.cluster.await_leader()

@@ -1,22 +1,21 @@
 """Cases of deploy/pool/make-users over a member of etcd, and of deploy/pool/setup on three machines, with failures at their steps."""
-import json
 import os
 import pathlib
 import re
 import shutil
 import subprocess
 import tempfile
-import time
 
+import day_cases
 import drawn_calls
 import setup_machines
 import sites
 import wire
-from deployed import same
+from deployed import blocks_of, same
 from machines import Failed, until
 from pool import Skipped
 from real_etcd import PATIENT, Cluster
-from setup_machines import SETUP, Machines, targets_of
+from setup_machines import SETUP, Machines, flight, targets_of, wants
 from sites import DEPLOY, PORT
 
 # Fails in place of the call of etcdctl with these words, or behind it: then etcd has made what the caller takes for failed.
@@ -102,14 +101,6 @@ WRONG_TABLES = {
 }
 
 
-def wants(got, status, *texts):
-    """Fails if a run has another status, or lacks one of the texts."""
-    if "SHOW_TRACES" in os.environ:
-        print(time.strftime("%T"), *got, sep="\n", flush=True)
-    if got[0] != status or not all(it in got[1] for it in texts):
-        raise Failed(f"wanted {status} and {texts}, got {got[0]}: {got[1]}")
-
-
 def lacks():
     """Returns what is left without Prometheus."""
     return [] if shutil.which("promtool") else ["left: no alert is loaded"]
@@ -120,7 +111,7 @@ def set_up(_sites):
     if why := sites.lacking() or sites.install(("haproxy",)) or setup_machines.lacking():
         raise Skipped(why)
     with Machines() as room:
-        for step in certificates, members, authentication, instances, flights, unchanged, below_root, lost_member:
+        for step in (*STEPS, *day_cases.STEPS, lost_member):
             step(room)
 
 
@@ -193,22 +184,28 @@ def instances(room):
     b.fails_once("haproxy", "-c")
     wants(room.organize(b), 1, "/etc/haproxy/haproxy.cfg: planted")
     for got in room.organize_all():
-        wants(got, 2 if lacks() else 0, "ok: HAProxy", ON, *lacks())
+        wants(got, room.done, "ok: HAProxy", ON, *lacks())
     same([4, 2], [it.text("/etc/haproxy/haproxy.cfg").count(" check port ") for it in (room.all[0], b)], "the servers of the proxy")
     same("# of the package\n", b.text("/etc/haproxy/haproxy.cfg.before"), "the configuration before")
     if not lacks():
         same(['"127.0.0.1:8078", "127.0.0.1:8178"', '"127.0.0.1:8078"'], [targets_of(it) for it in (room.all[0], b)], "what Prometheus asks")
 
 
-def flight(token, number):
-    """Returns the words of a call that puts a flight. All are at one place."""
-    extent = {"cells": ["89c25904"], "altitude_lower": 0, "altitude_upper": 1200, "time_start": 4000000900, "time_end": 4000002000}
-    body = json.dumps({"extents": [extent], "state": "Accepted", "uss_base_url": "https://u.example"})
-    return token, "PUT", f"/dss/v1/operational_intent_references/00000000-0000-4000-8000-{number:012}", body
+def of_the_page(room):
+    """A flight is put, read, denied and deleted by the commands of the page."""
+    lines = blocks_of("**A flight.**")[0].splitlines()
+    made, calls = ([it for it in lines if it.startswith("call ") is it_calls] for it_calls in (False, True))
+    ovn, machines = "", {it.name: it for it in room.all}
+    for line in calls:
+        where, status = re.search(r"# at (\w).*: (\d+)$", line).groups()
+        said = machines[where].shell("\n".join(["token=tok-a", *made, line.replace("OVN", ovn)]))
+        same(status, said.split()[-1], f"{line}, which printed {said}")
+        ovn = ovn or re.search('"ovn":"([^"]+)"', said)[1]
 
 
 def flights(room):
     """A flight that is put at a is read at b. One that meets it is denied at c."""
+    of_the_page(room)
     a, b, c = room.all
     target = flight("tok-a", 1)[2]
     same(201, a.ask(PORT, *flight("tok-a", 1))[0], "a flight at a")
@@ -234,7 +231,7 @@ def unchanged(room):
     before = state_of(room)
     wants(room.keep(), 0, "all is done", ON)
     for got in room.organize_all():
-        wants(got, 2 if lacks() else 0, ON)
+        wants(got, room.done, ON)
     same(True, before == state_of(room), "nothing changes")
 
 
@@ -259,5 +256,8 @@ def lost_member(room):
     for words in ("remove", member), ("add", "c", f"--peer-urls=https://{c.address}:2380"):
         until(lambda: a.run("/", "etcdctl", "member", *words, **root)[0] == 0, f"member {words}")
     until(lambda: room.organize(c, "--join", WAIT="30")[0] != 1, "the member joins")
-    wants(room.organize(c), 2 if lacks() else 0, "ok: member c: a majority runs", "ok: instance c1: serving", ON)
+    wants(room.organize(c), room.done, "ok: member c: a majority runs", "ok: instance c1: serving", ON)
     same(200, c.ask(PORT, "tok-a", "GET", flight("tok-a", 1)[2])[0], "the flight at c")
+
+
+STEPS = certificates, members, authentication, instances, flights, unchanged, below_root

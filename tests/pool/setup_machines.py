@@ -4,12 +4,16 @@ A machine has the files of this one, and what it writes to them is in its own me
 All processes end with this one."""
 import contextlib
 import http.client
+import json
+import os
 import pathlib
 import re
 import shlex
 import shutil
+import string
 import subprocess
 import tempfile
+import time
 from concurrent.futures import ThreadPoolExecutor
 
 from doors import PROGRAM
@@ -62,7 +66,7 @@ def lacking():
     """Returns why no machines are possible here, or None."""
     try:
         with tempfile.TemporaryDirectory() as room:
-            script = 'mount -t tmpfs files "$1" && cd "$1" && mkdir up work && mount -t overlay overlay -o lowerdir=/etc,upperdir=up,workdir=work /etc'
+            script = 'mount -t tmpfs files "$1" && cd "$1" && mkdir up work && mount -t overlay overlay -o lowerdir=/etc,upperdir=up,workdir=work /etc && nft add table inet machine'
             command(*NAMESPACES, "bash", "-c", script, "bash", room)
     except OSError as error:
         return f"there are no machines: {error}"
@@ -73,7 +77,8 @@ class Machine(Network):
     """A machine of an organization."""
 
     def __init__(self, room, number, switch):
-        self.name, self.address, self.room, self.planted = NAMES[number], f"10.78.0.{number + 1}", room / f"machine-{NAMES[number]}", 0
+        self.name, self.address, self.planted = string.ascii_lowercase[number], f"10.78.0.{number + 1}", 0
+        self.room = room / f"machine-{self.name}"
         self.room.mkdir()
         words = [*NAMESPACES, "bash", "-c", MACHINE, "bash", self.room, pathlib.Path(PROGRAM).resolve(), TOP / "tests" / "pool" / "units.py"]
         with open(room / f"said-{self.name}", "wb") as said:
@@ -134,6 +139,8 @@ class Machines:
     def __enter__(self):
         self.room = pathlib.Path(tempfile.mkdtemp(prefix="dss-setup."))
         self.keeper, self.all, self.switch = self.room / "keeper", [], None
+        # The status of setup without Prometheus.
+        self.done = 0 if shutil.which("promtool") else 2
         self.keeper.mkdir()
         try:
             self.switch = Network()
@@ -154,13 +161,34 @@ class Machines:
     def folder(self, machine):
         return self.keeper / "a" if machine.name == "a" else self.room / machine.name
 
-    def keep(self, **given):
-        """Runs setup at the keeper, and carries the directories to the organizations."""
-        got = self.all[0].run(self.keeper, SETUP, "keeper", "pool.table", **given)
+    def carry(self):
+        """Carries the directories of the keeper to the organizations."""
         for it in self.all[1:]:
             if (self.keeper / it.name).exists():
                 shutil.copytree(self.keeper / it.name, self.folder(it), dirs_exist_ok=True)
+
+    def keep(self, **given):
+        """Runs setup at the keeper, and carries the directories to the organizations."""
+        got = self.all[0].run(self.keeper, SETUP, "keeper", "pool.table", **given)
+        self.carry()
         return got
+
+    def administer(self, script):
+        """Runs commands of a page in the directory of the keeper, and carries its directories. Returns what they print."""
+        given = {"PATH": f"{PATHS}:{DEPLOY}", "ETCDCTL_API": 3, "ETCDCTL_USER": (self.keeper / "root.user").read_text().strip()}
+        status, said = self.all[0].run("/", "bash", "-c", f"umask 077; set -e; cd {self.keeper}\n{script}", **given)
+        # setup ends with 2 if something is left to do.
+        if status not in (0, 2):
+            raise Failed(f"{script}: {status} {said}")
+        self.carry()
+        return said
+
+    def tries(self, script):
+        """Does the same. Returns None if it fails."""
+        try:
+            return self.administer(script)
+        except Failed:
+            return None
 
     def organize(self, machine, *more, **given):
         """Runs setup at an organization, and carries its request to the keeper."""
@@ -173,6 +201,21 @@ class Machines:
     def organize_all(self):
         with ThreadPoolExecutor() as at_once:
             return list(at_once.map(self.organize, self.all))
+
+
+def wants(got, status, *texts):
+    """Fails if a run has another status, or lacks one of the texts."""
+    if "SHOW_TRACES" in os.environ:
+        print(time.strftime("%T"), *got, sep="\n", flush=True)
+    if got[0] != status or not all(it in got[1] for it in texts):
+        raise Failed(f"wanted {status} and {texts}, got {got[0]}: {got[1]}")
+
+
+def flight(token, number, above=0):
+    """Returns the words of a call that puts a flight. All are at one place, some above it."""
+    extent = {"cells": ["89c25904"], "altitude_lower": above, "altitude_upper": above + 1200, "time_start": 4000000900, "time_end": 4000002000}
+    body = json.dumps({"extents": [extent], "state": "Accepted", "uss_base_url": "https://u.example"})
+    return token, "PUT", f"/dss/v1/operational_intent_references/00000000-0000-4000-8000-{number:012}", body
 
 
 def targets_of(machine):

@@ -26,7 +26,7 @@ DEPLOY = TOP / "deploy" / "pool"
 NAMES = ("a", "b", "c")
 INSTANCES = tuple(f"{it}1" for it in NAMES)
 PORT, ADMIN_PORT, ETCD_PORT = 8080, 8078, 2379
-PACKAGES = ("etcd-server", "etcd-client", "iproute2", "openssl", "gcc", "libc6-dev")
+PACKAGES = ("etcd-server", "etcd-client", "iproute2", "nftables", "openssl", "gcc", "libc6-dev")
 READ = ("GET", f"{wire.AVAILABILITY}/uss-n", "Bearer tok-v", None)
 # Seconds within which an instance answers, or a member, after nothing fails any more.
 BACK = 60
@@ -45,7 +45,7 @@ def lacking():
 
 def install(more=()):
     """Installs Debian's packages. Returns why that is impossible, or None."""
-    if all(map(shutil.which, ("etcd", "etcdctl", "ip", "openssl", "cc", *more))):
+    if all(map(shutil.which, ("etcd", "etcdctl", "ip", "nft", "openssl", "cc", *more))):
         return None
     for words in ("update",), ("install", "-y", "--no-install-recommends", *PACKAGES, *more):
         environment = {**os.environ, "DEBIAN_FRONTEND": "noninteractive"}

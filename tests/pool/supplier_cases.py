@@ -2,7 +2,6 @@
 import base64
 import json
 import pathlib
-import shutil
 import socket
 import subprocess
 import threading
@@ -14,7 +13,7 @@ import wire
 from begin_cases import begun, with_cluster
 from cases import READ, Judge, admin, intent_body, put, until
 from doors import Door, Exchange, Pool, Single
-from file_cases import COMPACTED, folder_of, followed, names, pages
+from file_cases import COMPACTED, copy_file, folder_of, followed, names, pages
 from history import HEADER, MARKS, SCOPES
 from ports import free_port
 from program import TOP
@@ -306,7 +305,7 @@ def behind_files(pool):
     announce(pool, a=["uss-a", "uss-d"], c=["uss-d"])
     created(a, 1)
     first = followed(pool, folder)
-    shutil.copy(folder / first, older)
+    copy_file(folder / first, older)
     created(a, 2), created(a, 3)
     second = followed(pool, folder)
     assert names(folder) == [first, second]

@@ -19,7 +19,10 @@ import time
 
 ROOM = pathlib.Path("/run/units")
 # These need systemd for their own commands.
-OTHERS = {"haproxy": "haproxy -db -f /etc/haproxy/haproxy.cfg", "prometheus": "sleep infinity"}
+OTHERS = {
+    "haproxy": "haproxy -db -f /etc/haproxy/haproxy.cfg", "prometheus": "setpriv --reuid=prometheus --regid=prometheus --clear-groups prometheus",
+    "prometheus-node-exporter": "prometheus-node-exporter",
+}
 
 
 def settings_of(unit):

@@ -3,7 +3,7 @@ import random
 
 from fake_etcd import REQUEST_FAULTS, WATCH_FAULTS, Fake, plain
 from instances import LIMIT, Instance
-from links import FIRST, VALUE, link_text, without_link
+from links import VALUE, link_text, without_link
 
 
 def same(wanted, got, what):
@@ -24,8 +24,13 @@ def offer_all(instance, fake, count=5, tag="t"):
     same(wanted, [without_link(it) for it in fake.entries() if b"\n" in it], "stored")
     for it in fake.entries():
         if b"\n" in it:
-            count = int(VALUE.fullmatch(it)["count"])
-            same(link_text(count, fake.digests[count]), it.split(b"\n")[0].split(b" ", 1)[1], "the link")
+            number = int(VALUE.fullmatch(it)["count"])
+            same(link_text(number, fake.digests[number]), it.split(b"\n")[0].split(b" ", 1)[1], "the link")
+
+
+def behind(fake, revision):
+    """What an instance is given that starts behind a revision: this, and the link of the changes up to there."""
+    return {"revision": revision, "link": fake.link(int(revision)).decode()}
 
 
 def batches_in_order():
@@ -268,9 +273,9 @@ def settings_behind_a_revision():
     one = Instance(fake.addresses(), "a")
     offer_all(one, fake, 1)
     revision = one.wait(100).split()[4]
-    other = Instance(fake.addresses(), "b", revision=revision, link=fake.link(int(revision)).decode(), count=1, salt="another")
+    other = Instance(fake.addresses(), "b", **behind(fake, revision), count=1, salt="another")
     other.until_fenced()
-    alike = Instance(fake.addresses(), "c", revision=revision, link=fake.link(int(revision)).decode(), count=1)
+    alike = Instance(fake.addresses(), "c", **behind(fake, revision), count=1)
     alike.until_lost()
     same([None, None, "settings"], [it.lost() for it in (one, other, alike)], "losses")
     one.close()
@@ -283,16 +288,16 @@ def known_settings():
     one = Instance(fake.addresses(), "a")
     offer_all(one, fake, 1)
     revision = one.wait(100).split()[4]
-    stranger = Instance(fake.addresses(), "b", revision=revision, link=fake.link(int(revision)).decode(), count=1, salt="another")
+    stranger = Instance(fake.addresses(), "b", **behind(fake, revision), count=1, salt="another")
     stranger.until_fenced()
     fences = len(fake.entries())
-    other = Instance(fake.addresses(), "c", revision=revision, link=fake.link(int(revision)).decode(), count=1, salt="another", pool=one.agreed)
+    other = Instance(fake.addresses(), "c", **behind(fake, revision), count=1, salt="another", pool=one.agreed)
     other.offer("never")
     other.say("end")
     same("settings", other.until_lost(), "the log with other settings")
     same([], [it for it in other.lines if it.startswith(("entry ", "end "))], "what it was given")
     same(fences, len(fake.entries()), "what it wrote")
-    alike = Instance(fake.addresses(), "d", revision=revision, link=fake.link(int(revision)).decode(), count=1, pool=one.agreed)
+    alike = Instance(fake.addresses(), "d", **behind(fake, revision), count=1, pool=one.agreed)
     alike.offer("y")
     alike.say("end")
     alike.settle()
@@ -350,26 +355,6 @@ def deleted_last():
         same(f"end {count} 2", ends_of(one)[-1], "the end")
     same(None, one.lost(), "the log")
     one.close()
-
-
-def deleted_lists():
-    """Without its key, the supplier list lets every organization act for every USS."""
-    fake = Fake()
-    one = Instance(fake.addresses(), "a")
-    offer_all(one, fake, 1)
-    fake.put_from_outside(LIST, GIVEN)
-    fake.put_from_outside(b"in/c", entry(100, "uss-x"))
-    fake.delete(LIST)
-    fake.put_from_outside(b"in/c", entry(101, "uss-x"))
-    revision = fake.revision
-    fake.put_from_outside(b"in/c", entry(102, "uss-x"))
-    two = Instance(fake.addresses(), "d", revision=revision, link=fake.link(int(revision)).decode(), count=2, pool=one.agreed)
-    for it, moments in ((one, [101, 102]), (two, [102])):
-        it.say("end")
-        it.settle()
-        same(moments, it.moments(), f"calls that {it.name} was given")
-        same(["end 1 3"], ends_of(it), "ends")
-        it.close()
 
 
 def nothing_after_a_loss():
@@ -449,7 +434,7 @@ def counts_behind_a_revision():
         make_changes(fake, b"in/w", "put")
         count = 4 + words.count("put") + 1 - words.count("put*")
         fake.compact(revision)
-        two = Instance(fake.addresses(), "b", revision=revision, link=fake.link(int(revision)).decode(), count=4, pool=one.agreed)
+        two = Instance(fake.addresses(), "b", **behind(fake, revision), count=4, pool=one.agreed)
         two.say("end")
         if loss:
             same(loss, two.until_lost(), f"the log after {words}")
@@ -589,7 +574,7 @@ def starts_in_the_middle():
     one.settle()
     one.until(6)
     one.close()
-    two = Instance(fake.addresses(), "b", revision=revision, link=fake.link(int(revision)).decode(), count=3)
+    two = Instance(fake.addresses(), "b", **behind(fake, revision), count=3)
     two.say("end")
     two.settle()
     two.until(3)
@@ -618,230 +603,6 @@ def shortened_logs():
         fake.revision = 1
     one.say("end")
     same("shortened", one.until_lost(), "the log")
-
-
-LIST = b"in/@suppliers"
-
-
-def entry(moment, *suppliers, number=5):
-    """A value of the log: a batch with a call of each of these USSs, all with this moment."""
-    calls = "".join(f"{moment} {len(it)}:{it} s---- 3:GET 1:/ 0:\n" for it in suppliers)
-    return f"{number}\ndss-batch 1\n{calls}".encode()
-
-
-def put_all(put, pairs):
-    """Puts values under keys, in order. Returns the moments of those that count, each once for each of its calls."""
-    moments = []
-    for at, (key, suppliers, counts) in enumerate(pairs, 100):
-        put(key, entry(at, *suppliers))
-        moments += [at] * len(suppliers) if counts else []
-    return moments
-
-
-# Entries before a list, and those behind it. The list gives uss-x and uss-y to the organization z, and uss-y to b.
-BEFORE = ((b"in/z1", ["uss-w"], True), (b"in/b", ["uss-x", "uss-w"], True))
-GIVEN = b"z uss-x\nz uss-y\nb uss-y\n"
-BEHIND = (
-    (b"in/z1", ["uss-x"], True), (b"in/z22", ["uss-y", "uss-x"], True), (b"in/z", ["uss-y"], True), (b"in/b", ["uss-y"], True),
-    (b"in/z1", ["uss-w"], False), (b"in/z1", ["uss-x", "uss-w"], False), (b"in/z1", ["uss-w", "uss-x"], False),
-    (b"in/b", ["uss-x"], False), (b"in/b", ["uss-y", "uss-x", "uss-y"], False), (b"in/zz", ["uss-x"], False),
-    (b"in/z.", ["uss-x"], False), (b"in/c", ["uss-x"], False), (b"in/7", ["uss-y"], False), (b"in/b", ["uss-"], False),
-    (b"in/b", ["uss-y.b"], False), (b"in/z", ["uss-x", "uss-x"], True),
-)
-
-
-def past_lists(fake):
-    """Returns the revisions at which the list was read."""
-    return [str(body["revision"]) for kind, body in fake.requests if kind == "range" and "revision" in body and plain(body["key"]) == LIST]
-
-
-def supplier_lists():
-    """An entry that names a USS which the list at its place does not give to its writer is given to nobody, and is not counted."""
-    fake = Fake()
-    one = Instance(fake.addresses(), "a")
-    offer_all(one, fake, 1)
-    wanted = put_all(fake.put_from_outside, BEFORE)
-    fake.put_from_outside(LIST, GIVEN)
-    wanted += put_all(fake.put_from_outside, BEHIND)
-    # a purge names no USS, and neither do bytes that are no entry
-    for it in (b"5\ndss-purge 1\n1790000000\n", b"5\nx"):
-        fake.put_from_outside(b"in/c", it)
-    fake.put_from_outside(LIST, b"")
-    wanted += put_all(fake.put_from_outside, BEFORE)
-    one.say("end")
-    one.settle()
-    two = Instance(fake.addresses(), "d")
-    two.say("end")
-    two.settle()
-    for it in (one, two):
-        same(wanted, it.moments(), f"calls that {it.name} was given")
-        same(12, len(it.entries()), f"entries that {it.name} was given")
-        same(["end 1 12"], [line for line in it.lines if line.startswith("end ")], "ends")
-        same([], it.real_faults(), "faults")
-        it.close()
-    same([], past_lists(fake), "revisions at which the list was read")
-
-
-def behind_a_list(fake):
-    """A log with a list, a revision behind it, and a later list. Returns an instance, the revision and what counts behind it."""
-    one = Instance(fake.addresses(), "a")
-    offer_all(one, fake, 1)
-    fake.put_from_outside(LIST, b"q uss-q\n")
-    fake.put_from_outside(LIST, GIVEN)
-    fake.put_from_outside(b"in/b", b"5\nx")
-    one.until(2)
-    revision = one.wait(100).split()[4]
-    same(fake.revision, int(revision), "the revision")
-    wanted = put_all(fake.put_from_outside, BEHIND)
-    fake.put_from_outside(LIST, b"c uss-x\n")
-    for key, moment in ((b"in/c", 300), (b"in/z1", 301)):
-        fake.put_from_outside(key, entry(moment, "uss-x"))
-    return one, revision, [*wanted, 300]
-
-
-def lists_behind_a_revision():
-    """An instance that starts behind a revision reads the list there, also after a compaction up to it."""
-    fake = Fake()
-    one, revision, wanted = behind_a_list(fake)
-    for compacted in (0, int(revision)):
-        fake.compact(compacted)
-        two = Instance(fake.addresses(), f"d{compacted}", revision=revision, link=fake.link(int(revision)).decode(), count=2, pool=one.agreed)
-        two.say("end")
-        two.settle()
-        same(wanted, two.moments(), "calls behind the revision")
-        same(["end 1 8"], [it for it in two.lines if it.startswith("end ")], "ends")
-        same([], two.real_faults(), "faults")
-        two.close()
-    same({revision}, set(past_lists(fake)), "revisions at which the list was read")
-    one.close()
-
-
-def each_fault_of_a_list(fault):
-    """A list, or counts, that were not read are asked again. Meanwhile no entry is given."""
-    fake = Fake()
-    one, revision, wanted = behind_a_list(fake)
-    fake.plan("past", fault, fault, None, fault, fault)
-    two = Instance(fake.addresses(), "d", revision=revision, link=fake.link(int(revision)).decode(), count=2, pool=one.agreed)
-    two.say("end")
-    two.settle()
-    same(wanted, two.moments(), "calls behind the revision")
-    one.close()
-    two.close()
-
-
-def lists_that_are_gone():
-    """A list before the beginning of the history, or behind its end, ends an instance that starts there."""
-    fake = Fake()
-    one, revision, _ = behind_a_list(fake)
-    fake.compact(int(revision) + 1)
-    early = Instance(fake.addresses(), "d", revision=revision, link=fake.link(int(revision)).decode(), count=2, pool=one.agreed)
-    same("compacted", early.until_lost(), "the log of one that begins too early")
-    late = Instance(fake.addresses(), "e", revision=str(fake.revision + 1_000), count=2, pool=one.agreed)
-    same("shortened", late.until_lost(), "the log of one that begins too late")
-    for it in (early, late):
-        same([], [line for line in it.lines if line.startswith(("entry ", "end "))], "what it was given")
-    one.close()
-
-
-def own_entries_that_do_not_count():
-    """An instance whose own entry names a USS that the list does not give to it ends. The next one of its name goes on."""
-    fake = Fake()
-    one = Instance(fake.addresses(), "a1")
-    offer_all(one, fake, 1)
-    fake.put_from_outside(LIST, GIVEN)
-    fake.put_from_outside(b"in/a1", entry(400, "uss-x", number=one.number))
-    one.say("end")
-    same("suppliers", one.until_lost(), "the log")
-    same("ended 3", one.lines[-1], "its status")
-    same([], one.moments(), "calls that it was given")
-    two = Instance(fake.addresses(), "a1")
-    two.offer("next")
-    two.settle()
-    same(["t0", "next"], [it[1] for it in two.until(2)], "entries")
-    same(None, two.lost(), "the log of the next one")
-    two.close()
-
-
-def other_link(fake, count=None):
-    """A link with the count of all changes, or another one, and a digest that none has."""
-    return link_text(len(fake.at) if count is None else count, bytes(range(32)))
-
-
-def links_that_differ():
-    """An entry whose link is not that of the changes before it is given to nobody. Its instance is reported, once a minute."""
-    fake = Fake()
-    one = Instance(fake.addresses(), "a")
-    offer_all(one, fake, 1)
-    count = len(fake.at)
-    fake.put_from_outside(b"in/b1", b"5\nfirst", link=other_link(fake))
-    fake.put_from_outside(b"in/b1", b"5\nsecond", link=other_link(fake))
-    fake.put_from_outside(b"in/c", b"5\nthird", link=other_link(fake, count + 100))
-    fake.put_from_outside(b"in/d", b"5\nfourth")
-    # the link of no changes is that of every instance
-    fake.put_from_outside(b"in/e", b"5\nfifth", link=link_text(0, FIRST))
-    for it in (one, Instance(fake.addresses(), "f")):
-        it.say("end")
-        it.settle()
-        same(["t0", "fourth", "fifth"], [it[1] for it in it.until(3)], "entries")
-        same([("differs", "b1", str(count)), ("ahead", "c", str(count + 100))], it.differences(), "differences")
-        same(None, it.lost(), "the log")
-        it.close()
-
-
-def most_differ():
-    """An instance ends once more organizations differ than agree, with its own one."""
-    for agrees, loss in ((True, None), (False, "diverged")):
-        fake = Fake()
-        one = Instance(fake.addresses(), "a1")
-        offer_all(one, fake, 1)
-        # one organization counts once, and the own one does not count
-        for name in (b"in/b", b"in/b", b"in/b1", b"in/b2", b"in/a2", b"in/a3"):
-            fake.put_from_outside(name, b"5\nwrong", link=other_link(fake))
-        if agrees:
-            fake.put_from_outside(b"in/d", b"5\nright")
-        one.say("end")
-        one.settle()
-        same(None, one.lost(), "the log while one organization differs")
-        fake.put_from_outside(b"in/c", b"5\nwrong", link=other_link(fake))
-        if loss is None:
-            one.say("end")
-            one.settle()
-            same(["t0", "right"], one.texts(), "entries")
-            one.close()
-        else:
-            same(loss, one.until_lost(), "the log while two of three differ")
-
-
-def a_fork():
-    """Two stores that were one: the instances of each see that the other ones differ, once their entries meet."""
-    fake, other = Fake(), Fake()
-    for it in (fake, other):
-        it.put_from_outside(b"in/z", b"5\ncommon")
-    other.put_from_outside(b"in/y", b"5\nonly here")
-    one = Instance(fake.addresses(), "a")
-    one.say("end")
-    one.settle()
-    fake.put_from_outside(b"in/b", b"5\nbehind the fork", link=other.link())
-    one.say("end")
-    one.settle()
-    same([["common"], [("differs", "b", "2")]], [one.texts(), one.differences()], "entries and differences")
-    one.close()
-
-
-def links_of_silent_instances():
-    """An instance that writes nothing puts a link, a minute after the entry of another one."""
-    fake = Fake()
-    one = Instance(fake.addresses(), "a")
-    one.until_fenced()
-    before = len(fake.entries())
-    one.wait(62_000)
-    same(before, len(fake.entries()), "values without an entry of another instance")
-    fake.put_from_outside(b"in/b", b"5\nx")
-    one.wait(2_000)
-    links = [it for it in fake.entries() if (found := VALUE.fullmatch(it)) and found["rest"] is None]
-    same([f"{one.number} ".encode() + fake.link(fake.at[-2])], links, "links")
-    same(["x"], one.texts(), "entries")
-    one.close()
 
 
 def tokens():
@@ -933,19 +694,16 @@ def cases(seeds=6):
     """All cases, by name."""
     found = {it.__name__: it for it in (
         batches_in_order, bodies_of_requests, fences_that_are_lost, puts_that_come_late, two_processes_of_one_name, several_names,
-        ends_after_entries, other_keys, numbers_of_others, other_settings, settings_of_the_first_fence, settings_behind_a_revision, known_settings, deleted_keys, deleted_last, deleted_lists, nothing_after_a_loss, no_changes_left_out,
-        counts_behind_a_revision, no_end_before_the_fence, refused_puts, batches_that_end, batches_that_were_made, starts_in_the_middle,
-        removed_beginnings, shortened_logs, tokens,
-        endpoints_in_turn, long_batches, supplier_lists, lists_behind_a_revision, lists_that_are_gone, own_entries_that_do_not_count,
-        lines_in_pieces, silent_watches,
-        links_that_differ, most_differ, a_fork, links_of_silent_instances,
+        ends_after_entries, other_keys, numbers_of_others, other_settings, settings_of_the_first_fence, settings_behind_a_revision,
+        known_settings, deleted_keys, deleted_last, nothing_after_a_loss, no_changes_left_out, counts_behind_a_revision,
+        no_end_before_the_fence, refused_puts, batches_that_end, batches_that_were_made, starts_in_the_middle, removed_beginnings,
+        shortened_logs, tokens, endpoints_in_turn, long_batches, lines_in_pieces, silent_watches,
     )}
     for words in GAPS:
         found[f"gap: {words}"] = lambda words=words: changes_left_out(words)
     for fault in REQUEST_FAULTS:
         found[f"put: {fault}"] = lambda fault=fault: each_fault_of_a_put(fault)
         found[f"end: {fault}"] = lambda fault=fault: each_fault_of_an_end(fault)
-        found[f"list: {fault}"] = lambda fault=fault: each_fault_of_a_list(fault)
     for fault in WATCH_FAULTS:
         found[f"watch: {fault}"] = lambda fault=fault: each_fault_of_a_watch(fault)
     for shape in (None, "join", "chunks"):

@@ -7,9 +7,10 @@ import urllib.error
 import urllib.request
 
 from fake_etcd import Fake, coded, plain
+from fake_lists import BEFORE, BEHIND, GIVEN, LIST, entry, put_all
 from instances import LIMIT, Instance
 from links import FIRST, link_text, next_digest, with_link
-from over_fake import BEFORE, BEHIND, GIVEN, LIST, OPEN, entry, put_all, same, texts
+from over_fake import OPEN, same, texts
 from real_etcd import Cluster
 
 

@@ -1,5 +1,5 @@
-//! The cause of the fault that ends `serve`, as printed with `--verbose`. That of a refused file of a
-//! pool is printed in any case.
+//! The cause of the fault that ends `serve`, as printed with `--verbose`. That of a refused file of
+//! a pool is printed in any case.
 use dss_command::fault::Fault;
 use os::RangeLock;
 use space_sql_open::open_fault::OpenFault;

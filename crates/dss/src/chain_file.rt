@@ -1,8 +1,8 @@
-//! The chain of a pool's file: the digests over the changes of the log up to the revision of the file,
-//! and over fewer.
+//! The chain of a pool's file: the digests over the changes of the log up to the revision of the
+//! file, and over fewer.
 //!
-//! The first line has the numbers of changes of the first digest and of the last one. Each further line
-//! is a digest.
+//! The first line has the numbers of changes of the first digest and of the last one. Each further
+//! line is a digest.
 use crate::cause::Cause;
 use crate::pool_files::{FileName, PoolFiles};
 use dss_command::fault::{Fault, io_fault};
@@ -56,8 +56,8 @@ fn numbers_of(line: Option<&str>) -> Option<(u64, u64)> {
     }
 }
 
-// Returns the chain that a text is. It must keep all digests that links are compared with, so a text
-// that was cut is none.
+// Returns the chain that a text is. It must keep all digests that links are compared with, so a
+// text that was cut is none.
 fn parse(alloc: Global, text: &str) -> Result<Option<Chain>, AllocError> {
     let mut lines = text.lines();
     let Some((first, last)) = numbers_of(lines.next()) else {

@@ -1,5 +1,5 @@
-//! The times of the last change of a database. `serve` compares its clock with them at a start, so a
-//! command that only reads puts them back.
+//! The times of the last change of a database. `serve` compares its clock with them at a start, so
+//! a command that only reads puts them back.
 use dss_command::fault::Fault;
 use space_sql_open::open_fault::OpenFault;
 use std::fs::File;

@@ -1,6 +1,6 @@
 //! The file beside a database with the last time of the clock that `serve` trusted. It has the name
-//! of the database and `-clock`, and one line: the time, and the time to which the clock jumped since
-//! then, if it did. Both are in Unix seconds.
+//! of the database and `-clock`, and one line: the time, and the time to which the clock jumped
+//! since then, if it did. Both are in Unix seconds.
 use crate::copying::folder_of;
 use crate::regular::read_regular;
 use server_base::trusted_time::TrustedTime;
@@ -45,8 +45,8 @@ fn time_of(text: &str) -> Option<TrustedTime> {
     }
 }
 
-/// Reads the file. Returns `None` if there is none. A file that cannot be read, or has anything else,
-/// counts as the time 0.
+/// Reads the file. Returns `None` if there is none. A file that cannot be read, or has anything
+/// else, counts as the time 0.
 pub(crate) fn read_time(rt: &HostRuntime, database: &str) -> Option<TrustedTime> {
     let Ok(name) = name_of(rt, database) else {
         return Some(UNREADABLE);

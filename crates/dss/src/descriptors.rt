@@ -24,8 +24,8 @@ fn limit_in(text: &str) -> Option<usize> {
     None
 }
 
-/// Returns how many clients have a descriptor at once, at least 1. Returns `None` if the system sets
-/// no limit, or does not return it.
+/// Returns how many clients have a descriptor at once, at least 1. Returns `None` if the system
+/// sets no limit, or does not return it.
 pub(crate) fn max_clients(rt: &HostRuntime) -> Option<usize> {
     let Ok(text) = fs::read_to_string(rt, LIMITS) else {
         return None;

@@ -1,5 +1,6 @@
-//! New databases. Their pages have 1,024 bytes, since a commit writes whole pages: with the 4,096 that
-//! SQLite takes, the same change writes three times as many bytes. An existing database keeps its own.
+//! New databases. Their pages have 1,024 bytes, since a commit writes whole pages: with the 4,096
+//! that SQLite takes, the same change writes three times as many bytes. An existing database keeps
+//! its own.
 use crate::copying::{folder_of, is_free};
 use crate::private::{DATABASE, make_empty};
 use dss_command::fault::Fault;
@@ -11,10 +12,10 @@ use std::{fs, io};
 // The bytes of a page.
 const PAGE: u64 = 1_024;
 
-// The beginning of a database with one page and no table ("Database File Format" of SQLite, sections
-// 1.3 and 1.6): the mark, the bytes of a page, a log in place of a journal, the count of pages, the
-// formats of the schema and of texts, the version of SQLite, and the head of an empty leaf. All other
-// bytes are 0.
+// The beginning of a database with one page and no table ("Database File Format" of SQLite,
+// sections 1.3 and 1.6): the mark, the bytes of a page, a log in place of a journal, the count of
+// pages, the formats of the schema and of texts, the version of SQLite, and the head of an empty
+// leaf. All other bytes are 0.
 const BEGINNING: &[u8] = b"SQLite format 3\0\x04\0\x02\x02\0\x40\x20\x20\0\0\0\0\0\0\0\x01\
     \0\0\0\0\0\0\0\0\0\0\0\0\0\0\0\x04\0\0\0\0\0\0\0\0\0\0\0\x01\0\0\0\0\0\0\0\0\0\0\0\0\
     \0\0\0\0\0\0\0\0\0\0\0\0\0\0\0\0\0\0\0\0\0\0\0\0\0\x2e\x76\x88\x0d\0\0\0\0\x04\0\0";
@@ -63,8 +64,8 @@ fn make_small(rt: &HostRuntime, name: &str) -> io::Result<()> {
 }
 
 /// Makes a database without tables that only its owner can read and write, if nothing has that name
-/// and no log of it is there. Where the file system has no links, the file is empty, and SQLite makes
-/// its pages. SQLite gives the mode of the file to those that it makes beside it.
+/// and no log of it is there. Where the file system has no links, the file is empty, and SQLite
+/// makes its pages. SQLite gives the mode of the file to those that it makes beside it.
 pub(crate) fn make_database(rt: &HostRuntime, name: &str) -> Result<(), Fault> {
     if name == IN_MEMORY {
         return Ok(());

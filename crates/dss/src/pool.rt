@@ -180,8 +180,8 @@ fn serve_from<E: Write>(
     }
 }
 
-/// Runs the command, until the instance ends, the connections were counted and all are closed, or an
-/// operator stops it.
+/// Runs the command, until the instance ends, the connections were counted and all are closed, or
+/// an operator stops it.
 pub(crate) fn serve<F: Start, E: Write>(
     rt: &HostRuntime,
     given: PoolArgs<'_>,

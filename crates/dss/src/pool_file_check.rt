@@ -1,5 +1,5 @@
-//! The check of a file of a pool before it is opened as a database. Opening makes a missing file, and
-//! makes the tables of an empty airspace in a file without them.
+//! The check of a file of a pool before it is opened as a database. Opening makes a missing file,
+//! and makes the tables of an empty airspace in a file without them.
 use crate::cause::Cause;
 use crate::live::check;
 use crate::regular::check_regular;

@@ -1,7 +1,7 @@
-//! The directory of a pool's files. Each file is a database that has the calls and purges of the log
-//! up to a revision of etcd. Its name has this revision, the number of the pool's settings, and the number
-//! of the airspace at the beginning of the log, in 20 digits each. So a rename gives a database its
-//! place in the log.
+//! The directory of a pool's files. Each file is a database that has the calls and purges of the
+//! log up to a revision of etcd. Its name has this revision, the number of the pool's settings, and
+//! the number of the airspace at the beginning of the log, in 20 digits each. So a rename gives a
+//! database its place in the log.
 use crate::backup::copy_file;
 use crate::cause::Cause;
 use crate::pool_file_check::check_file;
@@ -46,8 +46,8 @@ fn number_of(text: &str) -> Option<u64> {
 /// The name of a file.
 #[derive(Clone, Copy, Debug, PartialEq, Eq)]
 pub(crate) struct FileName {
-    /// The revision of the last change whose calls and purges the file has. It is 0 before the first
-    /// one.
+    /// The revision of the last change whose calls and purges the file has. It is 0 before the
+    /// first one.
     pub(crate) revision: u64,
     /// The number of the pool's settings.
     pub(crate) settings: u64,

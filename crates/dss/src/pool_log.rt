@@ -79,8 +79,9 @@ pub(crate) struct LogArgs<'a> {
     pub(crate) agreed: u64,
 }
 
-// Returns the number of the pool's settings, if the file tells it. Behind revision 0 the first fence
-// of the log tells it, as if there were no file: the log may have begun with another airspace.
+// Returns the number of the pool's settings, if the file tells it. Behind revision 0 the first
+// fence of the log tells it, as if there were no file: the log may have begun with another
+// airspace.
 fn pool_settings(file: FileName) -> Option<u64> {
     match file.revision {
         0 => None,

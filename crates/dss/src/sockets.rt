@@ -24,7 +24,8 @@ const ADMIN_LISTENER: usize = 1_000_001;
 
 const ADMIN_CONNECTIONS: usize = 2_000_000;
 
-/// The tokens of the two connections to etcd. Their events end a wait, and are no events of sockets.
+/// The tokens of the two connections to etcd. Their events end a wait, and are no events of
+/// sockets.
 pub(crate) const LOG_REQUESTS: Token = Token(1_000_002);
 
 pub(crate) const LOG_WATCH: Token = Token(1_000_003);

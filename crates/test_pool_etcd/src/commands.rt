@@ -75,7 +75,7 @@ fn pool_at(words: &[String], index: usize) -> Option<Option<u64>> {
 // Returns the chain behind the link in two arguments, or that over no changes if there are none. It
 // keeps no earlier digests.
 fn chain_at(alloc: Global, words: &[String], index: usize) -> Result<Chain, AllocError> {
-    let (Some(count), Some(digest)) = (words.get(index), words.get(index + 1)) else {
+    let (Some(count), Some(digest)) = (words.get(index), words.get(index.saturating_add(1))) else {
         return Ok(Chain::new(alloc));
     };
     match (

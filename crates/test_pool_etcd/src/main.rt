@@ -2,10 +2,11 @@
 //!
 //! Arguments: the addresses of etcd, separated by commas, a name, a number, and optionally a revision,
 //! the count of entries up to there, the settings (a salt and the number of the policy), the number
-//! of the pool's settings or `-`, a user and a password. Commands, one a line: `offer TEXT`,
-//! `long BYTES` (offers a batch of so many bytes), `admits USS` (prints whether the instance may act
-//! for it), `end`, `wait MS` (goes on for that time), `settle MS` (goes on until no batch and no
-//! question is open, at most that time), `quit`.
+//! of the pool's settings or `-`, the count and the digest of the link at the revision or `- -`, a
+//! user and a password. Commands, one a line: `offer TEXT`, `long BYTES` (offers a batch of so many
+//! bytes), `admits USS` (prints whether the instance may act for it), `end`, `wait MS` (goes on for
+//! that time), `settle MS` (goes on until no batch and no question is open, at most that time),
+//! `quit`.
 #![tactic(auto)]
 
 mod commands;
@@ -18,7 +19,7 @@ use std::{env, io};
 
 // Printed if there are no arguments.
 const USAGE: &str = "usage: test_pool_etcd ADDRESSES NAME NUMBER \
-    [REVISION COUNT [SALT POLICY [POOL [USER PASSWORD]]]]";
+    [REVISION COUNT [SALT POLICY [POOL [CHANGES DIGEST [USER PASSWORD]]]]]";
 
 // The exit status once the log is lost, and the one for wrong arguments.
 const LOST: u8 = 3;

@@ -53,8 +53,9 @@ fn advance(
     match connection.next(alloc, routes, tokens) {
         Ok(NextStep::Request(next)) => {
             let reply = service.call(alloc, moment, next.call());
-            let texts =
-                connection.texts_for_reply(alloc, explaining, routes, &next, moment, &reply);
+            let texts = connection.texts_for_reply(
+                alloc, explaining, routes, &next, moment, &reply,
+            );
             connection.draft(alloc, next, texts, &reply).ok()
         }
         Ok(NextStep::Ended(_)) => Some(()),

@@ -1,6 +1,11 @@
+use Rattle.std.proofs.Common.{ap, inl}
 use Rattle.pool_server.specs.ServesClients.{clients_of}
 use Rattle.pool_server.proofs.Serves.{clients_added}
 use Rattle.pool_server.proofs.pool_server.PoolServer.insert.Goals as goal
+
+pub returns-in_default : goal.returns-in_default
+returns-in_default g c =
+    inl (ap (clients_of g.T.ClientSocket.name) c.in_default.ensures.err)
 
 pub returns : goal.returns
 returns g c =
