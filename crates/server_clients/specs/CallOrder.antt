@@ -133,7 +133,7 @@ ordered_of key table (event ∷ events) =
 module _ {B M T : Type 0} (b : backends.Ghosts B) (m : moments.Ghosts M) (t : sources.Ghosts T)
   where
     -- States that the requests of a client that the backend received are the first in the bytes of
-    -- the client, in order, each once, each by the caller of its token in the table that was active.
+    -- the client, in order, each once, each by the caller of its token in the active table.
     abbrev pub RequestsAreAskedInOrder : Type 0
     RequestsAreAskedInOrder = (setup : Setup) (events : List ServerEvent)
         (old new : ServerState B M T) (key name : ℕ) → FollowAll b m t setup events old new

@@ -125,9 +125,9 @@ StaysOpen key events = AllByRecursion (λ event. closes key event ≡ false) eve
 
 module _ {B M T : Type 0} (b : backends.Ghosts B) (m : moments.Ghosts M) (t : sources.Ghosts T)
   where
-    -- States that what was sent to a client, and what may be sent, is the texts of the outcomes that
-    -- the backend gave for its requests, in the order of the requests, each once. This holds from its
-    -- acceptance on, as long as it is not closed.
+    -- States that what was sent to a client, and what may be sent, is the texts of the outcomes
+    -- that the backend gave for its requests, in the order of the requests, each once. This holds
+    -- from its acceptance on, as long as it is not closed.
     abbrev pub EachClientIsServed : Type 0
     EachClientIsServed = (setup : Setup) (events : List ServerEvent) (old new : ServerState B M T)
         (key name : ℕ) → FollowAll b m t setup events old new

@@ -34,8 +34,8 @@ IsTextFor explaining slot None text =
 
 module _ {B M T : Type 0} (b : backends.Ghosts B) (m : moments.Ghosts M) (t : sources.Ghosts T)
   where
-    -- States that the text of the response to each request is that of the reply that the backend gave
-    -- to it, at once or by an outcome under its ticket.
+    -- States that the text of the response to each request is that of the reply that the backend
+    -- gave to it, at once or by an outcome under its ticket.
     abbrev pub TextsAreOfReplies : Type 0
     TextsAreOfReplies = (setup : Setup) (before after : List ServerEvent) (key name : ℕ)
         (asked : RequestCall) (made : Call) (received : Received) (texts : RequestTexts)

@@ -1,4 +1,4 @@
-use Rattle.server_clients.proofs.Sets.{clients_absent, clients_limited}
+use Rattle.server_clients.proofs.Sets.{clients_limited}
 use Rattle.server_clients.proofs.client_set.ClientSet.limit_to_one_request.Goals as goal
 
 pub returns-in-Some : goal.returns-in-Some
