@@ -16,9 +16,9 @@ TOP = pathlib.Path(__file__).resolve().parent.parent
 PATH = """
 serve::serve_clients
   event_loop::run_once
-    client_connection::turn
-      client_io::receive
-      client_io::ask
+    server_client::client_connection::turn
+      server_client::client_io::receive
+      server_client::client_io::ask
         next::next
           buffered::next_buffered
             rest::head_so_far
@@ -64,15 +64,15 @@ serve::serve_clients
               space_sql_write::batch::commit_batch
                 put::put_entity
                 notify::notify_all
-      client_connection::tell
+      server_client::client_connection::tell
         connection::release
-        client_io::send
+        server_client::client_io::send
 """
 # where a part of the path begins, and its title
 PARTS = {
     "serve::serve_clients": "All connections",
     "event_loop::run_once": "One iteration of the event loop",
-    "client_connection::turn": "The turn of a client",
+    "server_client::client_connection::turn": "The turn of a client",
     "next::next": "Its next request",
     "call::route": "The call of the request",
     "early::early": "Stateless rules",
@@ -85,7 +85,7 @@ PARTS = {
     "outcomes::draft": "The response, deferred",
     "event_loop::commit_batch": "The end of the batch",
     "space_sql::batch::apply_batch": "The SQL space: one transaction, one sync",
-    "client_connection::tell": "The response, sent",
+    "server_client::client_connection::tell": "The response, sent",
 }
 # the columns: the crates of each, by how their names begin
 LANES = {

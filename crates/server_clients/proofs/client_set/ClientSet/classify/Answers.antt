@@ -1,0 +1,5 @@
+use Rattle.server_clients.proofs.Sets.{clients_kept}
+use Rattle.server_clients.proofs.client_set.ClientSet.classify.Goals as goal
+
+pub returns-in-Some : goal.returns-in-Some
+returns-in-Some g c = clients_kept g.T.ClientSocket.name c.args.self.now.connections c.args.key c.in-Some.client.now c.classify.new.self c.in-Some.ensures.value c.classify.ensures

@@ -1,0 +1,49 @@
+-- Fair queuing: which client may be picked.
+use Rattle.std.specs.Prelude.{◌≡◌, ◌≤◌, ◌++◌, ◌&&◌, ◌||◌, ◌/◌, nat_le, nat_lt, ℕ, Bool, true, not, List, length, Some}
+use Rattle.std.specs.List.{Contains, slice_get}
+use Rattle.server_clients.specs.declared.fair_queue.FairQueue.{FairQueue}
+use Rattle.server_clients.specs.declared.fair_queue.UssClass.{UssClass}
+
+-- The clients that wait in a class.
+abbrev pub waiting_in : UssClass → List ℕ
+waiting_in class = class.open.items ++ class.ended.items
+
+-- Returns true if a class has unsent bytes, and has used half of the budget for them or all classes
+-- together have used the budget.
+abbrev pub is_held_up : (memory total : ℕ) → UssClass → Bool
+is_held_up memory total class =
+    nat_le 1 class.unsent && (nat_le (memory / 2) class.unsent || nat_le memory total)
+
+-- Holds if the client waits in the class with that index.
+abbrev pub WaitsIn : FairQueue → ℕ → ℕ → Type 0
+WaitsIn queue index key = (class : UssClass)
+    × (slice_get queue.classes.items index ≡ Some class) × Contains (waiting_in class) key
+
+-- Returns true if a client waits in a class.
+abbrev pub has_waiting : UssClass → Bool
+has_waiting class = nat_lt 0 (length class.open.items) || nat_lt 0 (length class.ended.items)
+
+-- Returns true if a client waits in a class that is not held up.
+abbrev pub may_be_next : (memory total : ℕ) → UssClass → Bool
+may_be_next memory total class = has_waiting class && not (is_held_up memory total class)
+
+-- Holds if no class that may be next has a smaller virtual time than this one.
+abbrev pub HasLeastTime : FairQueue → UssClass → Type 0
+HasLeastTime queue class = (other : ℕ) (rival : UssClass)
+    → slice_get queue.classes.items other ≡ Some rival
+    → may_be_next queue.memory queue.unsent rival ≡ true
+    → class.virtual_time ≤ rival.virtual_time
+
+-- Holds if the next request is one of the class with that index.
+abbrev pub IsNext : FairQueue → ℕ → Type 0
+IsNext queue index = (class : UssClass)
+    × (slice_get queue.classes.items index ≡ Some class)
+    × (may_be_next queue.memory queue.unsent class ≡ true) × HasLeastTime queue class
+
+-- Holds if the client may be picked: it waits in the class with that index, which is not held up.
+-- No other such class has a smaller virtual time.
+abbrev pub IsPicked : FairQueue → ℕ → ℕ → Type 0
+IsPicked queue index key = (class : UssClass)
+    × (slice_get queue.classes.items index ≡ Some class)
+    × (may_be_next queue.memory queue.unsent class ≡ true) × HasLeastTime queue class
+    × Contains (waiting_in class) key

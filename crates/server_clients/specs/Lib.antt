@@ -1,0 +1,13 @@
+pub mod Backends
+pub mod CallOrder
+pub mod ClientConnection
+pub mod ClientEvents
+pub mod ClientIo
+pub mod ClientSet
+pub mod ClientState
+pub mod Clients
+pub mod FairQueue
+pub mod Offered
+pub mod Replies
+pub mod ServerEvents
+pub mod Texts
