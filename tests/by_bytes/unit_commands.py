@@ -127,8 +127,8 @@ def rotates():
         found = difference("lines", len(until_lines(log, 2)), 2)
         done = subprocess.run([program, "--force", "--state", started.folder / "state", settings], capture_output=True, text=True)
         found += difference("logrotate", (done.returncode, done.stderr), (0, ""))
-        # The service makes the new file within a second.
-        until_lines(log, 0)
+        # It looks for the file once a second, as it writes a line.
+        time.sleep(1.1)
         started.exchange(CLOSING, ends=False)
         found += difference("the new file", len(until_lines(log, 1)), 1)
         moved = started.folder / "requests.log.1"
