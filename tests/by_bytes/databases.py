@@ -412,6 +412,8 @@ def rejected():
         for database in (text, room.folder.name, f"{room.folder.name}/no/dss.db", ":memory:", "file:dss.db"):
             got = room.serve(reading, database=database)
             found += [f"{database}: {got!r}"] if got != (1, b"", STORE) else []
+        # The program makes a file of that name before SQLite refuses the name.
+        pathlib.Path("file:dss.db").unlink(missing_ok=True)
         found += ["the text was changed"] if text.read_bytes() != before else []
         room.serve(filled())
         held = subprocess.Popen(room.words(), stdin=subprocess.PIPE, stdout=subprocess.PIPE)
