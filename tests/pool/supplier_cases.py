@@ -389,7 +389,7 @@ def purges(pool):
     assert ask(pool.doors[0], (*call[:3], json.dumps(body).encode()))[0] == 201
     created(pool.doors[0], 2)
     before = counts(pool)
-    write(pool, "in/c2", f"{NUMBER}\ndss-purge 1\n{now + 61}\n")
+    write(pool, "in/c2", f"{NUMBER} 0 {64 * '0'}\ndss-purge 1\n{now + 61}\n")
     assert counts(pool) == [it + 1 for it in before], (before, counts(pool))
     all_see(pool, (1, 2), [2])
 
