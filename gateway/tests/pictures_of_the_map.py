@@ -24,7 +24,7 @@ def take(place, name, count):
                 enter(page, place.viewer)
                 time.sleep(2)
                 if count < 1000:
-                    page.value("document.querySelectorAll('#all button')[3].click()")
+                    page.value("document.querySelectorAll('#all button')[3].click(); document.getElementById('whole').click()")
                 time.sleep(1.5)
                 data = next(it for it in (pictured(page, quality) for quality in range(60, -1, -4)) if len(it) < most)
                 (TOP / "docs" / f"{name}{size}-{scheme}.webp").write_bytes(data)
@@ -36,6 +36,8 @@ def main(program):
         try:
             with over_whole(files, program) as place:
                 flights(place, count, spread)
+                # The page asks again after some seconds.
+                time.sleep(6)
                 take(place, f"map-{count}", count)
         finally:
             files.forget()
