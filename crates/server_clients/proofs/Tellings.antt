@@ -1,4 +1,4 @@
--- The state of a client that is told an outcome.
+-- The state of a client once the backend gives an outcome.
 use Rattle.std.proofs.Common.{◌≡◌, ℕ, zero, suc, ◌||◌, ◌∷◌, ◌++◌, Bool, true, false, List, [], take, drop, length, Option, Some, None, Result, Ok, Err, OnOk, is_some, is_err, option_map, if◌then◌else◌, refl, sym, ap, ◌∙◌, append-nil}
 use Rattle.std.specs.Prelude.{OnErr}
 use Rattle.std.proofs.lemmas.Bool.{eq-eqb, ne_eqb}
@@ -134,7 +134,7 @@ not_told : (ticket : ℕ) (outcome : Outcome) (lost : Bool) (w : Option Waiting)
 not_told ticket outcome lost None l h = refl
 not_told ticket outcome lost (Some w) l h = sym (ap (λ (v : Bool). if v then resolved w outcome lost l else l) (ne_eqb w.ticket ticket h))
 
--- A client that waits under another ticket, or for none, is told nothing.
+-- An outcome changes no client that waits under another ticket, or for none.
 pub told_other : (name ticket : ℕ) (own : Option ℕ) (outcome : Outcome) (why : Option Reason) (c : Connection) → (own ≡ Some ticket → ⊥) → state_of name own why c ≡ told ticket outcome false (state_of name own why c)
 told_other name ticket own outcome why c other =
     not_told ticket outcome false (waiting_in own (slot_of c) (awaited_of c) (output_of c) (ready_of c)) (state_of name own why c) (differs own (slot_of c) (awaited_of c) (output_of c) (ready_of c) ticket other)
