@@ -13,16 +13,11 @@ namespace {
 
 constexpr size_t kPath = 512;
 
-// What the server would read in another way than HTTP says, or that nothing here needs.
-void check_framing(const Head& head) {
+// What nothing here needs.
+void check_form(const Head& head) {
   if (head.target.size() > kPath) throw Refusal(404, "there is no such path");
-  if (head.count("Transfer-Encoding")) throw Refusal(411, "send the body whole, with Content-Length");
   if (head.count("Content-Encoding")) throw Refusal(415, "Content-Encoding is not taken");
   if (head.value("Content-Type").compare(0, 10, "multipart/") == 0) throw Refusal(415, "the body must be application/json");
-  std::string length = head.value("Content-Length");
-  bool is_number = head.count("Content-Length") == 0 || (!length.empty() && length.find_first_not_of("0123456789") == std::string::npos);
-  if (head.count("Content-Length") > 1 || !is_number) throw Refusal(400, "Content-Length must be one number");
-  if (length.size() > 7 || (!length.empty() && std::stoul(length) > kBody)) throw Refusal(413, "a body has at most 1,048,576 bytes");
 }
 
 void check_method(const std::string& method, const std::string& taken, const char* why) {
@@ -84,7 +79,7 @@ struct Gateway::Call {
 };
 
 Task Gateway::admit(const Head& head, Note& note) {
-  check_framing(head);
+  check_form(head);
   check_method(head.method, "GET, PUT, POST, DELETE", "there is no such method: ");
   if (head.target == "/health" && head.method == "GET") {
     note.route = "health";

@@ -48,6 +48,6 @@ std::string ground_of(const std::string& text, const std::string& file) {
   bool is_collection = is_object && ground["type"] == "FeatureCollection" && ground.contains("features") && ground["features"].is_array();
   bool is_taken = is_collection ? std::all_of(ground["features"].begin(), ground["features"].end(), is_feature)
                                 : is_object && !ground["type"].get<std::string>().empty() && (is_feature(ground) || is_geometry(ground));
-  if (!is_taken) throw std::runtime_error(file + ": is no GeoJSON in degrees of WGS84 (RFC 7946); see the map of gateway/README.md");
+  if (!is_taken) throw std::runtime_error(file + ": is no GeoJSON in degrees of WGS84 (RFC 7946); see gateway/MAP.md");
   return ground.dump(-1, ' ', false, json::error_handler_t::replace);
 }

@@ -8,6 +8,7 @@
 #include <boost/beast/http/parser.hpp>
 #include <strings.h>
 
+#include "incoming.h"
 #include "refusal.h"
 
 namespace http = boost::beast::http;
@@ -42,13 +43,28 @@ std::string Head::value(const char* name) const {
   return found == fields.end() ? "" : found->second;
 }
 
+bool Head::asks_to_close() const {
+  for (const auto& [name, value] : fields) {
+    if (strcasecmp(name.c_str(), "Connection") != 0) continue;
+    for (size_t from = 0, to = 0; to != std::string::npos; from = to + 1) {
+      to = value.find(',', from);
+      std::string word = value.substr(from, to - from);
+      word.erase(0, word.find_first_not_of(" \t"));
+      word.erase(word.find_last_not_of(" \t") + 1);
+      if (strcasecmp(word.c_str(), "close") == 0) return true;
+    }
+  }
+  return false;
+}
+
 size_t size_of_head(const std::string& bytes, size_t looked_at) {
   size_t end = bytes.find("\r\n\r\n", looked_at < 3 ? 0 : looked_at - 3);
   return end == std::string::npos ? 0 : end + 4;
 }
 
 void refuse_long_head(const std::string& bytes) {
-  bool has_target = bytes.find("\r\n") < kHead;
+  // whatever else has arrived with them
+  bool has_target = bytes.find("\r\n") <= kHead - 2;
   throw Refusal(has_target ? 400 : 414, has_target ? "a head has at most 8,192 bytes" : "the target is too long");
 }
 
@@ -61,7 +77,7 @@ Head read_head(const std::string& bytes) {
   parser.body_limit(std::numeric_limits<std::uint64_t>::max());  // which is looked at with the other fields
   boost::beast::error_code fault;
   parser.put(boost::asio::buffer(bytes), fault);
-  if (fault == http::error::bad_content_length && has_long_length(bytes)) throw Refusal(413, "a body has at most 1,048,576 bytes");
+  if (fault == http::error::bad_content_length && has_long_length(bytes)) throw Refusal(413, kLongBody);
   if (fault || !parser.is_header_done()) throw Refusal(400, kNone);
   const auto& read = parser.get();
   Head head{std::string(read.method_string()), std::string(read.target()), {}};

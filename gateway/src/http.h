@@ -13,6 +13,8 @@ struct Head {
   size_t count(const char* name) const;
   // Of the first field of that name, which has no case; empty where there is none.
   std::string value(const char* name) const;
+  // Returns true if a field Connection says `close`.
+  bool asks_to_close() const;
 };
 
 struct Reply {

@@ -4,6 +4,10 @@
 #include <stdexcept>
 #include <string>
 
+// What is to be done about a change that may be made or not. In a pool a read does not tell.
+constexpr const char* kOpen =
+    "the change may be made or not: send the request again, unchanged, through this gateway, until it succeeds or is denied by P7 or a later rule";
+
 struct Refusal : std::runtime_error {
   Refusal(int status, const std::string& message, std::string allow = "")
       : std::runtime_error(message), status(status), allow(std::move(allow)) {}

@@ -21,7 +21,7 @@
 #include <strings.h>
 #include <sys/resource.h>
 
-#include "head.h"
+#include "incoming.h"
 #include "refusal.h"
 #include "shares.h"
 
@@ -36,10 +36,13 @@ using Acceptor = net::basic_socket_acceptor<Protocol, net::io_context::executor_
 using Clock = std::chrono::steady_clock;
 using std::chrono::seconds;
 
-// How long a client may send nothing at all; for each piece of a request, and from its first byte to its last; and for an answer.
+// How long a client may send nothing between requests; for each piece of a request, and from its first byte to its last; and for a
+// response. The proxies close a connection that was idle for 50 seconds.
 constexpr seconds kIdle(60), kPiece(10), kWhole(30), kTaking(60);
-// And nothing at all where few connections are left for others.
+// How long it may send nothing if few connections are left for others.
 constexpr seconds kIdleAmongMany(5);
+// The most requests on one connection.
+constexpr size_t kRequests = 100;
 // What a client still sends after its answer is thrown away, so much and so long.
 constexpr seconds kDraining(2);
 constexpr size_t kDrained = 1 << 20;
@@ -82,12 +85,12 @@ Reply reply_of(const Refusal& refusal) {
   return {refusal.status, body.dump(-1, ' ', false, nlohmann::json::error_handler_t::replace), refusal.allow};
 }
 
-std::string text_of(const Reply& reply, bool with_body) {
+// Returns the bytes of a response; unless `stays`, it is the last one on its connection.
+std::string text_of(const Reply& reply, bool with_body, bool stays) {
   std::string text = "HTTP/1.1 " + std::to_string(reply.status) + " " + reason_of(reply.status) + "\r\nContent-Type: " + reply.type + "\r\n" + reply.fields;
   if (!reply.allow.empty()) text += "Allow: " + reply.allow + "\r\n";
   if (reply.status == 401) text += "WWW-Authenticate: Bearer\r\n";
-  // one request a connection: what a client sends after it, or as the body of a reading, is never taken for another's request
-  text += "Content-Length: " + std::to_string(reply.body.size()) + "\r\nConnection: close\r\n\r\n";
+  text += "Content-Length: " + std::to_string(reply.body.size()) + (stays ? "\r\n\r\n" : "\r\nConnection: close\r\n\r\n");
   return with_body ? text + reply.body : text;
 }
 
@@ -101,8 +104,14 @@ class Door {
 
   void run();
   void forget(Session* session);
-  // Whether three of four connections are taken.
+  // Returns true if three of four connections are taken.
   bool is_crowded() const { return sessions_.size() > most_ / 4 * 3; }
+  // Returns true if a connection may wait for another request: if one is free for others.
+  bool may_keep() const { return !is_ending_ && sessions_.size() < most_; }
+  // Notes that a connection waits for another request since then, or does so no longer. If the last connection is taken, the one that
+  // has waited longest is closed.
+  void rest(Clock::time_point since, Session* session) { idle_.emplace(since, session); }
+  void wake(Clock::time_point since, Session* session) { idle_.erase({since, session}); }
 
   const Admit& admit;
   net::io_context io{1};
@@ -111,6 +120,7 @@ class Door {
 
  private:
   void accept();
+  void welcome(Socket socket);
   void end();
 
   Acceptor acceptor_;
@@ -118,24 +128,32 @@ class Door {
   net::signal_set ends_;
   size_t most_;
   std::set<Session*> sessions_;
+  std::set<std::pair<Clock::time_point, Session*>> idle_;
   bool is_accepting_ = false, is_ending_ = false;
 };
 
-// A connection: a head, a body where one is wanted, an answer.
+// A connection. For each request: a head, a body if one is wanted, a response.
+//
+// What follows a request is taken for the next one only if the body of the first was read to its end. Otherwise the connection closes, so
+// that no part of a body is ever taken for a request, which a proxy may have sent for somebody else.
 class Session : public std::enable_shared_from_this<Session> {
  public:
   Session(Door& door, Socket socket) : door_(door), socket_(std::move(socket)), timer_(door.io) {}
 
-  void start() { receive(&Session::look_for_head, Clock::now() + (door_.is_crowded() ? kIdleAmongMany : kIdle)); }
-  // Ends it where nothing was begun for it.
+  // Waits for a request.
+  void start();
+  // Ends it if nothing was begun for it.
   void stop() {
     if (stage_ == Stage::head || stage_ == Stage::done) end();
   }
+  // Closes the connection.
+  void end();
 
  private:
   enum class Stage { head, waits, body, work, answer, done, ended };
   using Step = void (Session::*)();
 
+  void begin();
   void limit(Clock::time_point until);
   void receive(Step next, Clock::time_point until);
   void cut(const error_code& fault);
@@ -145,27 +163,35 @@ class Session : public std::enable_shared_from_this<Session> {
   void look_for_client(Clock::time_point at);
   void take_turn();
   void look_for_body();
+  void say_go_on();
   void work();
   Reply done();
+  bool may_stay() const;
   void answer(const Reply& reply);
+  void go_on();
+  void finish();
   void tell(int status) const;
   void drain();
   void leave();
-  void end();
 
   Door& door_;
   Socket socket_;
   net::steady_timer timer_;
   Stage stage_ = Stage::head;
   std::array<char, 8192> piece_;
-  std::string received_, sent_;
-  size_t looked_at_ = 0, length_ = 0, drained_ = 0;
-  Clock::time_point began_ = Clock::now(), ends_;
+  Incoming incoming_;
+  std::string sent_;
+  size_t requests_ = 0, drained_ = 0;
+  Clock::time_point rested_, began_ = Clock::now(), ends_;
   Clock::duration left_{};
   Head head_;
+  Framing framing_;
   Note note_;
   Task task_;
-  bool holds_turn_ = false, is_late_ = false;
+  bool holds_turn_ = false, is_late_ = false, is_watched_ = false;
+  bool is_read_ = false;      // the present request, to the end of its body
+  bool awaits_word_ = false;  // the client sends its body after an interim response
+  bool stays_ = false;        // for another request
   std::atomic<bool> is_gone_{false};
 };
 
@@ -182,38 +208,48 @@ void Session::limit(Clock::time_point until) {
   });
 }
 
+void Session::start() {
+  rested_ = Clock::now();
+  if (requests_ > 0) door_.rest(rested_, this);
+  receive(&Session::look_for_head, rested_ + (door_.is_crowded() ? kIdleAmongMany : kIdle));
+}
+
+void Session::begin() {
+  began_ = Clock::now();
+  ends_ = began_ + kWhole;
+}
+
 void Session::receive(Step next, Clock::time_point until) {
   limit(until);
   socket_.async_read_some(net::buffer(piece_), [self = shared_from_this(), next](error_code fault, size_t count) {
     if (self->stage_ == Stage::ended) return;
     if (fault) return self->cut(fault);
-    if (self->received_.empty() && self->stage_ == Stage::head) {
-      self->began_ = Clock::now();
-      self->ends_ = self->began_ + kWhole;
+    if (self->stage_ == Stage::head && self->incoming_.is_empty()) {
+      self->door_.wake(self->rested_, self.get());
+      self->begin();
     }
     if (self->stage_ == Stage::done)
       self->drained_ += count;
     else
-      self->received_.append(self->piece_.data(), count);
+      self->incoming_.add(self->piece_.data(), count);
     (self.get()->*next)();
   });
 }
 
 // The input has ended, or does not go on.
 void Session::cut(const error_code& fault) {
-  bool has_begun = !received_.empty() || stage_ == Stage::body;
+  bool has_begun = !incoming_.is_empty() || stage_ == Stage::body;
   if (!has_begun || stage_ == Stage::done || (!is_late_ && fault != net::error::eof)) return end();
   if (stage_ == Stage::body) return answer(reply_of(Refusal(400, "the body did not come whole")));
   answer(reply_of(is_late_ ? Refusal(408, "the head did not come in time") : Refusal(400, "the head did not come whole")));
 }
 
 void Session::look_for_head() try {
-  size_t size = size_of_head(received_, looked_at_);
-  looked_at_ = received_.size();
-  if (size == 0 && received_.size() >= kHead) refuse_long_head(received_);
-  if (size == 0) return receive(&Session::look_for_head, std::min(ends_, Clock::now() + kPiece));
-  head_ = read_head(received_.substr(0, size));
-  received_.erase(0, size);
+  auto head = incoming_.take_head();
+  if (!head) return receive(&Session::look_for_head, std::min(ends_, Clock::now() + kPiece));
+  head_ = std::move(*head);
+  framing_ = framing_of(head_);
+  is_read_ = !framing_.has_body();
   let_in();
 } catch (const Refusal& refusal) {
   answer(reply_of(refusal));
@@ -223,7 +259,7 @@ void Session::look_for_head() try {
 
 void Session::let_in() {
   task_ = door_.admit(head_, note_);
-  length_ = task_.wants_body && head_.count("Content-Length") ? std::stoul(head_.value("Content-Length")) : 0;
+  awaits_word_ = !head_.is_old && strcasecmp(head_.value("Expect").c_str(), "100-continue") == 0;
   stage_ = Stage::waits;
   left_ = ends_ - Clock::now();
   watch();
@@ -234,7 +270,10 @@ void Session::let_in() {
 
 // Notices a client that is gone: one that has reset its connection, and at a socket of Unix one that has closed it.
 void Session::watch() {
+  if (is_watched_) return;
+  is_watched_ = true;
   socket_.async_wait(Socket::wait_error, [self = shared_from_this()](error_code fault) {
+    self->is_watched_ = false;
     if (fault || self->stage_ == Stage::ended) return;
     pollfd state{self->socket_.native_handle(), 0, 0};
     if (poll(&state, 1, 0) != 1 || !(state.revents & (POLLERR | POLLHUP))) return;
@@ -265,26 +304,32 @@ void Session::take_turn() {
   stage_ = Stage::body;
   // that it waited is no fault of the client
   ends_ = Clock::now() + left_;
-  bool waits_for_a_word = !head_.is_old && received_.size() < length_ && strcasecmp(head_.value("Expect").c_str(), "100-continue") == 0;
-  if (!waits_for_a_word) return look_for_body();
+  task_.wants_body ? look_for_body() : work();
+}
+
+void Session::look_for_body() try {
+  is_read_ = incoming_.take_body(framing_);
+  if (is_read_) return work();
+  if (awaits_word_) return say_go_on();
+  receive(&Session::look_for_body, std::min(ends_, Clock::now() + kPiece));
+} catch (const Refusal& refusal) {
+  answer(reply_of(refusal));
+}
+
+void Session::say_go_on() {
+  awaits_word_ = false;
   limit(std::min(ends_, Clock::now() + kPiece));
   net::async_write(socket_, net::buffer(kGoOn), [self = shared_from_this()](error_code fault, size_t) {
     fault ? self->end() : self->look_for_body();
   });
 }
 
-void Session::look_for_body() {
-  if (received_.size() < length_) return receive(&Session::look_for_body, std::min(ends_, Clock::now() + kPiece));
-  received_.resize(length_);
-  work();
-}
-
 Reply Session::done() try {
-  return task_.run(received_, is_gone_);
+  return task_.run(incoming_.body, is_gone_);
 } catch (const Refusal& refusal) {
   return reply_of(refusal);
 } catch (const std::exception&) {
-  return reply_of(Refusal(500, "the gateway failed: the change may be done or not, read it"));
+  return reply_of(Refusal(500, std::string("the gateway failed: ") + kOpen));
 }
 
 void Session::work() {
@@ -300,24 +345,49 @@ void Session::work() {
 
 // ---- answering
 
+bool Session::may_stay() const {
+  return is_read_ && !head_.is_old && !head_.asks_to_close() && requests_ < kRequests && door_.may_keep();
+}
+
 void Session::answer(const Reply& reply) {
   tell(reply.status);
   if (is_gone_) return end();
   stage_ = Stage::answer;
-  std::string().swap(received_);
-  sent_ = text_of(reply, head_.method != "HEAD");
+  requests_++;
+  stays_ = may_stay();
+  std::string().swap(incoming_.body);
+  if (!stays_) incoming_ = Incoming();
+  sent_ = text_of(reply, head_.method != "HEAD", stays_);
   limit(Clock::now() + kTaking);
   net::async_write(socket_, net::buffer(sent_), [self = shared_from_this()](error_code fault, size_t) {
     std::string().swap(self->sent_);
     self->leave();
     if (fault) return self->end();
-    // the client reads the answer to its end, where it is not reset by what it still sends
-    self->stage_ = Stage::done;
-    error_code ignored;
-    self->socket_.shutdown(Socket::shutdown_send, ignored);
-    self->ends_ = Clock::now() + kDraining;
-    self->drain();
+    // meanwhile the last connection may have been taken, or the gateway stops
+    self->stays_ && self->door_.may_keep() ? self->go_on() : self->finish();
   });
+}
+
+// Turns to the next request, of which some may have arrived already.
+void Session::go_on() {
+  stage_ = Stage::head;
+  head_ = Head();
+  framing_ = Framing();
+  note_ = Note();
+  task_ = Task();
+  is_read_ = false;
+  if (incoming_.is_empty()) return start();
+  begin();
+  look_for_head();
+}
+
+// Ends the response. The client reads it whole, as it is not reset by what it still sends.
+void Session::finish() {
+  stage_ = Stage::done;
+  error_code ignored;
+  socket_.shutdown(Socket::shutdown_send, ignored);
+  ends_ = Clock::now() + kDraining;
+  drain();
 }
 
 void Session::drain() {
@@ -341,6 +411,7 @@ void Session::leave() {
 void Session::end() {
   if (stage_ == Stage::ended) return;
   stage_ = Stage::ended;
+  door_.wake(rested_, this);
   leave();
   timer_.cancel();
   error_code ignored;
@@ -361,13 +432,18 @@ void Door::accept() {
       again_.expires_after(kAgain);
       return again_.async_wait([this](error_code) { accept(); });
     }
-    int yes = 1;
-    setsockopt(socket.native_handle(), IPPROTO_TCP, TCP_NODELAY, &yes, sizeof yes);
-    auto session = std::make_shared<Session>(*this, std::move(socket));
-    sessions_.insert(session.get());
-    session->start();
+    welcome(std::move(socket));
     accept();
   });
+}
+
+void Door::welcome(Socket socket) {
+  int yes = 1;
+  setsockopt(socket.native_handle(), IPPROTO_TCP, TCP_NODELAY, &yes, sizeof yes);
+  auto session = std::make_shared<Session>(*this, std::move(socket));
+  sessions_.insert(session.get());
+  session->start();
+  if (sessions_.size() >= most_ && !idle_.empty()) idle_.begin()->second->end();
 }
 
 void Door::forget(Session* session) {

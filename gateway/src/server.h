@@ -1,5 +1,5 @@
-// A server of HTTP/1.1 on a port of this machine or a socket of Unix: one request on a connection, within bounds. One thread
-// reads and writes for all clients, so that a slow one costs its connection alone; a few others do what is asked.
+// A server of HTTP/1.1 on a port of this machine or a Unix socket: requests on a connection one after the other, within limits. One
+// thread reads and writes for all clients, so a slow one delays only itself; a few others process the requests.
 #pragma once
 
 #include <atomic>
@@ -7,9 +7,6 @@
 #include <string>
 
 #include "http.h"
-
-// The longest body.
-constexpr size_t kBody = 1 << 20;
 
 // What the log says of a request.
 struct Note {

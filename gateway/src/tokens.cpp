@@ -77,8 +77,10 @@ std::string make_token_file(const Secret& secret, const std::string& suppliers) 
       std::string scopes;
       for (size_t k = 0; k < kScopes.size(); k++)
         if (set >> k & 1) scopes += (scopes.empty() ? "\"" : ", \"") + kScopes[k] + "\"";
-      out << "\n[[token]]\ntext = \"" << secret.mac("token|" + uss + "|" + sub + "|" + scopes) << "\"\nuss = \"" << uss << "\"\nsub = \"" << sub
-          << "\"\nscopes = [" << scopes << "]\n";
+      out << "\n[[token]]\ntext = \"" << secret.mac("token|" + uss + "|" + sub + "|" + scopes) << "\"\nuss = \"" << uss << "\"\n";
+      // the service warns of a key that it does not read
+      if (sub != uss) out << "sub = \"" << sub << "\"\n";
+      out << "scopes = [" << scopes << "]\n";
     }
   }
   return out.str();

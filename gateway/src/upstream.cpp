@@ -181,7 +181,7 @@ Answer Upstream::ask(const std::string& method, const std::string& path, const j
   if (got.is_too_long && !is_change) throw Refusal(413, "the answer is over 16 MiB: ask for a smaller area or a shorter time");
   json answer = got.is_whole ? json::parse(got.body, nullptr, false) : json();
   if (!answer.is_object())
-    throw Refusal(504, is_change ? "the service's answer was lost: the change may be done or not, read it" : "the service's answer was lost: ask again");
+    throw Refusal(504, is_change ? std::string("the service's answer was lost: ") + kOpen : "the service's answer was lost: ask again");
   // the file of tokens is read at the start of both programs
   if (got.status == 401) throw Refusal(503, "the service does not know the gateway's tokens: its operator has to start both with one token file");
   return {got.status, std::move(answer), std::move(got.alone)};

@@ -12,11 +12,11 @@ import threading
 import time
 
 from flows import over_tables
-from hostile import PATH, comb
+from hostile import OPEN, PATH, comb
 from properties import translate
 from standard import check
 from world import (
-    FRONT, INTENTS, MANHATTAN, STRATEGIC, TOP, Counted, Gateway, expect, extent, intent, new_id, polygon, query_of, until)
+    FRONT, INTENTS, MANHATTAN, STRATEGIC, TOP, Counted, Gateway, expect, extent, intent, new_id, polygon, query_of, responses, until)
 
 MEGABYTE = 1 << 20
 
@@ -85,14 +85,6 @@ def open_to(gateway, data=b""):
     it = socket.create_connection(("127.0.0.1", gateway.port), 100)
     it.sendall(data)
     return it
-
-
-def all_of(connection):
-    got = b""
-    with contextlib.suppress(OSError):
-        while piece := connection.recv(65536):
-            got += piece
-    return got
 
 
 def request(files, method, path, body=b"", sub="uss-a", fields=b""):
@@ -198,14 +190,14 @@ def fields_without_end(files, program):
                 while sent < 48 * MEGABYTE:
                     it.sendall(b"a: b\r\n" * 10_000)
                     sent += 60_000
-            assert all_of(it).startswith(b"HTTP/1.1 400") or sent < 8 * MEGABYTE
+            assert responses(it).startswith(b"HTTP/1.1 400") or sent < 8 * MEGABYTE
         assert of_process(gateway, "VmHWM") - before < 20_000, of_process(gateway, "VmHWM")
         for count, status in ((99, 200), (100, 400)):
             got = gateway.raw(request(files, "GET", PATH, fields=b"a: b\r\n" * count))
             assert got.startswith(b"HTTP/1.1 %d" % status), got[:200]
         # The token is checked before any byte of a body is read.
         with open_to(gateway, b"PUT %s HTTP/1.1\r\nContent-Length: 1000000\r\n\r\n" % PATH.encode()) as it:
-            assert all_of(it).startswith(b"HTTP/1.1 401")
+            assert responses(it).startswith(b"HTTP/1.1 401")
 
 
 def bodies_of_many_values(files, program):
@@ -232,7 +224,7 @@ def answers_that_are_large(files, program):
     service.answer = service.answer[:-2] + b"," + json.dumps(["x" * 17 * MEGABYTE]).encode()[1:] + b"}"
     expect(gateway.ask(tokens[0], "POST", f"{INTENTS}/query", query_of(MANHATTAN)), 413, "16 MiB")
     put = {"availability": "Down", "old_version": ""}
-    expect(gateway.ask(tokens[0], "PUT", PATH, put), 504, "may be done or not")
+    expect(gateway.ask(tokens[0], "PUT", PATH, put), 504, OPEN)
     assert gateway.end(), gateway.lines()[-3000:]
     service.end()
 
@@ -241,17 +233,20 @@ def answers_that_are_large(files, program):
 
 def slow_clients_keep_nobody_out(files, program):
     """60 clients that send a byte a second: others get responses at once, and the slow connections are aborted after
-    half a minute."""
+    half a minute. On a busy machine a client may pause for so long that it is aborted for that, after 10 s."""
     with over_tables(files, program) as place:
         gateway, began = place.gateway, time.time()
         head = request(files, "PUT", f"{INTENTS}/{new_id()}", b"{" + b" " * 90)
         slow = [open_to(gateway, head[:-91] if k % 2 else b"GET / HTTP/1.1\r\nX: ") for k in range(60)]
-        silent = open_to(gateway)
-        gone = {}
+        silent, closed = open_to(gateway), []
+        threading.Thread(target=lambda: closed.append((silent.recv(10), time.time() - began)), daemon=True).start()
+        gone, sent, pauses = {}, [time.time()] * 60, [0] * 60
         while time.time() - began < 50 and len(gone) < len(slow):
             for k, it in enumerate(slow):
                 if k in gone:
                     continue
+                pauses[k] = max(pauses[k], time.time() - sent[k])
+                sent[k] = time.time()
                 try:
                     it.send(b" ")
                     it.settimeout(0.001)
@@ -262,12 +257,11 @@ def slow_clients_keep_nobody_out(files, program):
                     gone[k] = (time.time() - began, b"")
             at_once_of(lambda: expect(gateway.ask(files.token("uss-b", STRATEGIC), "GET", PATH), 200))
             time.sleep(1)
+        is_aborted = lambda k, status: gone[k][1].startswith(b"HTTP/1.1 %d" % status) and (29 <= gone[k][0] < 45 or pauses[k] > 9)
+        assert all(is_aborted(k, 408) for k in range(0, 60, 2)), (gone, pauses)
         # Of one USS's share only some bodies are read at once.
-        heads = [gone[k] for k in range(0, 60, 2)]
-        assert all(29 <= at < 45 and got.startswith(b"HTTP/1.1 408") for at, got in heads), heads
-        assert sum(29 <= at < 45 and got.startswith(b"HTTP/1.1 400") for at, got in (gone[k] for k in range(1, 60, 2) if k in gone)) >= 4, gone
-        silent.settimeout(90)
-        assert silent.recv(10) == b"" and 59 < time.time() - began < 90
+        assert sum(is_aborted(k, 400) for k in range(1, 60, 2) if k in gone) >= 4, (gone, pauses)
+        assert until(lambda: closed) and closed[0][0] == b"" and 59 < closed[0][1] < 90, closed
         [it.close() for it in slow]
 
 
@@ -316,7 +310,7 @@ def a_socket_of_unix(files, program):
             with contextlib.closing(socket.socket(socket.AF_UNIX)) as it:
                 it.connect(str(path))
                 it.sendall(b"GET %s HTTP/1.1\r\nAuthorization: Bearer %s\r\n\r\n" % (PATH.encode(), token.encode()))
-                assert all_of(it).startswith(b"HTTP/1.1 200")
+                assert responses(it).startswith(b"HTTP/1.1 200")
             second = subprocess.run([program, "serve", *other.words], capture_output=True, text=True, timeout=300)
             assert second.returncode == 1 and "is taken" in second.stderr and path.exists()
             other.process.kill()
@@ -366,7 +360,7 @@ def half_closed_clients_are_answered(files, program):
         with open_to(place.gateway, head[:end]) as it:
             assert it.recv(100) == b"HTTP/1.1 100 Continue\r\n\r\n"
             it.sendall(head[end:])
-            assert all_of(it).startswith(b"HTTP/1.1 400 ")
+            assert responses(it).startswith(b"HTTP/1.1 400 ")
 
 
 def requests_in_pieces(files, program):
@@ -380,12 +374,12 @@ def requests_in_pieces(files, program):
                 it.setsockopt(socket.IPPROTO_TCP, socket.TCP_NODELAY, 1)
                 time.sleep(0.02)
                 it.sendall(data[at:])
-                got = all_of(it)
+                got = responses(it)
             assert got.startswith(b"HTTP/1.1 200 OK\r\n") and got.endswith(b'{"operational_intent_references":[]}'), (at, got)
         with open_to(place.gateway) as it:
             for k in range(0, len(data), 3):
                 it.sendall(data[k:k + 3])
-            assert all_of(it).startswith(b"HTTP/1.1 200 ")
+            assert responses(it).startswith(b"HTTP/1.1 200 ")
 
 
 # ---- connections to the service
@@ -426,7 +420,7 @@ def only_readings_are_asked_again(files, program):
         before = len(service.asked)
         service.drops = 1
         answer = gateway.ask(token, method, path, body)
-        expect(answer, status, None if status == 200 else "may be done or not")
+        expect(answer, status, None if status == 200 else OPEN)
         assert len(service.asked) - before == (2 if status == 200 else 1), service.asked[before:]
     # If a new connection is closed this way, there is no second try.
     service.close_all()

@@ -17,6 +17,8 @@ from world import (
     polygon, wait_for)
 
 PATH = f"{FRONT}uss_availability/uss-b"
+# What the gateway says of a change that is open, as docs/CLIENTS.md does.
+OPEN = "the change may be made or not: send the request again, unchanged, through this gateway, until it succeeds or is denied by P7 or a later rule"
 
 
 def plain(value):
@@ -101,7 +103,7 @@ def bytes_that_are_no_requests(files, program):
         began = time.time()
         for data, status in (
                 (b"PATCH / HTTP/1.1\r\n\r\n", 405), (put + b"\r\n", 400), (put + b"Content-Length: 2\r\n\r\n{}", 400),
-                (put + b"Content-Length: 0\r\n\r\n", 400), (put + b"Transfer-Encoding: chunked\r\n\r\n2\r\n{}\r\n0\r\n\r\n", 411),
+                (put + b"Content-Length: 0\r\n\r\n", 400), (put + b"Transfer-Encoding: gzip, chunked\r\n\r\n2\r\n{}\r\n0\r\n\r\n", 411),
                 (put + b"Content-Length: -1\r\n\r\n", 400), (put + b"Content-Length: 2\r\nContent-Length: 3\r\n\r\n{}", 400),
                 (put + b"Content-Length: 99999999999999999999\r\n\r\n", 413), (put + b"Content-Length: 1048577\r\n\r\n", 413),
                 (put + b"Content-Type: multipart/form-data; boundary=x\r\nContent-Length: 2\r\n\r\n{}", 415),
@@ -112,10 +114,6 @@ def bytes_that_are_no_requests(files, program):
             got = raw(data)
             assert got.startswith(b"HTTP/1.1 %d" % status) and b'{"message":"' in got, (data[:200], got[:300], status)
         assert time.time() - began < 60
-        # Bytes after a request, or the body of a read, are no second request.
-        reading = b"GET %s HTTP/1.1\r\nAuthorization: Bearer %s\r\n" % (PATH.encode(), token)
-        for data in (reading + b"\r\n" + reading + b"\r\n", reading + b"Content-Length: 9\r\n\r\n" + reading + b"\r\n"):
-            assert raw(data).count(b"HTTP/1.1 ") == 1
         # A client that stops in the middle is disconnected.
         began = time.time()
         assert b"400" in raw(put + b"Content-Length: 50\r\n\r\n{")[:20] and time.time() - began < 60
@@ -220,7 +218,7 @@ def a_service_that_is_not_there(files, program):
                 connection.close()
         for sends in (b"", b"HTTP/1.1 200 OK\r\nContent-Length: 900\r\n\r\n{", b"\0\0\0\r\n\r\n"):
             threading.Thread(target=take, args=(sends,), daemon=True).start()
-            expect(ask("PUT", f"{INTENTS}/{name}", intent(extent(MANHATTAN))), 504, "may be done or not")
+            expect(ask("PUT", f"{INTENTS}/{name}", intent(extent(MANHATTAN))), 504, OPEN)
             expect(ask("DELETE", f"{INTENTS}/{name}/0123456789abcdef"), 504, "ask again")
             expect(ask("GET", f"{INTENTS}/{name}"), 504, "ask again")
     assert gateway.end(), gateway.lines()[-3000:]

@@ -579,28 +579,70 @@ def steps_of_the_time(page, count=100):
         slider.dispatchEvent(new Event('input', {{ bubbles: true }}))""") for k in range(count))
 
 
-def ten_thousand_in_view(files, program):
-    """The page shows ten thousand references, moves and steps its slider in little processor time.
+# Work that does not depend on the page: passes over the pixels of its map, lines of many corners, and a picture. Its
+# processor time says how fast the machine is during a run.
+UNIT = """const it = window.unit ??= { from: document.createElement('canvas'), to: document.createElement('canvas'),
+      ids: Int32Array.from({ length: 1440000 }, (_, k) => k % 4093), out: new Uint32Array(1440000), sums: new Uint32Array(4096) };
+    for (const one of [it.from, it.to]) if (one.width !== 1600) Object.assign(one, { width: 1600, height: 900 });
+    const { ids, out, sums } = it, context = it.to.getContext('2d', { willReadFrequently: true });
+    for (let k = 0; k < ids.length; k++) out[k] = sums[ids[k]] ^ k;
+    for (let k = 0; k < 4096; k++) sums[k] += out[k];
+    context.drawImage(it.from, 3, 5);
+    for (let k = 0; k < 300; k++) {
+      context.beginPath();
+      for (let n = 0; n < 60; n++) context.lineTo(k * 5 + 40 * Math.cos(n), (k * 37) % 900 + 40 * Math.sin(n * 7));
+      context.stroke();
+    }
+    context.getImageData(0, 0, 1, 1)"""
+# The most units for the first view, a moved frame and a step of the slider. The first two are what 0.6 s and 20 ms are on the
+# machine of gateway/MAP.md, where the page of November 2026 needs 0.33 s and 14 ms.
+MOST_UNITS = 24, 0.8, 4
 
-    This is processor time of the page's main thread, without a graphics processor. A busy machine makes some steps long, so
-    the quick tenth counts, and each limit is four times what a quiet machine needs or more.
-    """
-    with over_map(files, program) as place, opened(place, 1600, 900) as page:
+
+def units(page, count=10):
+    return [busy(page, UNIT) for _ in range(count)]
+
+
+def shown_and_moved(place):
+    """Shows ten thousand references. Returns the milliseconds of processor time of the page's main thread for the first view,
+    for frames of a moved map, for steps of its slider, and for units, each but the first sorted."""
+    with opened(place, 1600, 900) as page:
         page.answer_with("*/map/changes.json*", json.dumps(many_references(10_000)))
         time.sleep(1)
         before = page.busy_seconds()
         enter(page, place.viewer)
         page.until("document.getElementById('counts').textContent === '10000 of 10000 are there'")
-        first = page.busy_seconds() - before
+        first = 1000 * (page.busy_seconds() - before)
         page.until("document.querySelectorAll('#all li').length === 21")
         page.value("new Promise((done) => setTimeout(done, 1000))")
-        moving = sorted(busy(page, f"""document.getElementById('map').dispatchEvent(
-            new KeyboardEvent('keydown', {{ key: '{key}' }}))""") for key in ["ArrowLeft", "ArrowRight"] * 10)
+        some = units(page)
+        moving = [busy(page, f"""document.getElementById('map').dispatchEvent(
+            new KeyboardEvent('keydown', {{ key: '{key}' }}))""") for key in ["ArrowLeft", "ArrowRight"] * 10]
+        page.value("new Promise((done) => setTimeout(done, 1000))")
+        some += units(page)
         steps = steps_of_the_time(page)
-        print(f"processor time: first view {first:.2f} s; a moved frame {moving[10]:.1f} ms in the median; a step {steps[50]:.1f} ms, {steps[98]:.1f} at p99")
-        assert first < 4 and moving[2] < 80 and steps[10] < 100, (first, moving, steps)
         left = int(text(page, "counts").split()[0])
         assert 4000 < left < 9000, left
+    return first, sorted(moving), steps, sorted(some)
+
+
+def ten_thousand_in_view(files, program):
+    """The page shows ten thousand references, moves and steps its slider in little processor time: as little as a first view
+    in 0.6 s and a frame in 20 ms on the machine of gateway/MAP.md.
+
+    A machine is slow or busy, so the limits count in units that are measured beside. The quick tenth of frames, steps and
+    units counts, and the whole may be tried again.
+    """
+    with over_map(files, program) as place:
+        for _ in range(3):
+            first, moving, steps, some = shown_and_moved(place)
+            unit = some[len(some) // 10]
+            found = first / unit, moving[2] / unit, steps[10] / unit
+            print(f"processor time: first view {first / 1000:.2f} s; a moved frame {moving[10]:.1f} ms in the median; a step {steps[50]:.1f} ms,"
+                  f" {steps[98]:.1f} at p99; a unit {unit:.1f} ms; {' '.join(f'{it:.2f}' for it in found)} units")
+            if all(it < most for it, most in zip(found, MOST_UNITS)):
+                return
+        raise AssertionError((found, first, moving, steps, some))
 
 
 # ---- what changed

@@ -4,7 +4,8 @@ The last line is 'N passed, N failed', with ', N skipped' after it if a case can
 
     try_all.py DIRECTORY SANITIZED-DIRECTORY [NAME..]
 
-Each case is printed with its seconds. JOBS cases run in parallel [default: one for each processor]."""
+Each case is printed with its seconds. JOBS cases run in parallel [default: one for each processor and one more, since
+some wait]."""
 import concurrent.futures
 import os
 import sys
@@ -17,6 +18,7 @@ import flaws
 import flows
 import hostile
 import issuer_keys
+import kept
 import map_page
 import map_warns
 import mapping
@@ -31,7 +33,7 @@ import world
 # Expensive cases, which run over the plain program.
 PLAIN = [flows.drawn_outlines_meet, hostile.hard_outlines_are_answered_soon, *bounds.PLAIN]
 
-MODULES = (bounds, flows, hostile, issuer_keys, map_page, map_warns, mapping, maps, pools, walk)
+MODULES = (bounds, flows, hostile, issuer_keys, kept, map_page, map_warns, mapping, maps, pools, walk)
 
 
 def run(name, case):
@@ -75,9 +77,9 @@ def run_named(name, built, sanitized):
 
 def main(built, sanitized, *names):
     known = ["points_inside_are_covered", "flaws", "slow_clients_keep_nobody_out", "a_service_that_is_not_there", "any_body_is_answered_with_sanitizers"]
-    known += [it.__name__ for module in (bounds, pools, proxies, clients, packaged, hostile, issuer_keys, maps, map_page, map_warns, flows, walk, properties, mapping) for it in module.ALL if it.__name__ not in known]
+    known += [it.__name__ for module in (bounds, kept, pools, proxies, clients, packaged, hostile, issuer_keys, maps, map_page, map_warns, flows, walk, properties, mapping) for it in module.ALL if it.__name__ not in known]
     counts = {"passed": 0, "failed": 0, "skipped": 0}
-    with concurrent.futures.ProcessPoolExecutor(int(os.environ.get("JOBS") or os.cpu_count())) as pool:
+    with concurrent.futures.ProcessPoolExecutor(int(os.environ.get("JOBS") or os.cpu_count() + 1)) as pool:
         asked = [pool.submit(run_named, it, built, sanitized) for it in names or known]
         for each in concurrent.futures.as_completed(asked):
             for name, seconds, how, why in each.result():

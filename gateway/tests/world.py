@@ -4,6 +4,7 @@ import http.client
 import json
 import os
 import pathlib
+import re
 import shutil
 import signal
 import socket
@@ -151,18 +152,14 @@ class Gateway:
             conforms.check_gateway(method, path, answer.status, answer.text)
         return answer
 
-    def raw(self, data, end=False):
-        """Sends bytes on a separate connection, and returns all that arrives."""
+    def raw(self, data, end=False, count=1):
+        """Sends bytes on a separate connection, and returns that many responses, or all that arrives until the connection ends."""
         with socket.create_connection(("127.0.0.1", self.port), 120) as it:
             with contextlib.suppress(OSError):
                 it.sendall(data)
                 if end:
                     it.shutdown(socket.SHUT_WR)
-            got = b""
-            with contextlib.suppress(OSError):
-                while piece := it.recv(65536):
-                    got += piece
-            return got
+            return responses(it, count)
 
 
 class Service:
@@ -298,6 +295,26 @@ def read_message(reader):
         if line.lower().startswith(b"content-length:"):
             length = int(line.split(b":")[1])
     return None
+
+
+def responses(connection, count=1):
+    """Returns the bytes of that many responses from a socket, with interim responses, or all that arrives until it ends."""
+    got, at = b"", 0
+    while count:
+        head, end, body = got[at:].partition(b"\r\n\r\n")
+        is_interim = head.startswith(b"HTTP/1.1 1")
+        length = 0 if is_interim or not end else int(re.search(rb"(?i)\r\ncontent-length: (\d+)", head)[1])
+        if end and len(body) >= length:
+            at += len(head) + len(end) + length
+            count -= not is_interim
+            continue
+        piece = b""
+        with contextlib.suppress(OSError):
+            piece = connection.recv(65536)
+        if not piece:
+            break
+        got += piece
+    return got
 
 
 def stamp(second, form="%Y-%m-%dT%H:%M:%SZ"):
