@@ -130,11 +130,11 @@ def table_of_client(parts):
 
 
 def table_of_limits(parts, is_policy):
-    """Returns the table of all limits, or of those beyond which a rule is broken."""
+    """Returns the table of the limits beyond which a rule is broken, or of the others."""
     found, rows = denials(parts), []
     for limit in parts["x-limits"]:
         rule, beyond = limit["beyond"].split()[0], limit["beyond"]
-        if not is_policy or rule in found:
+        if (rule in found) == is_policy:
             value = value_of(at(parts, limit["schema"])) if "schema" in limit else limit["value"]
             failure = found.get(rule) or failures(parts).get(beyond)
             rows.append((limit["what"], value, f"{failure.status} `{beyond}`" if failure else beyond))

@@ -1,6 +1,6 @@
 """Prints the manual page of `dss`, its completions for bash, or the manual page of the gateway.
 
-They are made from the --help of the program, and the pages also from docs/OPERATE.md and gateway/README.md.
+They are made from the --help of the program, and the pages also from docs/OPERATE.md, gateway/README.md and gateway/MAP.md.
 
   manual.py page|completions|gateway PROGRAM VERSION"""
 import pathlib
@@ -109,7 +109,8 @@ def gateway(program, version):
     lines += ["dss-gateway \\- interface of ASTM F3548-21 before dss(1)", ".SH SYNOPSIS"]
     said = subprocess.run([program, "--help"], capture_output=True, text=True, check=True).stdout
     lines += as_it_is(re.sub(r"(?m)^gateway", "dss-gateway", said).splitlines())
-    lines += page_of((TOP / "gateway" / "README.md").read_text()) + [".SH SEE ALSO", "dss(1)"]
+    lines += [it for name in ("README.md", "MAP.md") for it in page_of((TOP / "gateway" / name).read_text())]
+    lines += [".SH SEE ALSO", "dss(1)"]
     return "\n".join(lines) + "\n"
 
 

@@ -14,67 +14,71 @@ from picture_of_crates import LAYERS, layer_of
 TOP = pathlib.Path(__file__).resolve().parent.parent
 # each a step in, below a function that calls it: the file and the function, after the crate where two have both
 PATH = """
-serve::serve_clients
-  event_loop::run_once
-    server_client::client_connection::turn
-      server_client::client_io::receive
-      server_client::client_io::ask
-        next::next
-          buffered::next_buffered
-            rest::head_so_far
-          call::route
-            routes::find
-            endpoint::kind
-            operation::read_as
-              body::read_body
-            token_table::caller
-        client_io::call
-          service::call
-            early::early
-            decide::decide
-              look_up::look_up
-                quota_space::entity
-                  reads::entity
-                    indexed::entity
-              standing::standing
-              needed::needed_with
-                reads::meeting
-                  indexed::meeting
-              needed::missing_from
-                missing::missing
-            effects::prepare
-              ovn::ovn_of
-              indexed_subscriptions::for_kind
-              notice::notices_of
-            space_quota::changes::apply
-              usage_table::delta
-              space_mirror::changes::enqueue
-                memory::replicate
+serve::serve
+  server::turns::run_once
+    server_clients::turns::turn
+      server_clients::client_connection::turn
+        server_clients::client_io::receive
+        server_clients::client_io::ask
+          next::next
+            buffered::next_buffered
+              rest::head_so_far
+            call::route
+              routes::find
+              endpoint::kind
+              operation::read_as
+                body::read_body
+              token_table::caller
+          database_backend::database::receive
+            service::call
+              early::early
+              decide::decide
+                look_up::look_up
+                  quota_space::entity
+                    reads::entity
+                      indexed::entity
+                standing::standing
+                needed::needed_with
+                  reads::meeting
+                    indexed::meeting
+                needed::missing_from
+                  missing::missing
+              effects::prepare
+                ovn::ovn_of
+                indexed_subscriptions::for_kind
+                notice::notices_of
+              space_quota::changes::apply
+                usage_table::delta
+                space_mirror::changes::enqueue
+                  memory::replicate
           next::texts_for_reply
             explain::explain_request
           outcomes::draft
             text::noted_text
               explained::explained_text
                 answer::reply_text
-    event_loop::commit_batch
-      service::commit
-        quota_space::commit
-          space_mirror::changes::commit
-            space_sql::batch::apply_batch
-              space_sql_write::batch::commit_batch
-                put::put_entity
-                notify::notify_all
-      server_client::client_connection::tell
-        connection::release
-        server_client::client_io::send
+    server::turns::settle
+      database_backend::database::settle
+        service::commit
+          quota_space::commit
+            space_mirror::changes::commit
+              space_sql::batch::apply_batch
+                space_sql_write::batch::commit_batch
+                  put::put_entity
+                  notify::notify_all
+  server::turns::tell_all
+    server_clients::client_connection::tell
+      connection::release
+      server_clients::client_io::send
 """
 # where a part of the path begins, and its title
 PARTS = {
-    "serve::serve_clients": "All connections",
-    "event_loop::run_once": "One iteration of the event loop",
-    "server_client::client_connection::turn": "The turn of a client",
+    "serve::serve": "All connections",
+    "server::turns::run_once": "The turns of a round",
+    "server_clients::turns::turn": "The turn of a client",
     "next::next": "Its next request",
     "call::route": "The call of the request",
+    "database_backend::database::receive": "The request, given to the backend",
     "early::early": "Stateless rules",
     "look_up::look_up": "What the call names, from the mirror",
     "standing::standing": "Stateful rules",
@@ -82,14 +86,14 @@ PARTS = {
     "effects::prepare": "Change and answer, prepared",
     "space_quota::changes::apply": "The quota, then the mirror: the change is pending",
     "next::texts_for_reply": "With --explain: what is wrong, what is ignored",
-    "outcomes::draft": "The response, deferred",
-    "event_loop::commit_batch": "The end of the batch",
+    "outcomes::draft": "The response, which waits for the commit",
+    "server::turns::settle": "The end of the batch",
     "space_sql::batch::apply_batch": "The SQL space: one transaction, one sync",
-    "server_client::client_connection::tell": "The response, sent",
+    "server::turns::tell_all": "The outcome, and the response, sent",
 }
 # the columns: the crates of each, by how their names begin
 LANES = {
-    "server": ("dss_", "server_"), "wire": ("wire_", "token_conf"), "service": ("service_",), "policy": ("policy_", "entity_"),
+    "server": ("server", "database_backend"), "wire": ("wire_", "token_conf"), "service": ("service_",), "policy": ("policy_", "entity_"),
     "quota": ("space_quota",), "mirror": ("space_mirror", "space_memory"), "SQL space": ("space_sql",),
 }
 FUNCTION = re.compile(r"^( *)(?:pub(?:\(\w+\))? )?fn (\w+)", re.M)
@@ -124,7 +128,7 @@ def place(step):
 
 def said_of(step):
     """The first sentence of what the source says of a function, or of the call of a space that it is."""
-    comments = [functions()[it][0][0] for it in (place(step), *named("space_core", place(step)[2]))]
+    comments = [functions()[it][0][0] for it in (place(step), *named("space_core", place(step)[2]), *named("server_backend", place(step)[2]))]
     comment = next((it for it in comments if it), "")
     text = " ".join(it.strip().lstrip("/").strip() for it in comment.splitlines()).replace("`", "")
     return re.split(r"(?<=[.]) ", text)[0]

@@ -12,6 +12,7 @@ from figures import FullAndVerbose
 from program import BUILT, run
 from purge import gone, many, purged_rows
 from retention import DAY, FAULTS, PURGED, Retaining, far
+from serving import Service
 from sockets import CLOSING, LAST, difference
 
 RESUME = asks("POST", "/purge/resume")
@@ -25,11 +26,13 @@ class Moved:
     """A service whose clock the test moves."""
 
     def move(self, seconds):
-        self.clock.write_bytes(struct.pack("q", seconds))
+        # Not write_bytes: it first makes the file empty, and the program, which maps it, then ends by SIGBUS.
+        with self.clock.open("r+b") as file:
+            file.write(struct.pack("q", seconds))
 
     def begin(self):
         self.clock = self.folder / "clock"
-        self.move(0)
+        self.clock.write_bytes(bytes(8))
         self.environment |= {"LD_PRELOAD": library("move_clock", self.folder), "CLOCK_FILE": str(self.clock)}
 
     def lines(self):
@@ -38,6 +41,14 @@ class Moved:
 
 
 class MovedService(Moved, AdminService):
+    def __init__(self):
+        super().__init__()
+        self.begin()
+
+
+class MovedAlone(Moved, Service):
+    """A service without a retention and without an admin port."""
+
     def __init__(self):
         super().__init__()
         self.begin()
@@ -124,6 +135,17 @@ def jumps():
         ])
         found += difference("told to end", started.asked(STOP), said(200, b"stopping\n"))
         return found + difference("the service", started.ended()[:2], (0, b""))
+
+
+def unwatched():
+    """Without a retention and an admin port a jump means nothing, and is not reported."""
+    with MovedAlone() as started:
+        found = []
+        for seconds in (FORTY_DAYS, -3600, 0):
+            started.move(seconds)
+            time.sleep(1.2)
+            found += difference("a client", started.exchange(CLOSING, ends=False), LAST)
+        return found + difference("lines", started.lines(), [])
 
 
 def deletes_nothing():
@@ -278,6 +300,7 @@ def file_of_the_time():
 
 CASES = {
     "clock-jumps": jumps,
+    "clock-jumps-unwatched": unwatched,
     "clock-jump-deletes-nothing": deletes_nothing,
     "late-start-purges-nothing": starts_late,
     "held-start-stays-held": held_start,

@@ -6,8 +6,8 @@ that crate and those of `Type::call` in one file, an edit must stand among the e
 must be made in some code, outside comments. Words in upper case stand for others. Requests, answers and paths of HTTP
 are looked at by other tests.
 
-A name that is said to be in a file must be made there. Each claim of PROOF names public functions, types or laws, after
-their crate. Each must have a contract in the index of contracts, which scripts/contracts makes from the sources."""
+A name that is said to be in a file must be made there. Each claim of PROOF and PROOF_POOL names public functions, types or
+laws, after their crate. Each must have a contract in the index of contracts, which scripts/contracts makes from the sources."""
 import functools
 import json
 import os
@@ -38,7 +38,7 @@ NO_NAME = re.compile(r"""[{"'=<>|$~!+\\]|^/|:[/ ]|^[PH]\d+( |$)|^\W+$""")
 OUTSIDE = ("tests/data/cases/", "tests/by_bytes/names.py")
 # Names of other programs, libraries and formats.
 OTHERS = set(
-    """String Vec Option ghost unfolding tactic auto plant wrote
+    """String Vec Option ghost unfolding abbrev tactic auto plant wrote
     rattle-kit-13b rattle-kit-13f logic dac8208d650f15bf Intel Xeon Processor
     89c25907 89c25909 89c2590b Host Date oauth2 libs2-dev s2geometry S2RegionCoverer RegionCoverer S2CellId CellID
     set_fixed_level set_max_cells GetCovering getCovering Covering region
@@ -183,21 +183,22 @@ def stated(crate):
 
 
 def claims():
-    """The rows of the tables of claims in PROOF: of each its line, and the contracts with their crates."""
-    text = (TOP / "docs" / "PROOF.md").read_text()
-    first, last = text.index("\n## Claims\n"), text.index("\n## Proved inside a crate\n")
-    for number, line in enumerate(text[first:last].splitlines(), text.count("\n", 0, first) + 1):
-        if line.startswith("|") and not line.startswith(("| claim | contract |", "|---")):
-            parts = re.findall(r"\[`(\w+)`\]\(PROOF_INDEX\.md#\w+\): ([^;|]*)", line.rpartition(" | ")[2])
-            yield number, [(crate, it) for crate, names in parts for it in re.findall(r"`([^`]+)`", names)]
+    """The rows of the tables of claims in PROOF and PROOF_POOL: of each its page and line, and the contracts with their crates."""
+    for page in ("docs/PROOF.md", "docs/PROOF_POOL.md"):
+        text = (TOP / page).read_text()
+        first, last = text.index("\n## Claims\n"), text.index("\n## Proved inside a crate\n")
+        for number, line in enumerate(text[first:last].splitlines(), text.count("\n", 0, first) + 1):
+            if line.startswith("|") and not line.startswith(("| claim | contract |", "|---")):
+                parts = re.findall(r"\[`(\w+)`\]\(PROOF_INDEX\.md#\w+\): ([^;|]*)", line.rpartition(" | ")[2])
+                yield f"{page}:{number}", [(crate, it) for crate, names in parts for it in re.findall(r"`([^`]+)`", names)]
 
 
 def unstated():
     """The claims that name no contract, or one of no public function, and what a document says is in another file."""
     rows = list(claims())
-    found = [f"docs/PROOF.md:{line}: no contract is named" for line, row in rows if not row]
+    found = [f"{line}: no contract is named" for line, row in rows if not row]
     pairs = [(line, *it) for line, row in rows for it in row]
-    found += [f"docs/PROOF.md:{line}: {crate} has no contract of {it}" for line, crate, it in pairs if it not in stated(crate)]
+    found += [f"{line}: {crate} has no contract of {it}" for line, crate, it in pairs if it not in stated(crate)]
     return found + elsewhere() + ([] if len(rows) > 70 else [f"{len(rows)} claims are not all"])
 
 

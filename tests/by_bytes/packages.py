@@ -20,7 +20,7 @@ PATHS = {
     "usr/share/man/man1/dss.1.gz": 0o644,
     "usr/share/bash-completion/completions/dss": 0o644,
     "usr/share/lintian/overrides/dss": 0o644,
-    **{f"{DOCUMENTS}/{it}": 0o644 for it in (*PAGES, "changelog.gz", "copyright", "made-of", "gateway/README.md")},
+    **{f"{DOCUMENTS}/{it}": 0o644 for it in (*PAGES, "changelog.gz", "copyright", "made-of", *(f"gateway/{it}.md" for it in ("MAP", "README", "TESTS")))},
     **{f"{DOCUMENTS}/{it.relative_to(TOP)}": 0o644 for it in (*TOP.glob("docs/*"), *TOP.glob("bench/*.md"), *TOP.glob("bench/*.svg"))},
     **{f"{DOCUMENTS}/{it.relative_to(TOP)}": it.stat().st_mode & 0o755
        for folder in ("examples", "deploy") for it in (TOP / folder).rglob("*") if it.is_file()},

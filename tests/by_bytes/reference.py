@@ -1,4 +1,4 @@
-"""Compares docs/OPERATE.md with the sources.
+"""Compares docs/OPERATE.md with the sources, and docs/POOL_OPERATE.md by the lines about pools.
 
 It compares the parts that scripts/reference makes, printed lines, bodies of the admin port, and alerts."""
 import re
@@ -7,6 +7,8 @@ import runpy
 from program import TOP
 
 PAGE = TOP / "docs" / "OPERATE.md"
+# Printed lines that begin so are in the page about operating a pool.
+POOL_PAGE, OF_POOLS = TOP / "docs" / "POOL_OPERATE.md", ("dss: etcd: ", "dss: pool: ")
 SOURCES = [it for crate in ("dss", "dss_command") for it in sorted(TOP.glob(f"crates/{crate}/src/*.rt"))]
 ADMIN = sorted(TOP.glob("crates/admin_http/src/*.rt"))
 
@@ -19,15 +21,18 @@ def made_parts():
 
 
 def printed_lines():
-    """The page has each line of `purge`, each that begins with `dss:` in a source, and no other. Braces in a source stand for any text."""
-    page = PAGE.read_text()
+    """The pages have each line of `purge`, each that begins with `dss:` in a source, and no other. Braces in a source stand for any text."""
+    pages = {it: it.read_text() for it in (PAGE, POOL_PAGE)}
     texts = {
         re.sub(r"\\\n\s*", "", it).removesuffix(r"\n")
         for source in SOURCES for it in re.findall(r'"((?:dss: |purged )(?:[^"\\]|\\\s|\\.)*)"', source.read_text())
     }
     patterns = {it: r"[^`\n]+?".join(map(re.escape, re.split(r"\{[^}]*\}", it))) for it in texts}
-    named = [it for it in re.findall(r"`(dss: [^`]+)`", page) if not it.endswith("..")]
-    found = [f"docs/OPERATE.md lacks {it}" for it, pattern in sorted(patterns.items()) if not re.search(pattern, page)]
+    found = []
+    for text, pattern in sorted(patterns.items()):
+        page = POOL_PAGE if text.startswith(OF_POOLS) else PAGE
+        found += [] if re.search(pattern, pages[page]) else [f"docs/{page.name} lacks {text}"]
+    named = [it for page in pages.values() for it in re.findall(r"`(dss: [^`]+)`", page) if not it.endswith("..")]
     found += [f"no source has {it}" for it in named if not any(re.fullmatch(pattern, it) for pattern in patterns.values())]
     return found + ([] if len(texts) > 20 else [f"{len(texts)} lines were found in the sources"])
 

@@ -93,21 +93,26 @@ def clock_that_fails():
     """If reading the clock fails, the connection ends before the request is answered. A broken protocol rule is
     answered without the clock. The next connection is served."""
     broken, refused = b"GET / HTTP/2\r\n", wire.answer(400, wire.compact({"message": "H1 HEAD"}), closes=True)
-    found = []
-    for name, at, sent, wanted, faults in (
-        ("the first reading", 1, ASKED + CLOSING, b"", CLOCK),
-        ("the second reading", 2, ASKED + CLOSING, ANSWER, CLOCK),
-        ("none for a rule of the wire", 2, ASKED + broken, ANSWER + refused, b""),
-    ):
-        with Room() as room:
-            more = {"LD_PRELOAD": room.library, "CLOCK_FAILS": str(at)}
-            count = 2 if faults else 1
-            with Service(count=count, more=more) as started:
-                found += difference(name, started.exchange(sent), wanted)
-                if faults:
-                    found += difference(f"after {name}", started.exchange(CLOSING), LAST)
-                found += silent(started, faults)
-    return found
+    with Room() as room:
+        fails = pathlib.Path(room.folder.name, "fails")
+        more = {"LD_PRELOAD": room.library, "CLOCK_FAILS_WHILE": str(fails)}
+        with Service(count=4, more=more) as started:
+            fails.touch()
+            found = difference("a request", started.exchange(ASKED + CLOSING), b"")
+            found += difference("a rule of the wire", started.exchange(broken), refused)
+            fails.unlink()
+            found += difference("the next connection", started.exchange(CLOSING), LAST)
+            with started.connect() as connection:
+                connection.sendall(ASKED)
+                got = b""
+                while len(got) < len(ANSWER) and (more := connection.recv(65_536)):
+                    got += more
+                fails.touch()
+                connection.sendall(CLOSING)
+                while more := connection.recv(65_536):
+                    got += more
+            found += difference("the second request", got, ANSWER)
+            return found + silent(started, CLOCK * 2)
 
 
 def second_service():

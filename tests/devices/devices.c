@@ -1,7 +1,8 @@
 /* Makes standard input and output give and take few bytes a call, and makes them and the clock fail.
    Numbers in the environment control this: READ_BYTES and WRITE_BYTES, the maximum of a call; READ_FIRST, that of the
    first read; READ_FAILS, WRITE_FAILS and CLOCK_FAILS, the number of the failing call; WRITE_STOPS, that of the first
-   call that takes no byte. It must be loaded before the C library. */
+   call that takes no byte. While the file CLOCK_FAILS_WHILE exists, the clock fails. It must be loaded before the C
+   library. */
 #define _GNU_SOURCE
 #include <errno.h>
 #include <stdlib.h>
@@ -50,7 +51,8 @@ int clock_gettime(clockid_t clock, struct timespec *time) {
     static long calls;
     if (clock == CLOCK_REALTIME) {
         calls += 1;
-        if (calls == set("CLOCK_FAILS")) {
+        const char *file = getenv("CLOCK_FAILS_WHILE");
+        if (calls == set("CLOCK_FAILS") || (file && access(file, F_OK) == 0)) {
             errno = EINVAL;
             return -1;
         }

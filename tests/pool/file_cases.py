@@ -232,8 +232,9 @@ def refused(pool):
     assert serve(folder, salt="another") == (1, [SETTINGS])
     assert pool.follow(folder, TOKENS, salt="another") == (1, "", f"{SETTINGS}\n")
     (folder / "moved").rename(chain)
-    # what a stopped process left, and files of others
-    for name in "next.db", "next.db-wal", "next.db.begun", "next.chain", "other.db", f"{first}.copy":
+    # what a stopped process left, also a chain without its file, and files of others
+    lone = chain_of(f"{1:020}{first[20:]}")
+    for name in "next.db", "next.db-wal", "next.db.begun", "next.chain", lone, "other.db", f"{first}.copy":
         (folder / name).write_bytes(b"x" * 9_000)
     create(pool.doors[0], put(92))
     status, printed, errors = pool.follow(folder, TOKENS)

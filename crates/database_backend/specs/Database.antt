@@ -34,6 +34,10 @@ settled_of d = d.settled
 abbrev pub told_of : {S : Type 0} → Database S → ℕ
 told_of d = d.told
 
+-- How many outcomes of the last commit are still to be given.
+abbrev pub left_of : {S : Type 0} → Database S → ℕ
+left_of d = settled_of d - told_of d
+
 -- The outcome of the last commit.
 abbrev pub outcome_of : {S : Type 0} → Database S → Result (Unit {0}) SpaceFault
 outcome_of d = d.outcome

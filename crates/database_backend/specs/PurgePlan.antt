@@ -4,7 +4,7 @@ use Rattle.std.specs.Duration.{as_nanos}
 use Rattle.std.specs.declared.time.Duration.{Duration}
 use Rattle.server_watch.specs.Deadline.{a_minute_after}
 use Rattle.server_watch.specs.Saturating.{add}
-use Rattle.server_watch.specs.declared.purger.PurgeFault.{PurgeFault}
+use Rattle.server_watch.specs.declared.purge_fault.PurgeFault.{PurgeFault}
 use Rattle.database_backend.specs.declared.purge_plan.PurgePlan.{PurgePlan}
 
 -- The time from which the next chunk is due, in nanoseconds.

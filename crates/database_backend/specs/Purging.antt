@@ -7,8 +7,8 @@ use Rattle.service_calls.specs.declared.service.Service.{Service}
 use Rattle.service_calls.specs.Purged.{IsPurge}
 use Rattle.server_backend.specs.declared.progress.Progress.{Progress}
 use Rattle.server_watch.specs.StoreWatch.{outcome_of_purge}
-use Rattle.server_watch.specs.declared.purger.PurgeFault.{PurgeFault}
-use Rattle.server_watch.specs.declared.purger.PurgeFault.TheVariants as fault
+use Rattle.server_watch.specs.declared.purge_fault.PurgeFault.{PurgeFault}
+use Rattle.server_watch.specs.declared.purge_fault.PurgeFault.TheVariants as fault
 use Rattle.database_backend.specs.Database.{is_open_in, plan_of, retention_of, service_of}
 use Rattle.database_backend.specs.PurgePlan.{IsDue, IsEarly, IsLeft, IsPlanned}
 use Rattle.database_backend.specs.declared.database.Database.{Database}

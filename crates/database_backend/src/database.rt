@@ -12,7 +12,7 @@ use server_backend::outcome::{Outcome, Received};
 use server_backend::progress::Progress;
 use server_backend::request::Request;
 use server_base::server_log::ServerLog;
-use server_watch::purger::PurgeFault;
+use server_watch::purge_fault::PurgeFault;
 use server_watch::store_watch::{CommitOutcome, outcome_of_batch, outcome_of_purge};
 use service_calls::service::Service;
 use service_step::reply::Reply;
@@ -115,8 +115,8 @@ impl<S: PurgeEnded + SnapshotSource + Drop> Backend for Database<S> {
     ghost use Rattle.server_backend.specs.BackendEvent.{Advances, Settles};
     ghost use Rattle.server_watch.specs.StoreWatch.{outcome_of_batch};
     ghost use Rattle.service_calls.specs.Held.{space_of};
-    ghost use Rattle.database_backend.specs.Database.{StepsAs, is_commit_due, is_open_in, outcome_of, retention_of, service_of, tickets_of};
-    ghost use Rattle.database_backend.specs.Numbers.{steps_have_numbers};
+    ghost use Rattle.database_backend.specs.Database.{StepsAs, is_commit_due, is_open_in, left_of, outcome_of, retention_of, service_of, tickets_of};
+    ghost use Rattle.database_backend.specs.Numbers.{steps_have_numbers, steps_leave_fewer};
     ghost use Rattle.database_backend.specs.Purging.{IsChunkDue, MakesProgress};
 
     ghost steps = { StepsAs S.Space S.GroupCommit.own };
@@ -126,6 +126,10 @@ impl<S: PurgeEnded + SnapshotSource + Drop> Backend for Database<S> {
     ghost is_over = { λ _. false };
 
     ghost numbered = { steps_have_numbers S.Space S.GroupCommit.own };
+
+    ghost outcomes = { left_of };
+
+    ghost dwindling = { steps_leave_fewer S.Space S.GroupCommit.own };
 
     fn receive(
         &mut self,

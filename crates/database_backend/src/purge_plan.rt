@@ -3,7 +3,7 @@ ghost use Rattle.std.specs.Prelude.{◌≡◌, ◌<◌, ◌↔◌, IsTrue, false
 ghost use Rattle.std.specs.Duration.{as_nanos};
 ghost use Rattle.database_backend.specs.PurgePlan.{IsDue, IsLeft, IsPlanned, due_of, is_running_in, removed_of, report_of, rests_in};
 
-use server_watch::purger::PurgeFault;
+use server_watch::purge_fault::PurgeFault;
 use std::mem;
 use std::time::Duration;
 

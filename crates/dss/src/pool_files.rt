@@ -26,6 +26,11 @@ const LOCK: &str = "lock";
 // The name of the file that is locked while another one is loaded, and while others are removed.
 const TURN: &str = "turn";
 
+// How the name of a database ends, and that of its chain.
+const DATABASE: &str = ".db";
+
+const CHAIN: &str = ".chain";
+
 // The suffixes of what can lie beside a database: its log, and what a stopped process left.
 const BESIDE: [&str; 4] = ["-wal", "-journal", ".begun", ".new"];
 
@@ -56,9 +61,9 @@ pub(crate) struct FileName {
 }
 
 impl FileName {
-    // Parses a name. Returns `None` if it is no name of a file of a pool.
-    fn parse(text: &str) -> Option<FileName> {
-        let (revision, numbers) = text.strip_suffix(".db")?.split_once('-')?;
+    // Parses a name that ends so. Returns `None` if it is no name of a file of a pool.
+    fn parse(text: &str, end: &str) -> Option<FileName> {
+        let (revision, numbers) = text.strip_suffix(end)?.split_once('-')?;
         let (settings, beginning) = numbers.split_once('-')?;
         Some(FileName {
             revision: number_of(revision)?,
@@ -255,12 +260,12 @@ impl<'a> PoolFiles<'a> {
         }
     }
 
-    // Returns the names of the files.
-    fn names(&self) -> io::Result<Vec<FileName>> {
+    // Returns the names of the files whose names end so.
+    fn names(&self, end: &str) -> io::Result<Vec<FileName>> {
         let mut names = Vec::new(self.rt.alloc());
         for entry in fs::read_dir(self.rt, self.folder)? {
             let entry = entry?;
-            if let Some(name) = FileName::parse(entry.file_name()) {
+            if let Some(name) = FileName::parse(entry.file_name(), end) {
                 names.push(name)?;
             }
         }
@@ -269,7 +274,7 @@ impl<'a> PoolFiles<'a> {
 
     /// Returns the name of the newest file, if there is one.
     pub(crate) fn newest(&self) -> io::Result<Option<FileName>> {
-        let names = self.names()?;
+        let names = self.names(DATABASE)?;
         Ok(newest_of(names.as_slice()))
     }
 
@@ -343,12 +348,13 @@ impl<'a> PoolFiles<'a> {
         folder.sync_all()
     }
 
-    /// Removes all files except the two newest. If another process has its turn, removes nothing:
-    /// that process can be about to open one of the others.
+    /// Removes all files except the two newest, with their chains, and the older chains of files
+    /// that a stopped process did not make. If another process has its turn, removes nothing: that
+    /// process can be about to open one of the others.
     pub(crate) fn keep_two(&self) -> io::Result<()> {
-        let names = self.names()?;
+        let (names, chains) = (self.names(DATABASE)?, self.names(CHAIN)?);
         let least = kept_from(names.as_slice());
-        if !has_older(names.as_slice(), least) {
+        if !has_older(names.as_slice(), least) && !has_older(chains.as_slice(), least) {
             return Ok(());
         }
         let Some(_turn) = self.try_lock(TURN)? else {
@@ -358,6 +364,10 @@ impl<'a> PoolFiles<'a> {
             if name.revision < least {
                 let path = self.path_of(*name)?;
                 self.remove_database(path.as_str())?;
+            }
+        }
+        for name in &chains {
+            if name.revision < least {
                 let chain = self.chain_path_of(*name)?;
                 remove(self.rt, chain.as_str())?;
             }

@@ -2,3 +2,4 @@ mod Counting
 mod Chunks
 mod Explaining
 mod PoolStarts
+mod Served

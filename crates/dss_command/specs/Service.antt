@@ -6,7 +6,7 @@ use Rattle.space_core.specs.declared.group_commit.GroupCommit as settles
 use Rattle.space_core.specs.declared.space.Space as spaces
 use Rattle.token_conf.specs.TokenFile.{TokenFile, salt_of}
 use Rattle.wire_http.specs.declared.moments.Moments as moments
-use Rattle.dss_server.specs.Serve.{ServesAll}
+use Rattle.database_laws.specs.Serve.{ServesAll}
 
 -- Holds if this is a new service over that space, with the salt of the token file.
 pub record IsServiceOver {S : Type 0} (tokens : TokenFile) (space : S) (service : Service S)

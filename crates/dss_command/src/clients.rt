@@ -8,13 +8,18 @@ use crate::fault::{Fault, io_fault};
 use crate::ports::{AdminListener, Listen, build_of, hosts_of, operators_address, print_ports};
 use crate::server_lines::Lines;
 use admin_http::build::BuildInfo;
-use dss_server::serve::serve_clients;
+use database_backend::database::Database;
+use database_laws::laws::calls_of_clients_are_one_list;
 use entity_core::salt::Salt;
+use server::laws::rounds_are_settled;
+use server::serve::serve;
 use server_base::backups::MakeBackups;
 use server_base::limits::Limits;
 use server_base::server_log::ServerLog;
 use server_base::sockets::Sockets;
 use server_base::trusted_time::LastTime;
+use server_watch::clock_watch::ClockWatch;
+use server_watch::time_record::TimeRecord;
 use server_watch::token_watch::{TokenSource, TokenWatch};
 use service_calls::service::Service;
 use space_core::purge_ended::PurgeEnded;
@@ -58,6 +63,15 @@ pub struct ServeConfig<'a> {
     pub verbose: bool,
 }
 
+// Returns the record of trusted times, if the clock is watched.
+fn record_of(is_watched: bool, last: Option<LastTime>) -> Option<TimeRecord> {
+    if is_watched {
+        Some(TimeRecord::new(last))
+    } else {
+        None
+    }
+}
+
 // Answers the clients of the sockets with a service over a space.
 fn serve_sockets<
     S: PurgeEnded + SnapshotSource + Drop,
@@ -84,24 +98,30 @@ fn serve_sockets<
         given.entry.keep given.entry.tokens.now space result.1 moments.old moments.new }
     ensures counted { OnOk result.0 (IsSome given.entry.limits.count ⊎ IsSome build.entry) }
 {
-    let mut service = Service::new(space, salt);
-    let served = serve_clients(
+    calls_of_clients_are_one_list::<S, M, T>();
+    rounds_are_settled::<Database<S>, M, T>();
+    let is_watched = given.keep.is_some() || build.is_some();
+    let clock = ClockWatch::new(given.keep, given.last, is_watched);
+    let record = record_of(is_watched, given.last);
+    let service = Service::new(space, salt);
+    let mut backend = Database::new(service, given.keep);
+    let served = serve(
         alloc,
         routes,
         given.tokens,
         watch,
-        &mut service,
+        clock,
+        record,
+        &mut backend,
         moments,
         sockets,
         backups,
         given.limits,
         given.explaining,
-        given.keep,
-        given.last,
         build,
         journal,
     );
-    (end_of_serving(served), service.into_space())
+    (end_of_serving(served), backend.into_service().into_space())
 }
 
 /// Answers the clients of a port with a new service over a space, and returns the space after the

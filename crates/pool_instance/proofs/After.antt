@@ -1,5 +1,5 @@
 -- Lemmas: the state of an instance after more events.
-use Rattle.std.proofs.Common.{◌≡◌, ◌==◌, ℕ, Bool, true, false, List, [], ◌∷◌, ◌++◌, length, Option, Some, None, refl, sym, ap, subst, ◌∙◌}
+use Rattle.std.proofs.Common.{◌≡◌, ◌==◌, ℕ, Bool, true, false, List, [], ◌∷◌, ◌++◌, length, Option, Some, None, refl, sym, ap, subst, ◌∙◌, arith}
 use Rattle.std.specs.Prelude.{count_by}
 use Rattle.std.specs.declared.vec.Vec.{Vec}
 use Rattle.std.proofs.lemmas.List.{append-nil}
@@ -179,6 +179,7 @@ module _ {L S : Type 0} (gl : logs.Ghosts L) (gs : spaces.Ghosts S) where
     retention = a.retention;
     sound = λ s. subst (λ (v : Service S). gs.is_sound (space_of v)) a.service s;
     stays_ended = a.ended;
+    received = omega (arith, a.received);
   }
 
   pub ids_alike : (old new : Instance L S) → Alike old new → ids_in new ≡ ids_in old

@@ -24,10 +24,10 @@ use Rattle.pool_core.specs.declared.log.Log as logs
 use Rattle.pool_core.proofs.Lists.{contains_at, contains_same}
 use Rattle.pool_core.proofs.Unlogged.{early_anywhere}
 use Rattle.pool_entry.specs.Acts.{acts_of}
-use Rattle.pool_instance.specs.Does.{Did, DidNothing}
+use Rattle.pool_instance.specs.Does.{Did, DidNothing, count_receipts}
 use Rattle.pool_instance.specs.Effects.{Forgets, ForgetsIn}
 use Rattle.pool_instance.specs.Lists.{asked, told}
-use Rattle.pool_instance.specs.Parts.{count_taken, heard_in, ids_of, ids_sent, is_ended, log_of, number_of, readings_in, retention_in, salt_in, sent_by, sent_in, space_in, unsent_in}
+use Rattle.pool_instance.specs.Parts.{count_received, count_taken, heard_in, ids_of, ids_sent, is_ended, log_of, number_of, readings_in, retention_in, salt_in, sent_by, sent_in, space_in, unsent_in}
 use Rattle.pool_instance.specs.Purging.{IsHeard}
 use Rattle.pool_instance.specs.Request.{call_of}
 use Rattle.pool_instance.specs.State.{AreOfBatch, AreRequests, IsAfter, IsInFlight, IsUpToDate}
@@ -54,9 +54,9 @@ module _ {L S : Type 0} (gl : logs.Ghosts L) (gs : spaces.Ghosts S) where
     pub heard : IsHeard (gl.writer (log_of old)) (events ++ more) (heard_in new)
     pub agreed : AreAgreedThen (retention_in old) (gl.writer (log_of old)) events more
 
-  pub did_by : (old new : Instance L S) (more : List InstanceEvent) → Stayed gl gs old new (log_events more) → (is_ended old ≡ true → is_ended new ≡ true)
+  pub did_by : (old new : Instance L S) (more : List InstanceEvent) → Stayed gl gs old new (log_events more) → (is_ended old ≡ true → is_ended new ≡ true) → count_received new ≡ count_received old + count_receipts more
       → ((past : Option (List LogEvent)) (start : Airspace) (events : List InstanceEvent) → IsAfter gl gs past start events old → Next start events more old new) → Did gl gs old more new
-  did_by old new more stayed ends next = record {
+  did_by old new more stayed ends count next = record {
     after = λ past start events is.
         let n = next past start events is in
         goes_on gl gs past start events more old new is stayed n.follows n.up n.requests n.heard n.agreed;
@@ -65,6 +65,7 @@ module _ {L S : Type 0} (gl : logs.Ghosts L) (gs : spaces.Ghosts S) where
     retention = stayed.retention;
     sound = stayed.sound;
     stays_ended = ends;
+    received = count;
   }
 
   -- Holds if the instance made no call, and took no entry.
@@ -93,13 +94,13 @@ module _ {L S : Type 0} (gl : logs.Ghosts L) (gs : spaces.Ghosts S) where
       (ap (λ (v : Service S). is_shut v) k.service ∙ up.goes) k.taken
       (λ b s h. subst (λ (v : Service S). IsContent gs.holds (space_of v) b) (sym k.service) h) flight
 
-  pub did_kept : (old new : Instance L S) (more : List InstanceEvent) → Kept old new (log_events more) → AreQuiet (gl.writer (log_of old)) more
+  pub did_kept : (old new : Instance L S) (more : List InstanceEvent) → Kept old new (log_events more) → AreQuiet (gl.writer (log_of old)) more → count_received new ≡ count_received old + count_receipts more
       → ((events : List InstanceEvent) → IsInFlight (gl.writer (log_of old)) events old.in_flight → IsInFlight (gl.writer (log_of old)) events new.in_flight)
       → ((start : Airspace) (events : List InstanceEvent) → AreRequests events (readings_in old) (unsent_in old) (sent_in old) old.received → AllMayFollow acts_of (salt_in old) start (gl.writer (log_of old)) events more)
       → ((events : List InstanceEvent) → AreRequests events (readings_in old) (unsent_in old) (sent_in old) old.received → AreRequests (events ++ more) (readings_in new) (unsent_in new) (sent_in new) new.received)
       → Did gl gs old more new
-  did_kept old new more k q flight follows requests =
-      did_by old new more (kept_stayed old new (log_events more) k) (λ h. k.ended ∙ h)
+  did_kept old new more k q count flight follows requests =
+      did_by old new more (kept_stayed old new (log_events more) k) (λ h. k.ended ∙ h) count
       (λ past start events is. record {
         follows = λ s. follows start events is.requests;
         up = λ goes.
@@ -157,7 +158,7 @@ module _ {L S : Type 0} (gl : logs.Ghosts L) (gs : spaces.Ghosts S) where
       → r.held.id ≡ old.received → call_of r.held.request ≡ call → r.stage ≡ Fresh → reads call.op ≡ true → Did gl gs old (Receives old.received call ∷ []) new
   did_receive_reading old new call r k flight rs hs n id asks stage reading =
       let more = Receives old.received call ∷ [] in
-      did_kept old new more k (receipt_quiet (gl.writer (log_of old)) old.received call)
+      did_kept old new more k (receipt_quiet (gl.writer (log_of old)) old.received call) (omega (arith, n))
       (λ events h. subst (λ v. IsInFlight (gl.writer (log_of old)) events v) (sym flight) h)
       (λ start events all. receipt_follows start (gl.writer (log_of old)) (salt_in old) events (readings_in old) (unsent_in old) (sent_in old) old.received call all)
       (λ events all.
@@ -169,7 +170,7 @@ module _ {L S : Type 0} (gl : logs.Ghosts L) (gs : spaces.Ghosts S) where
       → x.id ≡ old.received → call_of x.request ≡ call → Did gl gs old (Receives old.received call ∷ []) new
   did_receive_change old new call x k flight rs hs n id asks =
       let more = Receives old.received call ∷ [] in
-      did_kept old new more k (receipt_quiet (gl.writer (log_of old)) old.received call)
+      did_kept old new more k (receipt_quiet (gl.writer (log_of old)) old.received call) (omega (arith, n))
       (λ events h. subst (λ v. IsInFlight (gl.writer (log_of old)) events v) (sym flight) h)
       (λ start events all. receipt_follows start (gl.writer (log_of old)) (salt_in old) events (readings_in old) (unsent_in old) (sent_in old) old.received call all)
       (λ events all.
@@ -229,7 +230,7 @@ module _ {L S : Type 0} (gl : logs.Ghosts L) (gs : spaces.Ghosts S) where
       → Did gl gs old (Receives old.received call ∷ Answers old.received (AtOnce (now, call)) reply ∷ []) new
   did_deny old new now call rule reply k flight rs hs n broken is =
       let more = Receives old.received call ∷ Answers old.received (AtOnce (now, call)) reply ∷ [] in
-      did_kept old new more k (record { given = refl; offered = refl })
+      did_kept old new more k (record { given = refl; offered = refl }) (omega (arith, n))
       (λ events h. subst (λ v. IsInFlight (gl.writer (log_of old)) events v) (sym flight) h)
       (λ start events all.
       subst (λ (v : Reply). AllMayFollow acts_of (salt_in old) start (gl.writer (log_of old)) events (Receives old.received call ∷ Answers old.received (AtOnce (now, call)) v ∷ [])) (sym is)
@@ -245,7 +246,7 @@ module _ {L S : Type 0} (gl : logs.Ghosts L) (gs : spaces.Ghosts S) where
       → Did gl gs old (AsksForEnd q ∷ []) new
   did_ask old new q k flight rs hs n =
       let more = AsksForEnd q ∷ [] in
-      did_kept old new more k (record { given = refl; offered = refl })
+      did_kept old new more k (record { given = refl; offered = refl }) (omega (arith, n))
       (λ events h. subst (λ v. IsInFlight (gl.writer (log_of old)) events v) (sym flight) h)
       (λ start events all. (tt, tt))
       (λ events all.
@@ -257,7 +258,7 @@ module _ {L S : Type 0} (gl : logs.Ghosts L) (gs : spaces.Ghosts S) where
       → Did gl gs old (LearnsEnd q count ∷ []) new
   did_learn old new q count k flight rs hs n =
       let more = LearnsEnd q count ∷ [] in
-      did_kept old new more k (record { given = refl; offered = refl })
+      did_kept old new more k (record { given = refl; offered = refl }) (omega (arith, n))
       (λ events h. subst (λ v. IsInFlight (gl.writer (log_of old)) events v) (sym flight) h)
       (λ start events all. (tt, tt))
       (λ events all.
@@ -282,7 +283,7 @@ module _ {L S : Type 0} (gl : logs.Ghosts L) (gs : spaces.Ghosts S) where
         → ((events : List InstanceEvent) → AreRequests events (readings_in old) (unsent_in old) (sent_in old) old.received → AreRequests (events ++ fails) (readings_in new) (unsent_in new) (sent_in new) new.received)
         → Did gl gs old fails new
     fails_by flight is_open requests =
-        did_kept old new fails k (record { given = refl; offered = refl }) flight
+        did_kept old new fails k (record { given = refl; offered = refl }) (omega (arith, n)) flight
         (λ start events all. (is_open events all, tt)) requests
 
     -- The same of a request that was never offered.
@@ -294,7 +295,7 @@ module _ {L S : Type 0} (gl : logs.Ghosts L) (gs : spaces.Ghosts S) where
         → ((events : List InstanceEvent) → AreRequests events (readings_in old) (unsent_in old) (sent_in old) old.received → AreRequests (events ++ drops) (readings_in new) (unsent_in new) (sent_in new) new.received)
         → Did gl gs old drops new
     drops_by flight is_dropped requests =
-        did_kept old new drops k (record { given = refl; offered = refl }) flight
+        did_kept old new drops k (record { given = refl; offered = refl }) (omega (arith, n)) flight
         (λ start events all. (is_dropped events all, tt)) requests
 
     pub did_fail_reading : new.in_flight ≡ old.in_flight → (front : List Reading) (r : Reading) (back : List Reading) → readings_in old ≡ front ++ r ∷ back → readings_in new ≡ front ++ back → unsent_in new ≡ unsent_in old → r.held.id ≡ id
@@ -350,12 +351,12 @@ module _ {L S : Type 0} (gl : logs.Ghosts L) (gs : spaces.Ghosts S) where
 
   -- The instance has ended, and did nothing else with its requests.
   pub did_end : (old new : Instance L S) (more : List InstanceEvent) → Stayed gl gs old new (log_events more) → is_ended new ≡ true
-      → readings_in new ≡ readings_in old → unsent_in new ≡ unsent_in old → sent_in new ≡ sent_in old → new.received ≡ old.received → heard_in new ≡ heard_in old → batches_offered (gl.writer (log_of old)) more ≡ []
+      → readings_in new ≡ readings_in old → unsent_in new ≡ unsent_in old → sent_in new ≡ sent_in old → new.received ≡ old.received → heard_in new ≡ heard_in old → batches_offered (gl.writer (log_of old)) more ≡ [] → count_receipts more ≡ 0
       → ((start : Airspace) (events : List InstanceEvent) → AllMayFollow acts_of (salt_in old) start (gl.writer (log_of old)) events more)
       → ((events : List InstanceEvent) → AreRequests events (readings_in old) (unsent_in old) (sent_in old) old.received → AreRequests (events ++ more) (readings_in old) (unsent_in old) (sent_in old) old.received)
       → Did gl gs old more new
-  did_end old new more stayed ended rs hs slots n same none follows requests =
-      did_by old new more stayed (λ h. ended)
+  did_end old new more stayed ended rs hs slots n same none quiet follows requests =
+      did_by old new more stayed (λ h. ended) (omega (arith, n, quiet))
       (λ past start events is. record {
         follows = λ s. follows start events;
         up = λ goes. absurd (both (is_ended new) ended goes);

@@ -44,6 +44,7 @@ use Rattle.pool_instance.proofs.Agreed.{AreAgreedThen, hears_then, none_agreed, 
 use Rattle.pool_instance.proofs.Did.{Kept, did_by, did_end, kept_stayed}
 use Rattle.pool_instance.proofs.Ends.{none_ends, offered_once, offers_then, reading_ends, slots_of}
 use Rattle.pool_instance.proofs.Pending.{id_of_held, waiting_at}
+use Rattle.pool_instance.proofs.Receipts.{told_receipts}
 use Rattle.pool_instance.proofs.Steps.{IsNoReceipt, reaches_later}
 use Rattle.pool_instance.proofs.Take.{airspace_is, answered_all, answers_follow, answers_quiet, answers_unlogged, flight_other, flight_taken, given_is, told_in_place}
 use Rattle.pool_instance.proofs.Times.{both, times_append}
@@ -104,7 +105,7 @@ module _ {L S : Type 0} (gl : logs.Ghosts L) (gs : spaces.Ghosts S) where
         (agreed : (events : List InstanceEvent) → IsHeard (gl.writer (log_of old)) events (heard_in old) → AreAgreedThen (retention_in old) (gl.writer (log_of old)) events (offer ∷ [])) where
       pub did_offer : Did gl gs old (offer ∷ []) new
       did_offer =
-          did_by gl gs old new (offer ∷ []) (kept_stayed gl gs old new (TakesBatch bytes ∷ []) k) (λ h. k.ended ∙ h)
+          did_by gl gs old new (offer ∷ []) (kept_stayed gl gs old new (TakesBatch bytes ∷ []) k) (λ h. k.ended ∙ h) (omega (arith, n))
           (λ past start events is.
           let all = requests_were events is.requests in
           record {
@@ -202,7 +203,7 @@ module _ {L S : Type 0} (gl : logs.Ghosts L) (gs : spaces.Ghosts S) where
     pub did_take : Did gl gs old takes new
     did_take =
         did_by gl gs old new takes (record { history = subst (λ v. Continues (gl.history (log_of old)) (gl.history (log_of new)) (GivesEntry entry ∷ v)) (sym (answers_unlogged told)) stayed.history; writer = stayed.writer; salt = stayed.salt; retention = stayed.retention; sound = stayed.sound })
-        (λ h. ended ∙ h)
+        (λ h. ended ∙ h) (omega (arith, n, told_receipts told))
         (λ past start events is.
         let up = is.up_to_date going in
         let all = requests_given events is.requests in
@@ -224,7 +225,7 @@ module _ {L S : Type 0} (gl : logs.Ghosts L) (gs : spaces.Ghosts S) where
   pub did_end_given : (old new : Instance L S) (entry : LogEntry) → Stayed gl gs old new (GivesEntry entry ∷ []) → is_ended new ≡ true
       → readings_in new ≡ readings_in old → unsent_in new ≡ unsent_in old → sent_in new ≡ sent_in old → new.received ≡ old.received → heard_in new ≡ heard_in old → Did gl gs old (Gets entry ∷ []) new
   did_end_given old new entry stayed ended rs hs slots n same =
-      did_end gl gs old new (Gets entry ∷ []) stayed ended rs hs slots n same refl (λ start events. (tt, tt))
+      did_end gl gs old new (Gets entry ∷ []) stayed ended rs hs slots n same refl refl (λ start events. (tt, tt))
       (λ events all. none_ends events (Gets entry) (gets_no_receipt entry) refl (readings_in old) (unsent_in old) (sent_in old) old.received all refl)
 
   -- ---- a reading
@@ -290,7 +291,7 @@ module _ {L S : Type 0} (gl : logs.Ghosts L) (gs : spaces.Ghosts S) where
     -- The request failed.
     pub did_fail : Did gl gs old (Drops r.held.id ∷ []) new
     did_fail =
-        did_by gl gs old new (Drops r.held.id ∷ []) reply_stayed (λ h. ended ∙ h)
+        did_by gl gs old new (Drops r.held.id ∷ []) reply_stayed (λ h. ended ∙ h) (omega (arith, n))
         (λ past start events is.
         let w = waits events is.requests in
         record {
@@ -305,7 +306,7 @@ module _ {L S : Type 0} (gl : logs.Ghosts L) (gs : spaces.Ghosts S) where
     pub did_answer : is_due (count_taken old) r ≡ true → IsDoneOrDenied reply → Did gl gs old (Answers r.held.id (AfterFirst (count_taken old) (now, call)) reply ∷ []) new
     did_answer due final =
         let e = Answers r.held.id (AfterFirst (count_taken old) (now, call)) reply in
-        did_by gl gs old new (e ∷ []) reply_stayed (λ h. ended ∙ h)
+        did_by gl gs old new (e ∷ []) reply_stayed (λ h. ended ∙ h) (omega (arith, n))
         (λ past start events is.
         let w = waits events is.requests in
         let up = is.up_to_date going in

@@ -6,7 +6,7 @@ use Rattle.space_core.specs.declared.space.Space as spaces
 use Rattle.pool_core.specs.declared.log.Log as logs
 use Rattle.pool_core.specs.declared.log.LogFault.{LogFault}
 use Rattle.pool_core.specs.declared.log.LogFault.TheVariants as faults
-use Rattle.pool_instance.specs.Does.{FailedSo}
+use Rattle.pool_instance.specs.Does.{FailedSo, StoppedSo}
 use Rattle.pool_instance.specs.Effects.{FailsLog, with_end}
 use Rattle.pool_instance.specs.Lists.{asked}
 use Rattle.pool_instance.specs.Parts.{asked_stage, is_ended, is_fresh, is_fresh_by}
@@ -53,6 +53,12 @@ module _ {L S : Type 0} (gl : logs.Ghosts L) (gs : spaces.Ghosts S) where
   -- The instance had ended before.
   pub failed_before : (old : Instance L S) → is_ended old ≡ true → FailedSo gl gs old old Ended
   failed_before old h = (h, refl, inl (did_alike gl gs old old (alike_self old)))
+
+  pub stopped_before : (old : Instance L S) → is_ended old ≡ true → StoppedSo gl gs old old Ended
+  stopped_before old h = (h, refl, did_alike gl gs old old (alike_self old))
+
+  pub stopped_end : (old : Instance L S) → StoppedSo gl gs old (with_end old) Ended
+  stopped_end old = (refl, refl, did_alike gl gs old (with_end old) (alike_end old old (alike_self old)))
 
   -- The instance ended.
   pub failed_end : (old mid : Instance L S) → Alike gl gs old mid → FailedSo gl gs old (with_end mid) Ended

@@ -10,6 +10,7 @@ pub mod Places
 pub mod Did
 pub mod Entries
 pub mod Start
+pub mod Receipts
 pub mod Receive
 pub mod Fails
 pub mod Pairs

@@ -16,7 +16,7 @@ use Rattle.pool_entry.specs.Acts.{acts_of}
 use Rattle.pool_entry.specs.Spelling.{IsBatch}
 use Rattle.pool_entry.specs.declared.pool_call.PoolCall.{PoolCall}
 use Rattle.pool_instance.specs.Lists.{AreWritten}
-use Rattle.pool_instance.specs.Parts.{count_taken, heard_in, ids_in, ids_sent, ids_unsent, is_due, is_ended, is_fresh, log_of, purges_in, readings_in, retention_in, salt_in, sent_in, space_in, unsent_in}
+use Rattle.pool_instance.specs.Parts.{count_received, count_taken, heard_in, ids_in, ids_sent, ids_unsent, is_due, is_due_as, is_ended, is_fresh, log_of, purges_in, readings_in, retention_in, salt_in, sent_in, space_in, unsent_in}
 use Rattle.pool_instance.specs.Request.{call_of}
 use Rattle.pool_instance.specs.State.{IsAfter}
 use Rattle.pool_instance.specs.declared.fault.InstanceFault.{InstanceFault}
@@ -41,9 +41,29 @@ pub record IsDuePurge {L S : Type 0} (now : ℕ) (x : Instance L S) (until : ℕ
   pub end : until + seconds ≡ min now time
   pub step : (purges_in x).until + 60 ≤ until
 
+-- The number of the request that has this outcome.
+abbrev pub number_in : Outcome → ℕ
+number_in (Replied id reply) = id
+number_in (Failed id) = id
+
 -- The answer to a request in its place in the log.
 abbrev pub in_place : ℕ × Reply → InstanceEvent
 in_place told = Answers told.0 InPlace told.1
+
+-- How many requests are received in an event, and in some events.
+abbrev pub receipts_in : InstanceEvent → ℕ
+receipts_in (Receives id call) = 1
+receipts_in (Offers ids bytes) = 0
+receipts_in (Gets entry) = 0
+receipts_in (AsksForEnd question) = 0
+receipts_in (LearnsEnd question count) = 0
+receipts_in (Answers id basis reply) = 0
+receipts_in (Fails id) = 0
+receipts_in (Drops id) = 0
+
+abbrev pub count_receipts : List InstanceEvent → ℕ
+count_receipts [] = 0
+count_receipts (event ∷ events) = receipts_in event + count_receipts events
 
 module _ {L S : Type 0} (gl : logs.Ghosts L) (gs : spaces.Ghosts S) where
   -- Holds if an operation did exactly these events, whatever happened before.
@@ -55,6 +75,7 @@ module _ {L S : Type 0} (gl : logs.Ghosts L) (gs : spaces.Ghosts S) where
     pub retention : retention_in new ≡ retention_in old
     pub sound : gs.is_sound (space_in new) → gs.is_sound (space_in old)
     pub stays_ended : is_ended old ≡ true → is_ended new ≡ true
+    pub received : count_received new ≡ count_received old + count_receipts more
 
   -- Holds if an operation did nothing, and the same requests wait.
   pub record DidNothing (old new : Instance L S) : Type 0 where
@@ -82,6 +103,31 @@ module _ {L S : Type 0} (gl : logs.Ghosts L) (gs : spaces.Ghosts S) where
       ((a : Airspace) → IsSome (find (breaks a now call) early_rules))
       × Did old (Receives id call ∷ Answers id (AtOnce (now, call)) reply ∷ []) new
   ReceivedSo now call old new (Err fault) = FailedSo old new fault
+
+  -- Holds if an operation failed so, and the log gave nothing: it did nothing, or the instance has
+  -- ended.
+  abbrev pub StoppedSo : Instance L S → Instance L S → InstanceFault → Type 0
+  StoppedSo old new NoMemory = DidNothing old new × (is_ended new ≡ is_ended old)
+  StoppedSo old new Ended = (is_ended new ≡ true) × (ids_in new ≡ ids_in old) × Did old [] new
+
+  -- Holds if the instance received a call that breaks a stateless rule, and answered it at once. If
+  -- the call breaks none, it did nothing.
+  abbrev pub DeniedSo : (now : ℕ) (call : Call) → Instance L S → Instance L S
+      → Result (Option Reply) InstanceFault → Type 0
+  DeniedSo now call old new (Ok None) = (new ≡ old) × (is_ended old ≡ false)
+      × ((a : Airspace) (time : ℕ) → find (breaks a time call) early_rules ≡ None)
+  DeniedSo now call old new (Ok (Some reply)) =
+      ((a : Airspace) → IsSome (find (breaks a now call) early_rules))
+      × Did old (Receives (count_received old) call
+      ∷ Answers (count_received old) (AtOnce (now, call)) reply ∷ []) new
+  DeniedSo now call old new (Err fault) = StoppedSo old new fault
+
+  -- Holds if the instance received a request, which waits under the next number.
+  abbrev pub QueuedSo : (call : Call) → Instance L S → Instance L S → Result ℕ InstanceFault
+      → Type 0
+  QueuedSo call old new (Ok id) =
+      (id ≡ count_received old) × Did old (Receives id call ∷ []) new
+  QueuedSo call old new (Err fault) = StoppedSo old new fault
 
   -- ---- ask and learn
 
@@ -170,6 +216,17 @@ module _ {L S : Type 0} (gl : logs.Ghosts L) (gs : spaces.Ghosts S) where
       × ((r : Reading) × Contains (readings_in old) r × (r.held.id ≡ id)
       × IsReplyTo gs old.service new.service now (call_of r.held.request) replies.Fault)
   AnsweredSo now old new (Err fault) = FailedSo old new fault
+
+  -- Holds if the instance answered the reading with this number, if its end is reached. If the
+  -- service stopped, the instance has ended, and the reading waits still.
+  abbrev pub AnsweredAs : (now id : ℕ) → Instance L S → Instance L S
+      → Result (Option Outcome) InstanceFault → Type 0
+  AnsweredAs now id old new (Ok None) = (new ≡ old)
+      × All (λ r. is_due_as id (count_taken old) r ≡ false) (readings_in old)
+  AnsweredAs now id old new (Ok (Some outcome)) = (number_in outcome ≡ id)
+      × AnsweredSo now old new (Ok (Some outcome))
+  AnsweredAs now id old new (Err fault) = StoppedSo old new fault
+      × (is_ended old ≡ false → Contains (ids_in new) id)
 
   -- ---- fail
 

@@ -1,5 +1,5 @@
 -- The parts of an instance.
-use Rattle.std.specs.Prelude.{◌==◌, ℕ, Bool, true, false, nat_lt, not, List, [], ◌∷◌, ◌++◌, Option, Some, None, map, if◌then◌else◌}
+use Rattle.std.specs.Prelude.{◌≡◌, ◌==◌, ◌&&◌, ℕ, Bool, true, false, nat_lt, not, List, [], ◌∷◌, ◌++◌, Option, Some, None, map, slice_get, if◌then◌else◌}
 use Rattle.std.specs.List.{flat_map}
 use Rattle.std.specs.declared.vec.Vec.{Vec}
 use Rattle.service_calls.specs.Held.{salt_of, space_of}
@@ -38,6 +38,10 @@ purges_in x = x.purges
 -- How many entries the instance took.
 abbrev pub count_taken : {L S : Type 0} → Instance L S → ℕ
 count_taken x = x.taken
+
+-- How many requests the instance received. The next one gets this number.
+abbrev pub count_received : {L S : Type 0} → Instance L S → ℕ
+count_received x = x.received
 
 -- ---- requests
 
@@ -98,6 +102,15 @@ is_due_by taken stage = false
 
 abbrev pub is_due : ℕ → Reading → Bool
 is_due taken r = is_due_by taken r.stage
+
+-- The same of the reading with a number.
+abbrev pub is_due_as : (id taken : ℕ) → Reading → Bool
+is_due_as id taken r = r.held.id == id && is_due taken r
+
+-- Holds if the reading at this index has this number, and can be answered.
+abbrev pub IsDueAt : (taken : ℕ) → List Reading → (index id : ℕ) → Type 0
+IsDueAt taken rs index id = (r : Reading) × (slice_get rs index ≡ Some r) × (r.held.id ≡ id)
+    × (is_due taken r ≡ true)
 
 -- The stage after a question.
 abbrev pub asked_stage : (question : ℕ) → Stage → Stage

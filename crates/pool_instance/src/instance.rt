@@ -4,10 +4,11 @@ use crate::outcome::{Outcome, Received, Unanswered};
 use crate::purge_totals::PurgeTotals;
 use crate::request::Request;
 use crate::requests::{
-    Draft, do_acts, first_batch, first_due, has_fresh, note_end, note_question, pair,
-    place_of_change, place_of_reading, place_of_sent, reads,
+    Draft, do_acts, first_batch, first_due, has_fresh, is_reading_due, note_end, note_question,
+    pair, place_of_change, place_of_due, place_of_reading, place_of_sent, reads,
 };
 use crate::waiting::{Held, Reading, Stage};
+use policy_core::call::Call;
 use policy_core::early::early;
 use policy_core::reference::Missing;
 use pool_core::log::{Entry, Log, LogFault, OfferFault};
@@ -52,14 +53,14 @@ impl<L: Log + Drop, S: PurgeEnded + Drop> Instance<L, S> {
     ghost use Rattle.entity_core.specs.Airspace.{Airspace};
     ghost use Rattle.space_core.specs.Space.{IsContent};
     ghost use Rattle.service_calls.specs.Held.{is_shut, salt_of, space_of};
-    ghost use Rattle.pool_instance.specs.Does.{AnsweredSo, AskedSo, DidNothing, GaveUpSo, IsDuePurge};
+    ghost use Rattle.pool_instance.specs.Does.{AnsweredAs, AnsweredSo, AskedSo, DeniedSo, DidNothing, GaveUpSo, IsDuePurge, QueuedSo};
     ghost use Rattle.pool_instance.specs.Does.{LearnedSo};
     ghost use Rattle.pool_instance.specs.Does.{OfferedSo, PurgeOfferedSo, ReceivedSo, TookSo};
     ghost use Rattle.policy_core.specs.Policy.{breaks, early_rules};
     ghost use Rattle.pool_core.specs.Log.{entry_of};
     ghost use Rattle.pool_instance.specs.Effects.{FailsLog, Forgets, Holds, HoldsNoMore};
     ghost use Rattle.pool_instance.specs.Effects.{MakesEntry, with_end};
-    ghost use Rattle.pool_instance.specs.Parts.{count_taken, heard_in, ids_sent, is_ended, purges_in, retention_in, salt_in, space_in};
+    ghost use Rattle.pool_instance.specs.Parts.{IsDueAt, count_taken, heard_in, ids_sent, is_ended, purges_in, readings_in, retention_in, salt_in, space_in};
     ghost use Rattle.pool_instance.specs.Request.{call_of};
     ghost use Rattle.pool_instance.specs.State.{IsAfter};
 
@@ -209,6 +210,49 @@ impl<L: Log + Drop, S: PurgeEnded + Drop> Instance<L, S> {
         }
         self.received = next;
         Ok(Received::Waits(id))
+    }
+
+    /// Receives a call that breaks one of P1 to P6, at a time (Unix seconds), gives it a number, and
+    /// denies it at once. Returns `None` if it breaks none; nothing was done then.
+    pub fn deny(
+        &mut self,
+        alloc: Global,
+        now: u64,
+        call: &Call,
+    ) -> Result<Option<Reply>, InstanceFault>
+        ensures { DeniedSo L.Log S.Space now call.now self.old self.new result }
+    {
+        if self.ended {
+            return Err(InstanceFault::Ended);
+        }
+        let Some(rule) = early(call) else {
+            return Ok(None);
+        };
+        let Some(next) = self.received.checked_add(1) else {
+            return Err(self.end());
+        };
+        self.received = next;
+        Ok(Some(Reply::Denied(rule, Missing::empty(alloc))))
+    }
+
+    /// Receives a request that breaks none of P1 to P6, and returns its number. It waits: a reading
+    /// for the end of the log, any other request for the next batch.
+    pub fn queue(&mut self, request: Request) -> Result<u64, InstanceFault>
+        requires { (a : Airspace) (now : ℕ) → find (breaks a now (call_of request)) early_rules ≡ None }
+        ensures { QueuedSo L.Log S.Space (call_of request) self.old self.new result }
+    {
+        if self.ended {
+            return Err(InstanceFault::Ended);
+        }
+        let id = self.received;
+        let Some(next) = id.checked_add(1) else {
+            return Err(self.end());
+        };
+        if self.hold(id, request).is_err() {
+            return Err(InstanceFault::NoMemory);
+        }
+        self.received = next;
+        Ok(id)
     }
 
     // Adds a request that waits. It breaks no stateless rule.
@@ -405,6 +449,51 @@ impl<L: Log + Drop, S: PurgeEnded + Drop> Instance<L, S> {
             return Err(InstanceFault::Ended);
         }
         let Some(index) = first_due(self.readings.as_slice(), self.taken) else {
+            return Ok(None);
+        };
+        let reply = self
+            .service
+            .call(alloc, now, self.readings[index].held.request.call());
+        if reply.is_stopped() {
+            return Err(self.end());
+        }
+        let id = self.readings.remove(index).held.id;
+        match reply {
+            Reply::Fault => Ok(Some(Outcome::Failed(id))),
+            reply => Ok(Some(Outcome::Replied(id, reply))),
+        }
+    }
+
+    /// Returns the index and the number of the first reading from this index on whose end was
+    /// reached, if there is one.
+    pub fn next_due(&self, index: usize) -> Option<(usize, u64)>
+        ensures { IfSome result (λ due.
+            IsDueAt (count_taken self.now) (readings_in self.now) due.0 due.1) }
+    {
+        for place in index..self.readings.len() {
+            let reading = &self.readings[place];
+            if is_reading_due(reading, self.taken) {
+                return Some((place, reading.held.id));
+            }
+        }
+        None
+    }
+
+    /// Answers the reading with this number at a time (Unix seconds). Returns `None` if no such
+    /// reading waits, or if its end was not reached. If the service stops, the instance ends, and the
+    /// reading waits still.
+    pub fn answer_as(
+        &mut self,
+        alloc: Global,
+        now: u64,
+        id: u64,
+    ) -> Result<Option<Outcome>, InstanceFault>
+        ensures { AnsweredAs L.Log S.Space now id self.old self.new result }
+    {
+        if self.ended {
+            return Err(InstanceFault::Ended);
+        }
+        let Some(index) = place_of_due(self.readings.as_slice(), id, self.taken) else {
             return Ok(None);
         };
         let reply = self

@@ -9,7 +9,7 @@ ghost use Rattle.pool_instance.specs.declared.waiting.Held.{Held};
 ghost use Rattle.pool_instance.specs.declared.waiting.Reading.{Reading};
 ghost use Rattle.pool_instance.specs.Effects.{IsLastTime};
 ghost use Rattle.pool_instance.specs.Lists.{DidKeeping, IsFirstBatch, asked, told, told_of};
-ghost use Rattle.pool_instance.specs.Parts.{asked_stage, is_due, is_due_by, is_fresh, is_number};
+ghost use Rattle.pool_instance.specs.Parts.{asked_stage, is_due, is_due_as, is_due_by, is_fresh, is_number};
 ghost use Rattle.pool_instance.specs.Parts.{stage_after};
 
 use crate::purge_totals::PurgeTotals;
@@ -104,6 +104,20 @@ pub(crate) fn first_due(readings: &[Reading], taken: u64) -> Option<usize>
     readings
         .iter()
         .position(|reading| is_due(reading.stage, taken))
+}
+
+/// Returns the index of the reading with this number, if its end was reached.
+pub(crate) fn place_of_due(readings: &[Reading], id: u64, taken: u64) -> Option<usize>
+    ensures { result ≡ position (is_due_as id taken) readings.now }
+{
+    readings.iter().position(|reading| reading.held.id == id && is_due(reading.stage, taken))
+}
+
+/// Returns true if the reading waits for an end that was reached.
+pub(crate) fn is_reading_due(reading: &Reading, taken: u64) -> bool
+    ensures { result ≡ is_due taken reading.now }
+{
+    is_due(reading.stage, taken)
 }
 
 /// Returns the index of the reading with this number.

@@ -1,5 +1,5 @@
 -- Lemmas: what an instance does for its server.
-use Rattle.std.proofs.Common.{ℕ, List, [], ◌∷◌, ◌++◌, map, Option, Result, Ok, Err, refl, sym, subst, ◌∙◌, inl, inr, append_assoc}
+use Rattle.std.proofs.Common.{ℕ, List, [], ◌∷◌, ◌++◌, map, Option, Result, Ok, Err, refl, sym, subst, ◌∙◌, arith, inl, inr, append_assoc}
 use Rattle.std.specs.Prelude.{All}
 use Rattle.std.proofs.lemmas.List.{append-nil}
 use Rattle.std.proofs.lemmas.List.Elements.{All-cons, All-nil}
@@ -16,6 +16,7 @@ use Rattle.pool_instance.specs.State.{IsAfter}
 use Rattle.pool_instance.specs.declared.fault.InstanceFault.{InstanceFault}
 use Rattle.pool_instance.specs.declared.fault.InstanceFault.TheVariants.{Ended, NoMemory}
 use Rattle.pool_instance.specs.declared.instance.Instance.{Instance}
+use Rattle.pool_instance.proofs.Receipts.{receipts_append}
 use Rattle.pool_instance.specs.declared.outcome.Received.{Received}
 use Rattle.pool_instance.specs.declared.outcome.Received.TheVariants.{Denied, Waits}
 use Rattle.pool_instance.specs.declared.waiting.Held.{Held}
@@ -32,6 +33,7 @@ module _ {L S : Type 0} (gl : logs.Ghosts L) (gs : spaces.Ghosts S) where
     retention = refl;
     sound = λ h. h;
     stays_ended = λ h. h;
+    received = omega arith;
   }
 
   pub did_then : (old : Instance L S) (a : List InstanceEvent) (mid : Instance L S) (b : List InstanceEvent) (new : Instance L S)
@@ -43,6 +45,7 @@ module _ {L S : Type 0} (gl : logs.Ghosts L) (gs : spaces.Ghosts S) where
     retention = q.retention ∙ p.retention;
     sound = λ h. p.sound (q.sound h);
     stays_ended = λ h. q.stays_ended (p.stays_ended h);
+    received = omega (arith, p.received, q.received, receipts_append a b);
   }
 
   -- The calls of some requests, at a time.

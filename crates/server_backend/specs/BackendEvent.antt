@@ -1,5 +1,5 @@
 -- The events of a backend.
-use Rattle.std.specs.Prelude.{◌≡◌, ◌≤◌, ℕ, suc, Bool, true, false, Option, Some, None}
+use Rattle.std.specs.Prelude.{◌≡◌, ◌<◌, ◌≤◌, ℕ, suc, Bool, true, false, Option, Some, None}
 use Rattle.std.specs.declared.time.Duration.{Duration}
 use Rattle.policy_core.specs.declared.call.Call.{Call}
 use Rattle.server_backend.specs.declared.outcome.Outcome.{Outcome}
@@ -41,6 +41,19 @@ HasNumber n (Announces ticket) n' = n' ≡ n
 HasNumber n (Answers moment ticket outcome) n' = n' ≡ n
 HasNumber n (Forgets ticket) n' = n' ≡ n
 HasNumber n Stops n' = n' ≡ n
+
+-- Holds if fewer outcomes can be given after one was given. `n` bounds their number before the
+-- event, and `n'` after it.
+abbrev pub LeavesFewer : ℕ → BackendEvent → ℕ → Type 0
+LeavesFewer n (Receives moment call received) n' = Unit {0}
+LeavesFewer n Settles n' = Unit {0}
+LeavesFewer n (Advances moment held now) n' = Unit {0}
+LeavesFewer n (Gives ticket outcome) n' = n' < n
+LeavesFewer n GivesNone n' = Unit {0}
+LeavesFewer n (Announces ticket) n' = Unit {0}
+LeavesFewer n (Answers moment ticket outcome) n' = Unit {0}
+LeavesFewer n (Forgets ticket) n' = Unit {0}
+LeavesFewer n Stops n' = Unit {0}
 
 -- The outcome that the backend gave in an event, with its ticket.
 abbrev pub outcome_in : BackendEvent → Option (ℕ × Outcome)

@@ -1,6 +1,6 @@
 //! The trait of backends.
 ghost use Rattle.std.specs.Prelude.{◌≡◌, ℕ, Bool, MatchOption, MatchResult};
-ghost use Rattle.server_backend.specs.BackendEvent.{Advances, Announces, Answers, BackendEvent, Forgets, Gives, GivesNone, HasNumber, Receives, Settles, Stops};
+ghost use Rattle.server_backend.specs.BackendEvent.{Advances, Announces, Answers, BackendEvent, Forgets, Gives, GivesNone, HasNumber, LeavesFewer, Receives, Settles, Stops};
 ghost use Rattle.server_backend.specs.Request.{IsRequestFor};
 
 use crate::outcome::{Outcome, Received};
@@ -35,6 +35,13 @@ pub trait Backend {
     /// States that no ticket is given twice.
     ghost numbered: { (old : Self) (event : BackendEvent) (new : Self) → steps old event new
         → HasNumber (tickets old) event (tickets new) };
+
+    /// Bounds the number of outcomes that it can give now.
+    ghost outcomes: { Self → ℕ };
+
+    /// States that the outcomes that it can give run out.
+    ghost dwindling: { (old : Self) (event : BackendEvent) (new : Self) → steps old event new
+        → LeavesFewer (outcomes old) event (outcomes new) };
 
     /// Receives a request at a time of the clock (Unix seconds) and of the monotonic clock.
     ///

@@ -1,5 +1,5 @@
 //! What a backend did besides answering requests.
-use server_watch::purger::PurgeFault;
+use server_watch::purge_fault::PurgeFault;
 use server_watch::store_watch::CommitOutcome;
 
 /// What a backend did besides answering requests, for the metrics and the log of the server.

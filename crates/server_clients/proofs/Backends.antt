@@ -33,7 +33,7 @@ module _ {B M T : Type 0} (b : backends.Ghosts B) (m : moments.Ghosts M) (t : so
   one (Tells event ticket outcome lost) events old mid n h k = (h.0, h.4, from events h.0 mid.backend n (ap (λ (s : ServerState B M T). s.backend) h.5) k)
   one (Works event) events old mid n h k = (h.0, h.2, from events h.0 mid.backend n (ap (λ (s : ServerState B M T). s.backend) h.3) k)
   one (Moves moment held now) events old mid n h k = (h.0, h.6, from events h.0 mid.backend n (ap (λ (s : ServerState B M T). s.backend) h.7) k)
-  one (Looks now found) events old mid n h k = from events old.backend mid.backend n (ap (λ (s : ServerState B M T). s.backend) h.2) k
+  one (Looks now found) events old mid n h k = from events old.backend mid.backend n (ap (λ (s : ServerState B M T). s.backend) h.3) k
   one Confirms events old mid n h k = from events old.backend mid.backend n (ap (λ (s : ServerState B M T). s.backend) h.3) k
   one Stops events old mid n h k = from events old.backend mid.backend n (ap (λ (s : ServerState B M T). s.backend) h.1) k
   one (Closes key) events old mid n h k = from events old.backend mid.backend n (ap (λ (s : ServerState B M T). s.backend) h.3) k

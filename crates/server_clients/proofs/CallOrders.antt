@@ -264,7 +264,7 @@ module _ {B M T : Type 0} (b : backends.Ghosts B) (m : moments.Ghosts M) (t : so
     )
     next (Works event) old mid key h is stays = (l, ap (λ (s : ServerState B M T). s.clients key) h.3 ∙ is, alike received all l l refl refl (λ done. done) p, ap (λ (s : ServerState B M T). s.table) h.3)
     next (Moves moment held now) old mid key h is stays = (l, ap (λ (s : ServerState B M T). s.clients key) h.7 ∙ is, alike received all l l refl refl (λ done. done) p, ap (λ (s : ServerState B M T). s.table) h.7)
-    next (Looks now found) old mid key h is stays = (l, ap (λ (s : ServerState B M T). s.clients key) h.2 ∙ is, alike received all l l refl refl (λ done. done) p, ap (λ (s : ServerState B M T). s.table) h.2)
+    next (Looks now found) old mid key h is stays = (l, ap (λ (s : ServerState B M T). s.clients key) h.3 ∙ is, alike received all l l refl refl (λ done. done) p, ap (λ (s : ServerState B M T). s.table) h.3)
     next Confirms old mid key h is stays = (l, ap (λ (s : ServerState B M T). s.clients key) h.3 ∙ is, alike received all l l refl refl (λ done. done) p, ap (λ (s : ServerState B M T). s.table) h.3)
     next Stops old mid key h is stays = (l, ap (λ (s : ServerState B M T). s.clients key) h.1 ∙ is, alike received all l l refl refl (λ done. done) p, ap (λ (s : ServerState B M T). s.table) h.1)
     next (Closes other) old mid key h is stays =

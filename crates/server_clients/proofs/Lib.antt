@@ -9,3 +9,4 @@ pub mod Sets
 pub mod States
 pub mod Steps
 pub mod Tellings
+pub mod Turns

@@ -211,7 +211,7 @@ module _ {B M T : Type 0} (b : backends.Ghosts B) (m : moments.Ghosts M) (t : so
   )
   next (Works event) old mid key l h is stays = keeps key (Works event) l mid (ap (λ (s : ServerState B M T). s.clients key) h.3 ∙ is) (λ events l' k. k)
   next (Moves moment held now) old mid key l h is stays = keeps key (Moves moment held now) l mid (ap (λ (s : ServerState B M T). s.clients key) h.7 ∙ is) (λ events l' k. k)
-  next (Looks now found) old mid key l h is stays = keeps key (Looks now found) l mid (ap (λ (s : ServerState B M T). s.clients key) h.2 ∙ is) (λ events l' k. k)
+  next (Looks now found) old mid key l h is stays = keeps key (Looks now found) l mid (ap (λ (s : ServerState B M T). s.clients key) h.3 ∙ is) (λ events l' k. k)
   next Confirms old mid key l h is stays = keeps key Confirms l mid (ap (λ (s : ServerState B M T). s.clients key) h.3 ∙ is) (λ events l' k. k)
   next Stops old mid key l h is stays = keeps key Stops l mid (ap (λ (s : ServerState B M T). s.clients key) h.1 ∙ is) (λ events l' k. k)
   next (Closes other) old mid key l h is stays =

@@ -18,21 +18,21 @@ use Rattle.server_clients.specs.ServerEvents.{Clients}
 
 -- ---- values under keys
 
-set_same : {X : Type 0} (values : ℕ → X) (key : ℕ) (value : X) → values key ≡ value → set_at values key value ≡ values
+pub set_same : {X : Type 0} (values : ℕ → X) (key : ℕ) (value : X) → values key ≡ value → set_at values key value ≡ values
 set_same {X} values key value is = λ i other.
     (elim (nat_eq other key) as (λ v. nat_eq other key ≡ v → cond v value (values other) ≡ values other) [
       | true ↦ λ e. sym is ∙ ap values (sym (eqb-true other key e))
       | false ↦ λ e. refl
     ] refl) i
 
-set_twice : {X : Type 0} (values : ℕ → X) (key : ℕ) (value last : X) → set_at (set_at values key value) key last ≡ set_at values key last
+pub set_twice : {X : Type 0} (values : ℕ → X) (key : ℕ) (value last : X) → set_at (set_at values key value) key last ≡ set_at values key last
 set_twice {X} values key value last = λ i other.
     (elim (nat_eq other key) as (λ v. cond v last (cond v value (values other)) ≡ cond v last (values other)) [
       | true ↦ refl
       | false ↦ refl
     ]) i
 
-set_there : {X : Type 0} (values : ℕ → X) (key : ℕ) (value : X) → set_at values key value key ≡ value
+pub set_there : {X : Type 0} (values : ℕ → X) (key : ℕ) (value : X) → set_at values key value key ≡ value
 set_there {X} values key value = ap (λ (v : Bool). cond v value (values key)) (eq-eqb key key refl)
 
 no_both : (b : Bool) → b ≡ true → b ≡ false → ⊥
@@ -127,6 +127,13 @@ changes_at name connections key p p' past now there h =
     let l = state_of_client name p in
     change_once (TakesSteps key l.name h.steps) (clients_with name connections) (clients_with name (with_value connections key p')) past now
     (l, client_there name connections key p (sym there), refl, state_of_client name p', h.by, clients_put name connections key p p' (sym there)) h.history
+
+-- The same from a state that was found in between.
+pub changes_at_from : {T : Type 0} (name : T → ℕ) (connections : Slab (ClientConnection T)) (key : ℕ) (p mid p' : ClientConnection T) (past now : Option (List HistoryEvent)) → Some p ≡ get connections key
+    → state_of_client name mid ≡ state_of_client name p → ClientSteps (state_of_client name mid) (state_of_client name p') past now
+    → SetChanges (clients_with name connections) (clients_with name (with_value connections key p')) past now
+changes_at_from name connections key p mid p' past now there same h =
+    changes_at name connections key p p' past now there (subst (λ (v : ClientState). ClientSteps v (state_of_client name p') past now) same h)
 
 -- A client took steps, after which it may be closed, and was removed.
 pub changes_closed : {T : Type 0} (name : T → ℕ) (old new : Slab (ClientConnection T)) (key : ℕ) (p : ClientConnection T) (l1 : ClientState) (after : Clients) → Some p ≡ get old key → Updates old new key None

@@ -11,3 +11,4 @@ pub mod Offered
 pub mod Replies
 pub mod ServerEvents
 pub mod Texts
+pub mod Turns

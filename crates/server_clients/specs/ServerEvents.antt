@@ -1,5 +1,5 @@
 -- The events of a server: what it does for its clients, and with its backend.
-use Rattle.std.specs.Prelude.{◌≡◌, ℕ, Bool, true, List, [], ◌∷◌, Option, Some, None, option_map, unwrap_or}
+use Rattle.std.specs.Prelude.{◌≡◌, ℕ, Bool, true, List, [], ◌∷◌, Option, Some, None, IfSome, option_map, unwrap_or}
 use Rattle.std.specs.List.{flat_map}
 use Rattle.std.specs.declared.time.Duration.{Duration}
 use Rattle.token_conf.specs.TokenFile.{TokenFile}
@@ -8,9 +8,9 @@ use Rattle.wire_http.specs.declared.explaining.Explaining.{Explaining}
 use Rattle.wire_http.specs.declared.moments.Moments as moments
 use Rattle.server_base.specs.History.{Accepted, Extends, HistoryEvent}
 use Rattle.server_base.specs.declared.server_log.ClockEvent.{ClockEvent}
-use Rattle.server_watch.specs.ClockWatch.{confirmed, is_held_in, state_of}
-use Rattle.server_watch.specs.Purger.{Records}
+use Rattle.server_watch.specs.ClockWatch.{Records, confirmed, is_held_in, state_of}
 use Rattle.server_watch.specs.TokenWatch.{LooksOnce}
+use Rattle.server_watch.specs.Tokens.{IsTakenAfter}
 use Rattle.server_watch.specs.declared.clock_watch.ClockWatch.{ClockWatch}
 use Rattle.server_watch.specs.declared.token_watch.TokenSource as sources
 use Rattle.server_watch.specs.declared.token_watch.TokenWatch.{TokenWatch}
@@ -147,6 +147,7 @@ module _ {B M T : Type 0} (b : backends.Ghosts B) (m : moments.Ghosts M) (t : so
       × (s' ≡ record s { backend = backend; clock = clock; known = known })
   Follows (Looks now found) s s' = (watch : TokenWatch T)
       × LooksOnce t setup.first now s.watch watch found
+      × IfSome found (IsTakenAfter t.gives setup.first)
       × (s' ≡ record s { table = unwrap_or found s.table; watch = watch })
   Follows Confirms s s' = (setup.is_operated ≡ true) × (known : ClockWatch)
       × (state_of known ≡ confirmed (state_of s.known)) × (s' ≡ record s { known = known })

@@ -5,6 +5,7 @@ ghost use Rattle.server_clients.specs.ClientConnection.{TellsAndSteps, state_of_
 ghost use Rattle.server_clients.specs.ClientEvents.{ClientRuns, served_client};
 ghost use Rattle.server_clients.specs.ClientState.{ClientSteps, IsClosable, limited};
 ghost use Rattle.server_clients.specs.ClientState.{new_client};
+ghost use Rattle.server_clients.specs.Turns.{ticket_in};
 
 use crate::client_io::{Asked, ClientIo, ReadOutcome, WriteOutcome};
 use crate::fair_queue::{ClassMember, FairQueue};
@@ -649,12 +650,10 @@ impl<T: ClientSocket> ClientConnection<T> {
     }
 
     /// Returns the ticket under which its request was drafted or waits, if it has no outcome yet.
-    pub fn ticket(&self) -> Option<u64> {
-        if self.io.is_waiting() {
-            self.io.ticket()
-        } else {
-            None
-        }
+    pub fn ticket(&self) -> Option<u64>
+        ensures { result ≡ ticket_in (state_of_client T.name self.now) }
+    {
+        self.io.ticket()
     }
 
     /// Returns the size of its draft in bytes.

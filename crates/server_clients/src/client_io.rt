@@ -6,6 +6,7 @@ ghost use Rattle.server_clients.specs.ClientIo.{Reads, Writes, client_state, con
 ghost use Rattle.server_clients.specs.ClientState.{ClientSteps, IsClosable, aborted, limited};
 ghost use Rattle.server_clients.specs.ClientState.{new_client, told};
 ghost use Rattle.server_clients.specs.Offered.{LosesOffer, OffersNext, PutsAs, Resolved};
+ghost use Rattle.server_clients.specs.Turns.{ticket_in};
 
 use crate::reason::Reason;
 use crate::request_context::RequestContext;
@@ -145,9 +146,15 @@ impl<T: ClientSocket> ClientIo<T> {
         self.connection.is_waiting()
     }
 
-    /// Returns the ticket of its last request that was drafted or waited, if it has no outcome yet.
-    pub(crate) fn ticket(&self) -> Option<u64> {
-        self.ticket
+    /// Returns the ticket under which its request was drafted or waits, if there is one.
+    pub(crate) fn ticket(&self) -> Option<u64>
+        ensures { result ≡ ticket_in (client_state T.name self.now) }
+    {
+        if self.connection.is_waiting() {
+            self.ticket
+        } else {
+            None
+        }
     }
 
     /// Returns the size of the draft in bytes.

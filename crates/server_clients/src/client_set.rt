@@ -1,12 +1,14 @@
 //! All clients of a port, and which of them goes on next.
-ghost use Rattle.std.specs.Prelude.{◌≡◌, IfOk};
+ghost use Rattle.std.specs.Prelude.{◌≡◌, ℕ, IfOk, IsTrue, None};
 ghost use Rattle.server_clients.specs.ClientSet.{AddsIf, ChangesClients, ChangesUnseen};
 ghost use Rattle.server_clients.specs.ClientSet.{KeepsClients, LimitsAt, LimitsBelow, clients_of};
 ghost use Rattle.server_clients.specs.ServerEvents.{no_clients};
 
+mod turns;
+
 use crate::client_connection::{ClientConnection, TurnOutcome};
 use crate::fair_queue::{ClassMember, FairQueue, WITHOUT_TOKEN};
-use crate::reason::Reason;
+use crate::reason::{Reason, reason_of};
 use server_base::limits::{LARGE_BUFFERS, Limits, MAX_CONNECTIONS};
 use server_base::sockets::{ClientSocket, SocketEvent, Sockets};
 use slab::Slab;
@@ -15,18 +17,6 @@ use std::collections::VecDeque;
 use std::mem;
 use std::time::Duration;
 use token_conf::token_table::TokenTable;
-use wire_http::StreamFault;
-
-// Returns the reason that a fault of a client is.
-fn reason_of(fault: StreamFault) -> Reason {
-    match fault {
-        StreamFault::Memory => Reason::Memory,
-        StreamFault::Clock => Reason::Clock,
-        StreamFault::Read => Reason::Read,
-        StreamFault::Write => Reason::Write,
-        StreamFault::Turns => Reason::Stop,
-    }
-}
 
 /// The clients of a port, under their keys, with the queues in which they wait.
 #[derive(Drop)]
@@ -78,7 +68,9 @@ impl<T: ClientSocket> ClientSet<T> {
     }
 
     /// Returns true if there is no client.
-    pub fn is_empty(&self) -> bool {
+    pub fn is_empty(&self) -> bool
+        ensures { IsTrue result → (key : ℕ) → clients_of T.name self.now key ≡ None }
+    {
         self.connections.is_empty()
     }
 

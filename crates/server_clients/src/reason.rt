@@ -1,4 +1,5 @@
 //! Why clients are answered no more.
+use wire_http::StreamFault;
 
 /// The reason why the server stopped answering a client.
 #[derive(Clone, Copy, Debug, PartialEq, Eq)]
@@ -17,4 +18,15 @@ pub enum Reason {
     Memory,
     /// The server stops.
     Stop,
+}
+
+/// Returns the reason that a fault of a client is.
+pub fn reason_of(fault: StreamFault) -> Reason {
+    match fault {
+        StreamFault::Memory => Reason::Memory,
+        StreamFault::Clock => Reason::Clock,
+        StreamFault::Read => Reason::Read,
+        StreamFault::Write => Reason::Write,
+        StreamFault::Turns => Reason::Stop,
+    }
 }

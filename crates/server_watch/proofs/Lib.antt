@@ -1,4 +1,3 @@
 mod Restarts
 mod Salts
 mod Verdicts
-mod Watches

@@ -150,24 +150,27 @@ jumps_of watch = watch.jumps
 abbrev pub is_held_in : ClockWatch → Bool
 is_held_in watch = holds_purges watch.state
 
--- The last reading by the monotonic clock, or none if the clock is to be read at once.
-abbrev pub looked_of : ClockWatch → Option Duration
-looked_of watch = watch.looked
-
--- True if the clock is read without a purge, too.
+-- True if jumps are reported.
 abbrev pub is_watched_in : ClockWatch → Bool
 is_watched_in watch = watch.is_watched
 
--- The last reading after a confirmation: none if purges were held, so that the clock is read at once.
-abbrev pub looked_after : (held : Bool) → Option Duration → Option Duration
-looked_after true looked = None
-looked_after false looked = looked
+-- Holds if this is known of the clock after it returned that time: a wrong time changes nothing but
+-- that purges are held, and any other is the last right time.
+abbrev pub Learns : (known : ClockState) → (moment : ℕ) → (now : Duration) → (known' : ClockState)
+    → Type 0
+Learns known moment now known' =
+    (IsWrong known moment now × (known' ≡ held_after known moment))
+    ⊎ (IsPlausible known moment now × (known' ≡ state.Right moment now))
 
--- Holds if the clock was not read for a second.
-abbrev pub IsUnreadFor : (looked : Option Duration) → (now : Duration) → Type 0
-IsUnreadFor None now = ⊤
-IsUnreadFor (Some looked) now = as_nanos looked + 1_000_000_000 ≤ as_nanos now
+-- Holds if this event, if any, reports what a time of the clock says, given what was known.
+abbrev pub IsNews : (known : ClockState) → (moment : ℕ) → (now : Duration) → Option ClockEvent
+    → Type 0
+IsNews known moment now event = (IsWrong known moment now × ReportsWrong known moment now event)
+    ⊎ (IsPlausible known moment now × (event ≡ news_of_right known))
 
--- Holds if the clock is to be read: it is watched, and was not read for a second.
-abbrev pub IsDue : ClockWatch → (now : Duration) → Type 0
-IsDue watch now = (is_watched_in watch ≡ true) × IsUnreadFor (looked_of watch) now
+-- Holds if the watch records this time of the clock, and the event reports what it says.
+abbrev pub Records : (moment : ℕ) → (now : Duration) → ClockWatch → ClockWatch → Option ClockEvent
+    → Type 0
+Records moment now old new event = Learns (state_of old) moment now (state_of new)
+    × IsNews (state_of old) moment now event × (jumps_of new ≡ jumps_after event (jumps_of old))
+    × (is_watched_in new ≡ is_watched_in old)

@@ -1,7 +1,6 @@
 pub mod ClockWatch
 pub mod Deadline
 pub mod Laws
-pub mod Purger
 pub mod Reference
 pub mod ResetWatch
 pub mod Saturating

@@ -6,8 +6,8 @@ use Rattle.server_base.specs.declared.server_log.StoreEvent.TheVariants as news
 use Rattle.server_watch.specs.declared.store_watch.CommitOutcome.{CommitOutcome}
 use Rattle.server_watch.specs.declared.store_watch.CommitOutcome.TheVariants as outcome
 use Rattle.server_watch.specs.declared.store_watch.StoreWatch.{StoreWatch}
-use Rattle.server_watch.specs.declared.purger.PurgeFault.{PurgeFault}
-use Rattle.server_watch.specs.declared.purger.PurgeFault.TheVariants as purge
+use Rattle.server_watch.specs.declared.purge_fault.PurgeFault.{PurgeFault}
+use Rattle.server_watch.specs.declared.purge_fault.PurgeFault.TheVariants as purge
 use Rattle.space_core.specs.declared.space.SpaceFault.{SpaceFault}
 use Rattle.space_core.specs.declared.space.SpaceFault.TheVariants as space
 

@@ -1,6 +1,6 @@
 //! The watch over the clock. A jump of the clock holds purges, since a wrong time ends flights.
 ghost use Rattle.std.specs.Prelude.{◌≡◌, ◌↔◌, None, Some, IfNone, IfSome, IsTrue, true, false};
-ghost use Rattle.server_watch.specs.ClockWatch.{IsDrift, IsDue, IsJump, IsNear, IsPlausible, IsWrong, ReportsWrong, confirmed, expected_at, held_after, is_held_in, is_watched_in, jumps_after, jumps_of, looked_after, looked_of, news_of_right, reference, state_of, trusted_of};
+ghost use Rattle.server_watch.specs.ClockWatch.{IsDrift, IsJump, IsNear, IsPlausible, IsWrong, ReportsWrong, confirmed, expected_at, held_after, is_held_in, is_watched_in, jumps_after, jumps_of, news_of_right, reference, state_of, trusted_of};
 ghost use Rattle.server_watch.specs.declared.clock_watch.ClockState.TheVariants as state;
 
 use crate::reference::Reference;
@@ -14,9 +14,6 @@ use std::time::Duration;
 const MAX_FORWARD: u64 = 60;
 
 const MAX_BACKWARD: u64 = 5;
-
-// The interval between readings of the clock, in seconds.
-const GAP: u64 = 1;
 
 // The difference between a time of the clock and the expected time.
 #[derive(Clone, Copy, Debug, PartialEq, Eq)]
@@ -83,19 +80,18 @@ fn expected_at(last: u64, then: Duration, now: Duration) -> u64
 #[derive(Clone, Copy, Debug)]
 pub struct ClockWatch {
     state: ClockState,
-    looked: Option<Duration>,
     jumps: u64,
-    // True if the clock is read without a purge, too.
+    // True if somebody is told of jumps.
     is_watched: bool,
 }
 
 impl ClockWatch {
     /// Creates a watch for a service with this retention, after a start with this last known time.
-    /// `is_watched` says whether the clock is read without a purge, too.
+    /// `is_watched` says whether jumps are reported: without a retention and an admin port they mean
+    /// nothing.
     pub fn new(keep: Option<u64>, last: Option<LastTime>, is_watched: bool) -> ClockWatch
         ensures state { state_of result ≡ state.Unread (reference keep last) }
         ensures jumps { jumps_of result ≡ 0 }
-        ensures looked { looked_of result ≡ None }
         ensures watched { is_watched_in result ≡ is_watched }
     {
         let start = match last {
@@ -104,7 +100,6 @@ impl ClockWatch {
         };
         ClockWatch {
             state: ClockState::Unread(start),
-            looked: None,
             jumps: 0,
             is_watched,
         }
@@ -155,27 +150,18 @@ impl ClockWatch {
         ensures held { is_held_in self.new ≡ false }
         ensures state { state_of self.new ≡ confirmed (state_of self.old) }
         ensures jumps { jumps_of self.new ≡ jumps_of self.old }
-        ensures looked { looked_of self.new
-            ≡ looked_after (is_held_in self.old) (looked_of self.old) }
         ensures watched { is_watched_in self.new ≡ is_watched_in self.old }
     {
         if self.is_held() {
             self.state = ClockState::Confirmed;
-            self.looked = None;
         }
     }
 
-    /// Returns true if the clock is watched, and was not read for a second.
-    pub fn is_due(&self, now: Duration) -> bool
-        ensures { IsTrue result ↔ IsDue self.now now }
+    /// Returns true if jumps are reported.
+    pub fn is_watched(&self) -> bool
+        ensures { result ≡ is_watched_in self.now }
     {
-        if !self.is_watched {
-            return false;
-        }
-        match self.looked {
-            Some(looked) => now.saturating_sub(looked) >= Duration::from_secs(GAP),
-            None => true,
-        }
+        self.is_watched
     }
 
     /// Records a time of the clock. Returns what became known of the clock, if anything.
@@ -191,10 +177,8 @@ impl ClockWatch {
         ensures right_event { IsPlausible (state_of self.old) moment now
             → result ≡ news_of_right (state_of self.old) }
         ensures jumps { jumps_of self.new ≡ jumps_after result (jumps_of self.old) }
-        ensures looked { looked_of self.new ≡ Some now }
         ensures watched { is_watched_in self.new ≡ is_watched_in self.old }
     {
-        self.looked = Some(now);
         let right = ClockState::Right(moment, now);
         match self.state {
             ClockState::Unread(None) => {

@@ -1,11 +1,11 @@
-//! What `serve` does besides requests: it checks the token file and the clock, purges, and reports
-//! the store and reset connections.
+//! What `serve` does besides requests: it checks the token file and the clock, and reports the store
+//! and reset connections.
 #![tactic(auto)]
 
 pub mod clock_watch;
 mod deadline;
 pub mod laws;
-pub mod purger;
+pub mod purge_fault;
 mod reference;
 pub mod reset_watch;
 pub mod store_watch;

@@ -6,7 +6,7 @@ ghost use Rattle.server_watch.specs.StoreWatch.{failures_of, outcome_of_batch, o
 ghost use Rattle.server_base.specs.declared.server_log.StoreEvent.TheVariants as news;
 
 use crate::deadline::is_before;
-use crate::purger::PurgeFault;
+use crate::purge_fault::PurgeFault;
 use server_base::response_info::ResponseInfo;
 use server_base::server_log::StoreEvent;
 use space_core::space::SpaceFault;

@@ -1,4 +1,4 @@
-//! Simulates `serve_clients` over sockets, a clock, a token file and a store in memory, whose
+//! Simulates `serve` over sockets, a clock, a token file and a store in memory, whose
 //! behaviour is drawn.
 //!
 //! The first argument is a seed, and the second one a number of simulations: one for that seed, and

@@ -15,9 +15,11 @@ use crate::tokens::{FIRST, SimTokens};
 use crate::verdict::{Facts, Failure, Flaw, judge};
 use admin_http::build::BuildInfo;
 use admin_http::web_page::OwnHosts;
-use dss_server::serve::serve_clients;
+use database_backend::database::Database;
 use entity_core::salt::Salt;
+use server::serve::serve as serve_clients;
 use server_base::backups::NoBackups;
+use server_watch::clock_watch::ClockWatch;
 use server_watch::token_watch::TokenWatch;
 use service_calls::service::Service;
 use space_core::batch::ApplyBatch;
@@ -100,7 +102,7 @@ fn failing<S: ApplyBatch + ToMemory + Drop>(
 fn serve<'a, S: PurgeEnded + SnapshotSource + Drop>(
     setting: &Setting,
     plan: &Plan,
-    service: &mut Service<S>,
+    backend: &mut Database<S>,
     watch: TokenWatch<SimTokens<'a>>,
     clock: &mut SimClock<'a>,
     sockets: &mut SimSockets<'a>,
@@ -116,19 +118,20 @@ fn serve<'a, S: PurgeEnded + SnapshotSource + Drop>(
         }),
     };
     let backups: Option<NoBackups> = None;
+    let known = ClockWatch::new(None, None, operated.is_some());
     serve_clients(
         setting.alloc,
         &setting.routes,
         &setting.tokens,
         watch,
-        service,
+        known,
+        None,
+        backend,
         clock,
         sockets,
         backups,
         plan.limits,
         plan.explaining,
-        None,
-        None,
         operated,
         journal,
     )
@@ -169,7 +172,8 @@ fn run_plan<S: PurgeEnded + SnapshotSource + CountsFailures + Drop>(
     let alloc = setting.alloc;
     let clients = plan.peers.len();
     let shared = Shared::new(alloc, clients).ok()?;
-    let mut service = Service::new(space, setting.salt.clone().ok()?);
+    let service = Service::new(space, setting.salt.clone().ok()?);
+    let mut backend = Database::new(service, None);
     let source = SimTokens {
         alloc,
         shared: &shared,
@@ -183,7 +187,7 @@ fn run_plan<S: PurgeEnded + SnapshotSource + CountsFailures + Drop>(
     let ended = serve(
         setting,
         &plan,
-        &mut service,
+        &mut backend,
         watch,
         &mut clock,
         &mut sockets,
@@ -201,7 +205,7 @@ fn run_plan<S: PurgeEnded + SnapshotSource + CountsFailures + Drop>(
         &shared,
         &sockets,
         &journal,
-        service,
+        backend.into_service(),
         reference,
         ended.is_ok(),
     ))

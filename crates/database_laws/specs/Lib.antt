@@ -1,0 +1,3 @@
+pub mod OneList
+pub mod Responses
+pub mod Serve

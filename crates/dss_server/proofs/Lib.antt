@@ -1,3 +1,0 @@
-pub mod Clients
-pub mod Running
-pub mod Serving

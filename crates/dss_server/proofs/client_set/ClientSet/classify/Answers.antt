@@ -1,5 +1,0 @@
-use Rattle.dss_server.proofs.Clients.{clients_kept}
-use Rattle.dss_server.proofs.client_set.ClientSet.classify.Goals as goal
-
-pub returns-in-Some : goal.returns-in-Some
-returns-in-Some g c = clients_kept g.T.ClientSocket.name c.args.self.now.committed c.args.self.now.connections c.args.key c.in-Some.client.now c.classify.new.self c.in-Some.ensures.value c.classify.ensures

@@ -1,9 +1,0 @@
-use Rattle.std.proofs.Common.{◌∙◌, refl}
-use Rattle.dss_server.proofs.Clients.{clients_kept}
-use Rattle.dss_server.proofs.client_set.ClientSet.free_large_buffer.Goals as goal
-
-pub returns : goal.returns
-returns g c = c.add_large_buffer.ensures ∙ clients_kept g.T.ClientSocket.name c.args.self.now.committed c.args.self.now.connections c.args.key c.in-Some.client.now c.return_large_buffer.new.self c.in-Some.ensures.value c.return_large_buffer.ensures
-
-pub returns-then-not-can_return_large_buffer : goal.returns-then-not-can_return_large_buffer
-returns-then-not-can_return_large_buffer g c = clients_kept g.T.ClientSocket.name c.args.self.now.committed c.args.self.now.connections c.args.key c.in-Some.client.now c.in-Some.client.now c.in-Some.ensures.value refl

@@ -1,6 +1,0 @@
-use Rattle.std.proofs.Common.{◌∙◌}
-use Rattle.dss_server.proofs.Clients.{clients_kept}
-use Rattle.dss_server.proofs.client_set.ClientSet.note.Goals as goal
-
-pub returns : goal.returns
-returns g c = c.queue.ensures ∙ clients_kept g.T.ClientSocket.name c.args.self.now.committed c.args.self.now.connections c.args.key c.in-Some.client.now c.note.new.self c.in-Some.ensures.value c.note.ensures

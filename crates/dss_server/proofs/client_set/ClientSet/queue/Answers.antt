@@ -1,9 +1,0 @@
-use Rattle.std.proofs.Common.{refl}
-use Rattle.dss_server.proofs.Clients.{clients_kept}
-use Rattle.dss_server.proofs.client_set.ClientSet.queue.Goals as goal
-
-pub returns : goal.returns
-returns g c = clients_kept g.T.ClientSocket.name c.args.self.now.committed c.args.self.now.connections c.args.key c.in-Some.client.now c.set_queued.new.self c.in-Some.ensures.value c.set_queued.ensures
-
-pub returns-then-is_queued : goal.returns-then-is_queued
-returns-then-is_queued g c = clients_kept g.T.ClientSocket.name c.args.self.now.committed c.args.self.now.connections c.args.key c.in-Some.client.now c.in-Some.client.now c.in-Some.ensures.value refl

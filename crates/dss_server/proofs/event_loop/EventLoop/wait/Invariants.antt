@@ -1,6 +1,0 @@
-use Rattle.std.specs.Prelude.{◌≡◌}
-use Rattle.dss_server.specs.ClientSet.{KeepsClients}
-use Rattle.dss_server.proofs.event_loop.EventLoop.wait.Given as goal
-
-abbrev pub invariant-loop : goal.invariant-loop
-invariant-loop g l = KeepsClients g.N.Client.ClientSocket.name l.fn.self.clients l.self.clients × (g.N.Sockets.history l.sockets ≡ g.N.Sockets.history l.fn.sockets)

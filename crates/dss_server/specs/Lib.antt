@@ -1,4 +1,0 @@
-pub mod ClientSet
-pub mod ServeEvents
-pub mod ServiceEvents
-pub mod Serve

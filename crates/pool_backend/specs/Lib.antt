@@ -1,0 +1,5 @@
+pub mod Numbers
+pub mod Own
+pub mod Pool
+pub mod Served
+pub mod Waiting

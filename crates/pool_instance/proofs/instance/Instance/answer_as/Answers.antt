@@ -1,0 +1,80 @@
+use Rattle.std.proofs.Common.{◌≡◌, refl, sym, ap, subst, ◌∙◌, true, List, Some, None, Ok, Err}
+use Rattle.std.specs.Prelude.{position}
+use Rattle.policy_core.specs.declared.call.Call.{Call}
+use Rattle.service_calls.specs.Run.{IsReplyTo}
+use Rattle.pool_instance.specs.Does.{AnsweredAs, AnsweredSo}
+use Rattle.pool_instance.specs.Parts.{is_due, is_due_as, is_ended, sent_in}
+use Rattle.pool_instance.specs.Request.{call_of}
+use Rattle.pool_instance.specs.declared.fault.InstanceFault.{InstanceFault}
+use Rattle.pool_instance.specs.declared.fault.InstanceFault.TheVariants.{Ended}
+use Rattle.pool_instance.specs.declared.outcome.Outcome.TheVariants.{Failed, Replied}
+use Rattle.pool_instance.specs.declared.waiting.Reading.{Reading}
+use Rattle.pool_instance.proofs.Answered.{answer_stops, answered_fault, answered_reply, due_as, final_reply, found_is, id_due_as, reading_waits}
+use Rattle.pool_instance.proofs.Fails.{stopped_before}
+use Rattle.pool_instance.proofs.Places.{position_found, position_none, position_within}
+use Rattle.pool_instance.proofs.Times.{both}
+use Rattle.pool_instance.proofs.instance.Instance.answer_as.Goals as goal
+
+pub returns-in_default : goal.returns-in_default
+returns-in_default g c =
+    let old = c.args.self.now in
+    let none : position (is_due_as c.args.id old.taken) old.readings.items ≡ None = ap (λ (v : List Reading). position (is_due_as c.args.id old.taken) v) (sym c.as_slice.ensures.value) ∙ sym c.place_of_due.ensures ∙ c.in_default.is in
+    (refl, position_none (is_due_as c.args.id old.taken) old.readings.items none)
+
+pub returns-then-self : goal.returns-then-self
+returns-then-self g c =
+    let old = c.args.self.now in
+    let ended : is_ended old ≡ true = c.if-self.true in
+    (stopped_before g.L.Log g.S.Space old ended, λ going. absurd (both (is_ended old) ended going))
+
+pub returns-then-is_stopped : goal.returns-then-is_stopped
+returns-then-is_stopped g c =
+    let old = c.args.self.now in
+    let i = c.in-Some.index in
+    let p = is_due_as c.args.id old.taken in
+    let xs = old.readings.items in
+    let there : position p xs ≡ Some i = ap (λ (v : List Reading). position p v) (sym c.as_slice.ensures.value) ∙ sym c.place_of_due.ensures ∙ c.in-Some.is in
+    let w = position_found p xs i there (position_within p xs i there) in
+    subst (λ (v : InstanceFault). AnsweredAs g.L.Log g.S.Space c.args.now c.args.id old c.end.new.self (Err v)) (sym c.end.ensures.fault)
+    (subst (λ v. AnsweredAs g.L.Log g.S.Space c.args.now c.args.id old v (Err Ended)) (sym c.end.ensures.ended) (
+      answer_stops g.L.Log g.S.Space old c.call-reply.new.self c.call-reply.ensures.reply.stays,
+      λ going. reading_waits c.args.id old.taken xs old.unsent.items (sent_in old) i w,
+    ))
+
+pub returns-in-Fault : goal.returns-in-Fault
+returns-in-Fault g c =
+    let old = c.args.self.now in
+    let i = c.in-Some.index in
+    let p = is_due_as c.args.id old.taken in
+    let xs = old.readings.items in
+    let new = record old { service = c.call-reply.new.self; readings = c.remove-id.new.self } in
+    let there : position p xs ≡ Some i = ap (λ (v : List Reading). position p v) (sym c.as_slice.ensures.value) ∙ sym c.place_of_due.ensures ∙ c.in-Some.is in
+    let w = position_found p xs i there (position_within p xs i there) in
+    let f = due_as c.args.id old.taken xs i w in
+    let same : c.call.result.now ≡ call_of f.one.held.request = c.call.ensures ∙ ap (λ (v : Reading). call_of v.held.request) (sym (found_is (is_due old.taken) xs i c.index.result.now f c.index.ensures)) in
+    let asked = subst (λ (v : Call). IsReplyTo g.S.Space old.service c.call-reply.new.self c.args.now v c.call-reply.result) same c.call-reply.ensures.reply in
+    let removed = found_is (is_due old.taken) xs i c.remove-id.result f c.remove-id.ensures.value in (
+      ap (λ (v : Reading). v.held.id) (sym removed) ∙ id_due_as c.args.id old.taken xs i w,
+      subst (λ (v : Reading). AnsweredSo g.L.Log g.S.Space c.args.now old new (Ok (Some (Failed v.held.id)))) removed
+          (answered_fault g.L.Log g.S.Space old new c.args.now i c.call-reply.result f c.if-self.false asked refl c.remove-id.ensures.items refl refl refl refl refl (sym c.is_stopped.ensures ∙ c.if-is_stopped.false) refl refl c.in-Fault.is),
+    )
+
+pub returns-in_default-reply : goal.returns-in_default-reply
+returns-in_default-reply g c =
+    let old = c.args.self.now in
+    let i = c.in-Some.index in
+    let p = is_due_as c.args.id old.taken in
+    let xs = old.readings.items in
+    let new = record old { service = c.call-reply.new.self; readings = c.remove-id.new.self } in
+    let there : position p xs ≡ Some i = ap (λ (v : List Reading). position p v) (sym c.as_slice.ensures.value) ∙ sym c.place_of_due.ensures ∙ c.in-Some.is in
+    let w = position_found p xs i there (position_within p xs i there) in
+    let f = due_as c.args.id old.taken xs i w in
+    let same : c.call.result.now ≡ call_of f.one.held.request = c.call.ensures ∙ ap (λ (v : Reading). call_of v.held.request) (sym (found_is (is_due old.taken) xs i c.index.result.now f c.index.ensures)) in
+    let asked = subst (λ (v : Call). IsReplyTo g.S.Space old.service c.call-reply.new.self c.args.now v c.call-reply.result) same c.call-reply.ensures.reply in
+    let goes = sym c.is_stopped.ensures ∙ c.if-is_stopped.false in
+    let removed = found_is (is_due old.taken) xs i c.remove-id.result f c.remove-id.ensures.value in (
+      ap (λ (v : Reading). v.held.id) (sym removed) ∙ id_due_as c.args.id old.taken xs i w,
+      subst (λ (v : Reading). AnsweredSo g.L.Log g.S.Space c.args.now old new (Ok (Some (Replied v.held.id c.call-reply.result)))) removed
+          (answered_reply g.L.Log g.S.Space old new c.args.now i c.call-reply.result f c.if-self.false asked refl c.remove-id.ensures.items refl refl refl refl refl goes refl refl
+          (final_reply c.call-reply.result c.in_default-reply.not-Fault goes)),
+    )

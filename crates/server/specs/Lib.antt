@@ -1,0 +1,4 @@
+pub mod Numbers
+pub mod Rounds
+pub mod Runs
+pub mod Watches

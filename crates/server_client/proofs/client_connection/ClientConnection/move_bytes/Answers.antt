@@ -1,5 +1,0 @@
-use Rattle.server_client.proofs.Steps.{free_then}
-use Rattle.server_client.proofs.client_connection.ClientConnection.move_bytes.Goals as goal
-
-pub returns-then-is_done : goal.returns-then-is_done
-returns-then-is_done g c = free_then _ _ _ _ _ _ c.prepare.ensures c.end.ensures

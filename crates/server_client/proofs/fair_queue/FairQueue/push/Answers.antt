@@ -1,5 +1,0 @@
-use Rattle.server_client.proofs.Queues.{got_set}
-use Rattle.server_client.proofs.fair_queue.FairQueue.push.Goals as goal
-
-pub returns : goal.returns
-returns c = λ h. (c.push.new.self, got_set c.args.self.now.classes.items c.args.index c.push.new.self c.in-Some.ensures.item.3.0, c.push.ensures h)
