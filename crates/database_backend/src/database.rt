@@ -11,9 +11,12 @@ use server_backend::backend::Backend;
 use server_backend::outcome::{Outcome, Received};
 use server_backend::progress::Progress;
 use server_backend::request::Request;
+use server_base::response_info::ResponseInfo;
 use server_base::server_log::ServerLog;
 use server_watch::purge_fault::PurgeFault;
-use server_watch::store_watch::{CommitOutcome, outcome_of_batch, outcome_of_purge};
+use server_watch::store_watch::{
+    CommitOutcome, outcome_of_batch, outcome_of_change, outcome_of_purge,
+};
 use service_calls::service::Service;
 use service_step::reply::Reply;
 use space_core::purge_ended::PurgeEnded;
@@ -237,6 +240,10 @@ impl<S: PurgeEnded + SnapshotSource + Drop> Backend for Database<S> {
 
     fn has_ended(&self) -> bool {
         false
+    }
+
+    fn store_after(&self, answer: ResponseInfo, is_failing: bool) -> Option<CommitOutcome> {
+        outcome_of_change(answer, is_failing)
     }
 
     fn share(&self) -> usize {

@@ -45,7 +45,8 @@ abbrev pub outcome_of : ReadingOutcome → Outcome
 outcome_of (Replied id reply) = outcomes.Replied reply
 outcome_of (Failed id) = outcomes.Replied replies.Fault
 
--- Holds if this outcome was put behind those that are to be given, or none was, since nobody waits.
+-- Holds if this outcome was put behind those that are to be given, or none was, since the
+-- request does not wait.
 abbrev pub MayGive : (ticket : ℕ) → Outcome → (old new : List (ℕ × Outcome)) → Type 0
 MayGive ticket outcome old new = (new ≡ old) ⊎ (new ≡ old ++ (ticket, outcome) ∷ [])
 

@@ -196,9 +196,10 @@ pub struct PoolInstance<L: Log, I, S: Space> {
     // The USS of a request that was refused and is to be logged, and until when none is logged.
     refused: Option<UssId>,
     silent_until: Duration,
-    // How long the log can wait, and whether the last advance did something.
+    // How long the log can wait, whether the last advance did something, and its time.
     log_patience: Duration,
     did: bool,
+    advanced: Duration,
     // The purges that were reported.
     purges: PurgeTotals,
 }
@@ -212,7 +213,7 @@ impl<L: Log + Drop, I: LogIo<L> + Drop, S: PurgeEnded + SnapshotSource + Drop> P
     ghost use Rattle.pool_instance.specs.Parts.{ids_in};
     ghost use Rattle.pool_backend.specs.Pool.{AnswersAs, DoesFor, IsNewPool, failure_for};
 
-    /// Creates a backend of an instance without requests that wait. At most so many can wait at
+    /// Creates a backend of an instance without requests that wait. At most `most` can wait at
     /// once: the memory for them is allocated here.
     pub fn new(
         alloc: Global,
@@ -238,8 +239,16 @@ impl<L: Log + Drop, I: LogIo<L> + Drop, S: PurgeEnded + SnapshotSource + Drop> P
             silent_until: Duration::ZERO,
             log_patience: Duration::ZERO,
             did: false,
+            advanced: Duration::ZERO,
             purges,
         })
+    }
+
+    /// Returns the instance.
+    pub fn instance(&self) -> &Instance<L, S>
+        ensures { result.now ≡ instance_of self.now }
+    {
+        &self.instance
     }
 
     // Returns true if the instance may act for the USS of a call, as far as that is known.
@@ -312,7 +321,7 @@ impl<L: Log + Drop, I: LogIo<L> + Drop, S: PurgeEnded + SnapshotSource + Drop> P
         }
     }
 
-    // Puts the outcome of a request that waits. If it does not wait, nobody needs it.
+    // Puts the outcome of a request that waits. If it does not wait, the outcome is dropped.
     fn give(&mut self, ticket: u64, outcome: Outcome)
         ensures instance { instance_of self.new ≡ instance_of self.old }
         ensures outcomes { MayGive ticket outcome (outcomes_of self.old) (outcomes_of self.new) }
@@ -373,14 +382,20 @@ impl<L: Log + Drop, I: LogIo<L> + Drop, S: PurgeEnded + SnapshotSource + Drop> P
         }
     }
 
-    // Fails the requests whose time is over, or all if the instance has ended.
+    // Fails all requests once the instance has ended.
+    fn fail_if_ended(&mut self)
+        ensures { DoesBy L.Log S.Space IsFailure self.old self.new }
+    {
+        if !self.instance.is_ended() {
+            return;
+        }
+        self.fail_all();
+    }
+
+    // Fails the requests whose time is over.
     fn fail_late(&mut self, now: Duration)
         ensures { DoesBy L.Log S.Space IsFailure self.old self.new }
     {
-        if self.instance.is_ended() {
-            self.fail_all();
-            return;
-        }
         for _ in 0..self.waiting.len() {
             let Some(ticket) = self.waiting.first_late(&self.instance, self.timeouts, now) else {
                 return;
@@ -518,6 +533,7 @@ impl<L: Log + Drop, I: LogIo<L> + Drop, S: PurgeEnded + SnapshotSource + Drop> P
 impl<L: Log + Drop, I: LogIo<L> + Drop, S: PurgeEnded + SnapshotSource + Drop> Backend
     for PoolInstance<L, I, S> {
     ghost use Rattle.pool_instance.specs.Parts.{is_ended};
+    ghost use Rattle.server_backend.specs.BackendEvent.{Settles};
     ghost use Rattle.pool_backend.specs.Numbers.{steps_have_numbers, steps_leave_fewer};
     ghost use Rattle.pool_backend.specs.Pool.{StepsAs, instance_of, left_of, tickets_of};
 
@@ -547,7 +563,10 @@ impl<L: Log + Drop, I: LogIo<L> + Drop, S: PurgeEnded + SnapshotSource + Drop> B
         }
     }
 
-    fn settle(&mut self) -> Option<CommitOutcome> {
+    fn settle(&mut self) -> Option<CommitOutcome>
+        ensures steps { StepsAs L.Log S.Space self.old Settles self.new }
+        ensures none { result ≡ None }
+    {
         None
     }
 
@@ -564,7 +583,10 @@ impl<L: Log + Drop, I: LogIo<L> + Drop, S: PurgeEnded + SnapshotSource + Drop> B
         self.check_waiting(now, journal);
         let did = self.advance_log(alloc, routes, moment, is_held, now);
         self.did = did;
-        self.fail_late(now);
+        // what was late in the last round: entries can take long, and answer what waits
+        let before = mem::replace(&mut self.advanced, now);
+        self.fail_late(before);
+        self.fail_if_ended();
         self.looked = 0;
         self.report_purges()
     }

@@ -39,7 +39,7 @@ pub(crate) struct WaitingList {
 impl WaitingList {
     ghost use Rattle.pool_backend.specs.Waiting.{HasRoom, given_by};
 
-    /// Creates an empty list, with the memory for so many requests and outcomes together.
+    /// Creates an empty list, with the memory for `most` requests and outcomes together.
     pub(crate) fn new(alloc: Global, most: usize) -> Result<WaitingList, AllocError>
         ensures { IfOk result (λ list. given_by list ≡ []) }
     {
@@ -163,8 +163,8 @@ impl WaitingList {
         None
     }
 
-    /// Records that the server is told that a request can be answered now. Returns false if it does
-    /// not wait, or if the server was told before.
+    /// Announces a request that can be answered now. Returns false if it does not wait, or was
+    /// announced before.
     pub(crate) fn announce(&mut self, ticket: u64) -> bool
         ensures { given_by self.new ≡ given_by self.old }
     {

@@ -1,5 +1,5 @@
 -- Lemmas: a reading that was answered, or not.
-use Rattle.std.proofs.Common.{◌≡◌, ◌==◌, ◌&&◌, ℕ, Bool, true, false, List, [], ◌∷◌, ◌++◌, Option, Some, Ok, get_or, refl, sym, ap, subst, ◌∙◌, arith, inl}
+use Rattle.std.proofs.Common.{◌≡◌, ◌==◌, ◌&&◌, ℕ, Bool, true, false, List, [], ◌∷◌, ◌++◌, Option, Some, Ok, get_or, refl, sym, ap, subst, ◌∙◌, arith}
 use Rattle.std.specs.Prelude.{Contains}
 use Rattle.std.specs.List.{flat_map, remove}
 use Rattle.std.proofs.lemmas.List.{append-nil, get_or_at}
@@ -14,7 +14,7 @@ use Rattle.service_calls.specs.Run.{IsReplyTo}
 use Rattle.service_calls.specs.declared.service.Service.{Service}
 use Rattle.pool_core.specs.declared.log.Log as logs
 use Rattle.pool_core.proofs.Lists.{contains_at, contains_same}
-use Rattle.pool_instance.specs.Does.{AnsweredSo, FailedSo, StoppedSo}
+use Rattle.pool_instance.specs.Does.{HasOutcome, StoppedSo}
 use Rattle.pool_instance.specs.Effects.{with_end}
 use Rattle.pool_instance.specs.Parts.{count_taken, heard_in, ids_of, is_due, is_due_as, is_ended, log_of, number_of, readings_in, retention_in, sent_in, unsent_ids, unsent_in}
 use Rattle.pool_instance.specs.Request.{call_of}
@@ -73,9 +73,6 @@ module _ {L S : Type 0} (gl : logs.Ghosts L) (gs : spaces.Ghosts S) where
             requests_same events (events ++ []) (readings_in old) (readings_in old) (unsent_in old) (unsent_in old) (sent_in old) (sent_in old) old.received old.received (append-nil events) refl refl refl refl all),
       )
 
-  pub answer_end : (old : Instance L S) (s : Service S) → Stays gs old.service s → FailedSo gl gs old (with_end (record old { service = s })) Ended
-  answer_end old s stays = let h = answer_stops old s stays in (h.0, h.1, inl h.2)
-
   module _ (old new : Instance L S) (now : ℕ) (i : ℕ) (reply : Reply) (f : Found (is_due (count_taken old)) (readings_in old) i) (going : is_ended old ≡ false)
       (asked : IsReplyTo gs old.service new.service now (call_of f.one.held.request) reply) (log : log_of new ≡ log_of old) (less : readings_in new ≡ remove (readings_in old) i) (same_hs : unsent_in new ≡ unsent_in old)
       (same : new.in_flight ≡ old.in_flight) (taken : count_taken new ≡ count_taken old) (n : new.received ≡ old.received) (ended : is_ended new ≡ is_ended old) (goes : is_stopped reply ≡ false)
@@ -83,7 +80,7 @@ module _ {L S : Type 0} (gl : logs.Ghosts L) (gs : spaces.Ghosts S) where
     removed : readings_in new ≡ f.split.front ++ f.split.back
     removed = less ∙ ap (λ (v : List Reading). remove v i) f.split.split ∙ remove_split f.split.front f.one f.split.back i f.split.at
 
-    pub answered_fault : reply ≡ Fault → AnsweredSo gl gs now old new (Ok (Some (Failed f.one.held.id)))
+    pub answered_fault : reply ≡ Fault → HasOutcome gl gs now old new (Failed f.one.held.id)
     answered_fault is = (
       did_fail gl gs old new now f.split.front f.one f.split.back reply going f.split.split asked log removed same_hs same taken n ended goes retained heard,
       (
@@ -94,7 +91,7 @@ module _ {L S : Type 0} (gl : logs.Ghosts L) (gs : spaces.Ghosts S) where
       ),
     )
 
-    pub answered_reply : IsDoneOrDenied reply → AnsweredSo gl gs now old new (Ok (Some (Replied f.one.held.id reply)))
+    pub answered_reply : IsDoneOrDenied reply → HasOutcome gl gs now old new (Replied f.one.held.id reply)
     answered_reply final = (
       call_of f.one.held.request,
       did_answer gl gs old new now f.split.front f.one f.split.back reply going f.split.split asked log removed same_hs same taken n ended goes retained heard f.passes final,

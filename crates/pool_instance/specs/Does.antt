@@ -24,8 +24,6 @@ use Rattle.pool_instance.specs.declared.fault.InstanceFault.TheVariants.{Ended, 
 use Rattle.pool_instance.specs.declared.instance.Instance.{Instance}
 use Rattle.pool_instance.specs.declared.outcome.Outcome.{Outcome}
 use Rattle.pool_instance.specs.declared.outcome.Outcome.TheVariants.{Failed, Replied}
-use Rattle.pool_instance.specs.declared.outcome.Received.{Received}
-use Rattle.pool_instance.specs.declared.outcome.Received.TheVariants.{Denied, Waits}
 use Rattle.pool_instance.specs.declared.outcome.Unanswered.{Unanswered}
 use Rattle.pool_instance.specs.declared.outcome.Unanswered.TheVariants.{Unknown, Unsent}
 use Rattle.pool_instance.specs.declared.waiting.Held.{Held}
@@ -91,18 +89,6 @@ module _ {L S : Type 0} (gl : logs.Ghosts L) (gs : spaces.Ghosts S) where
       × (Did old [] new ⊎ ((entry : LogEntry) × Did old (Gets entry ∷ []) new))
 
   -- ---- receive
-
-  -- Holds if the instance received a request. It is answered at once exactly if it breaks a
-  -- stateless rule, and waits otherwise.
-  abbrev pub ReceivedSo : (now : ℕ) (call : Call) → Instance L S → Instance L S
-      → Result Received InstanceFault → Type 0
-  ReceivedSo now call old new (Ok (Waits id)) =
-      ((a : Airspace) → find (breaks a now call) early_rules ≡ None)
-      × Did old (Receives id call ∷ []) new
-  ReceivedSo now call old new (Ok (Denied id reply)) =
-      ((a : Airspace) → IsSome (find (breaks a now call) early_rules))
-      × Did old (Receives id call ∷ Answers id (AtOnce (now, call)) reply ∷ []) new
-  ReceivedSo now call old new (Err fault) = FailedSo old new fault
 
   -- Holds if an operation failed so, and the log gave nothing: it did nothing, or the instance has
   -- ended.
@@ -204,18 +190,13 @@ module _ {L S : Type 0} (gl : logs.Ghosts L) (gs : spaces.Ghosts S) where
 
   -- ---- answer
 
-  -- Holds if the instance answered a reading whose end is reached, if there is one. It fails only if
-  -- the service reports a fault.
-  abbrev pub AnsweredSo : (now : ℕ) → Instance L S → Instance L S
-      → Result (Option Outcome) InstanceFault → Type 0
-  AnsweredSo now old new (Ok None) = DidNothing old new
-      × All (λ r. is_due (count_taken old) r ≡ false) (readings_in old)
-  AnsweredSo now old new (Ok (Some (Replied id reply))) = (call : Call)
+  -- Holds if a reading had this outcome at a time. It fails only if the service reports a fault.
+  abbrev pub HasOutcome : (now : ℕ) → Instance L S → Instance L S → Outcome → Type 0
+  HasOutcome now old new (Replied id reply) = (call : Call)
       × Did old (Answers id (AfterFirst (count_taken old) (now, call)) reply ∷ []) new
-  AnsweredSo now old new (Ok (Some (Failed id))) = Did old (Drops id ∷ []) new
+  HasOutcome now old new (Failed id) = Did old (Drops id ∷ []) new
       × ((r : Reading) × Contains (readings_in old) r × (r.held.id ≡ id)
       × IsReplyTo gs old.service new.service now (call_of r.held.request) replies.Fault)
-  AnsweredSo now old new (Err fault) = FailedSo old new fault
 
   -- Holds if the instance answered the reading with this number, if its end is reached. If the
   -- service stopped, the instance has ended, and the reading waits still.
@@ -224,7 +205,7 @@ module _ {L S : Type 0} (gl : logs.Ghosts L) (gs : spaces.Ghosts S) where
   AnsweredAs now id old new (Ok None) = (new ≡ old)
       × All (λ r. is_due_as id (count_taken old) r ≡ false) (readings_in old)
   AnsweredAs now id old new (Ok (Some outcome)) = (number_in outcome ≡ id)
-      × AnsweredSo now old new (Ok (Some outcome))
+      × HasOutcome now old new outcome
   AnsweredAs now id old new (Err fault) = StoppedSo old new fault
       × (is_ended old ≡ false → Contains (ids_in new) id)
 

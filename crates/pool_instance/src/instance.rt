@@ -1,11 +1,11 @@
 //! One instance of a pool.
 use crate::fault::InstanceFault;
-use crate::outcome::{Outcome, Received, Unanswered};
+use crate::outcome::{Outcome, Unanswered};
 use crate::purge_totals::PurgeTotals;
 use crate::request::Request;
 use crate::requests::{
-    Draft, do_acts, first_batch, first_due, has_fresh, is_reading_due, note_end, note_question,
-    pair, place_of_change, place_of_due, place_of_reading, place_of_sent, reads,
+    Draft, do_acts, first_batch, has_fresh, is_reading_due, note_end, note_question, pair,
+    place_of_change, place_of_due, place_of_reading, place_of_sent, reads,
 };
 use crate::waiting::{Held, Reading, Stage};
 use policy_core::call::Call;
@@ -53,9 +53,9 @@ impl<L: Log + Drop, S: PurgeEnded + Drop> Instance<L, S> {
     ghost use Rattle.entity_core.specs.Airspace.{Airspace};
     ghost use Rattle.space_core.specs.Space.{IsContent};
     ghost use Rattle.service_calls.specs.Held.{is_shut, salt_of, space_of};
-    ghost use Rattle.pool_instance.specs.Does.{AnsweredAs, AnsweredSo, AskedSo, DeniedSo, DidNothing, GaveUpSo, IsDuePurge, QueuedSo};
+    ghost use Rattle.pool_instance.specs.Does.{AnsweredAs, AskedSo, DeniedSo, DidNothing, GaveUpSo, IsDuePurge, QueuedSo};
     ghost use Rattle.pool_instance.specs.Does.{LearnedSo};
-    ghost use Rattle.pool_instance.specs.Does.{OfferedSo, PurgeOfferedSo, ReceivedSo, TookSo};
+    ghost use Rattle.pool_instance.specs.Does.{OfferedSo, PurgeOfferedSo, TookSo};
     ghost use Rattle.policy_core.specs.Policy.{breaks, early_rules};
     ghost use Rattle.pool_core.specs.Log.{entry_of};
     ghost use Rattle.pool_instance.specs.Effects.{FailsLog, Forgets, Holds, HoldsNoMore};
@@ -180,36 +180,6 @@ impl<L: Log + Drop, S: PurgeEnded + Drop> Instance<L, S> {
             LogFault::NoMemory => InstanceFault::NoMemory,
             LogFault::Lost => self.end(),
         }
-    }
-
-    /// Receives a request at a time (Unix seconds), and gives it a number.
-    ///
-    /// A request that breaks one of P1 to P6 gets its denial at once. A reading waits for the end
-    /// of the log, any other request for the next batch.
-    pub fn receive(
-        &mut self,
-        alloc: Global,
-        now: u64,
-        request: Request,
-    ) -> Result<Received, InstanceFault>
-        ensures { ReceivedSo L.Log S.Space now (call_of request) self.old self.new result }
-    {
-        let id = self.received;
-        let Some(next) = id.checked_add(1) else {
-            return Err(self.end());
-        };
-        if self.ended {
-            return Err(InstanceFault::Ended);
-        }
-        if let Some(rule) = early(request.call()) {
-            self.received = next;
-            return Ok(Received::Denied(id, Reply::Denied(rule, Missing::empty(alloc))));
-        }
-        if self.hold(id, request).is_err() {
-            return Err(InstanceFault::NoMemory);
-        }
-        self.received = next;
-        Ok(Received::Waits(id))
     }
 
     /// Receives a call that breaks one of P1 to P6, at a time (Unix seconds), gives it a number, and
@@ -439,29 +409,6 @@ impl<L: Log + Drop, S: PurgeEnded + Drop> Instance<L, S> {
         self.taken = taken;
         self.purges = purges;
         Some(told)
-    }
-
-    /// Answers the first reading whose end was reached, at a time (Unix seconds), if there is one.
-    pub fn answer(&mut self, alloc: Global, now: u64) -> Result<Option<Outcome>, InstanceFault>
-        ensures { AnsweredSo L.Log S.Space now self.old self.new result }
-    {
-        if self.ended {
-            return Err(InstanceFault::Ended);
-        }
-        let Some(index) = first_due(self.readings.as_slice(), self.taken) else {
-            return Ok(None);
-        };
-        let reply = self
-            .service
-            .call(alloc, now, self.readings[index].held.request.call());
-        if reply.is_stopped() {
-            return Err(self.end());
-        }
-        let id = self.readings.remove(index).held.id;
-        match reply {
-            Reply::Fault => Ok(Some(Outcome::Failed(id))),
-            reply => Ok(Some(Outcome::Replied(id, reply))),
-        }
     }
 
     /// Returns the index and the number of the first reading from this index on whose end was

@@ -1,15 +1,6 @@
 //! What became of requests.
 use service_step::reply::Reply;
 
-/// What became of a request as it was received. It has this number from then on.
-#[derive(Debug, Drop)]
-pub enum Received {
-    /// The request waits.
-    Waits(u64),
-    /// The request breaks a stateless rule, and has this reply.
-    Denied(u64, Reply),
-}
-
 /// What became of a request that waited for the end of the log.
 #[derive(Debug, Drop)]
 pub enum Outcome {

@@ -97,15 +97,6 @@ fn is_due(stage: Stage, taken: u64) -> bool
     }
 }
 
-/// Returns the index of the first reading whose end was reached.
-pub(crate) fn first_due(readings: &[Reading], taken: u64) -> Option<usize>
-    ensures { result ≡ position (is_due taken) readings.now }
-{
-    readings
-        .iter()
-        .position(|reading| is_due(reading.stage, taken))
-}
-
 /// Returns the index of the reading with this number, if its end was reached.
 pub(crate) fn place_of_due(readings: &[Reading], id: u64, taken: u64) -> Option<usize>
     ensures { result ≡ position (is_due_as id taken) readings.now }

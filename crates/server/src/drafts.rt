@@ -20,7 +20,7 @@ impl Drafts {
         }
     }
 
-    /// Adds a draft of so many bytes, whose request took so many nanoseconds.
+    /// Adds a draft of `bytes` bytes, whose request took `cost` nanoseconds.
     pub(crate) fn add(&mut self, bytes: usize, cost: u64) {
         self.count = self.count.saturating_add(1);
         self.bytes = self.bytes.saturating_add(bytes);

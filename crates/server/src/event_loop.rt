@@ -10,6 +10,7 @@ mod operated;
 mod turns;
 
 use crate::drafts::Drafts;
+use crate::due_requests::DueRequests;
 use crate::tickets::Tickets;
 use admin_http::service_metrics::ServiceMetrics;
 use server_admin::admin_connections::AdminConnections;
@@ -41,6 +42,8 @@ pub(crate) struct EventLoop<N: Sockets, K> {
     // that were closed while they waited.
     tickets: Tickets,
     drafts: Drafts,
+    // The requests that waited and can be answered.
+    due: DueRequests,
     gone: VecDeque<u64>,
     // The last reading of the monotonic clock.
     clock: Option<Duration>,
@@ -58,18 +61,20 @@ pub(crate) struct EventLoop<N: Sockets, K> {
 
 impl<N: Sockets + Drop, K: MakeBackups + Drop> EventLoop<N, K> {
     /// Creates an event loop without clients. Allocates the memory for the maximum number of
-    /// clients here, so that no client is dropped later for lack of it.
+    /// clients here, so that no client is dropped later for lack of it. Of a class, `share` requests
+    /// may wait at the backend at once.
     pub(crate) fn new(
         alloc: Global,
         limits: Limits,
         is_operated: bool,
         backups: Option<K>,
         record: Option<TimeRecord>,
+        share: usize,
     ) -> Result<EventLoop<N, K>, AllocError>
         ensures { IfOk result
             (λ event_loop. clients_of N.Client.name event_loop.clients ≡ no_clients) }
     {
-        let clients = ClientSet::new(alloc, limits)?;
+        let clients = ClientSet::new(alloc, limits, share)?;
         let operators = AdminConnections::new(alloc, is_operated, backups)?;
         let tickets = Tickets::new(alloc, MAX_CONNECTIONS)?;
         let gone = VecDeque::with_capacity(alloc, MAX_CONNECTIONS)?;
@@ -78,6 +83,7 @@ impl<N: Sockets + Drop, K: MakeBackups + Drop> EventLoop<N, K> {
             clients,
             tickets,
             drafts: Drafts::new(),
+            due: DueRequests::new(alloc)?,
             gone,
             clock: None,
             acceptance: Acceptance::new(limits.count),
@@ -116,7 +122,7 @@ impl<N: Sockets + Drop, K: MakeBackups + Drop> EventLoop<N, K> {
 
     // Returns how long it may wait for the clients.
     fn patience_for_clients(&self, stops: bool, now: Duration) -> Duration {
-        if self.clients.has_next() {
+        if self.clients.has_next() || !self.due.is_empty() {
             return Duration::from_millis(0);
         }
         if self.has_room(stops) {
@@ -325,7 +331,7 @@ impl<N: Sockets + Drop, K: MakeBackups + Drop> EventLoop<N, K> {
     {
         self.clients
             .record_response(key, &mut self.metrics, self.clock, journal);
-        self.clients.count_unsent(key);
+        self.clients.count_for_class(key);
         self.act_on(sockets, key, turned, stops, now, journal);
     }
 
@@ -351,7 +357,7 @@ impl<N: Sockets + Drop, K: MakeBackups + Drop> EventLoop<N, K> {
         let turned = self.clients.classify_ready(key, tokens, moved);
         // the bytes of a head count for the class of its caller
         let class = self.clients.class_of(key);
-        self.clients.count_unsent(key);
+        self.clients.count_for_class(key);
         self.act_on(sockets, key, turned, stops, now, journal);
         self.clients.count_ending(key, was_ending);
         self.clock = sockets.monotonic_time().ok();

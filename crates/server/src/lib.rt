@@ -2,6 +2,7 @@
 #![tactic(auto)]
 
 mod drafts;
+mod due_requests;
 mod event_loop;
 pub mod laws;
 pub mod serve;

@@ -204,6 +204,7 @@ pub fn serve<
         operated.is_some(),
         backups,
         record,
+        backend.share(),
     )?;
     let mut now = sockets.monotonic_time()?;
     for _ in 0..u64::MAX {

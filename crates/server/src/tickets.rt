@@ -19,7 +19,7 @@ pub(crate) struct Tickets {
 }
 
 impl Tickets {
-    /// Creates an empty table with room for so many tickets.
+    /// Creates an empty table with room for `most` tickets.
     pub(crate) fn new(alloc: Global, most: usize) -> Result<Tickets, AllocError> {
         Ok(Tickets {
             entries: VecDeque::with_capacity(alloc, most)?,

@@ -7,6 +7,7 @@ use crate::outcome::{Outcome, Received};
 use crate::progress::Progress;
 use crate::request::Request;
 use admin_http::service_metrics::ServiceMetrics;
+use server_base::response_info::ResponseInfo;
 use server_base::server_log::ServerLog;
 use server_watch::store_watch::CommitOutcome;
 use space_snapshot::snapshot::{NoMirror, Snapshot};
@@ -120,6 +121,12 @@ pub trait Backend {
 
     /// Returns a snapshot of the airspace, if there is one.
     fn snapshot(&self) -> Result<Snapshot<'_>, NoMirror>;
+
+    /// Returns what a response without a draft says of the store, which may be failing. The default
+    /// is for backends without a store.
+    fn store_after(&self, _answer: ResponseInfo, _is_failing: bool) -> Option<CommitOutcome> {
+        None
+    }
 
     /// Sets the metrics of the backend. The default sets none.
     fn show(&self, _metrics: &mut ServiceMetrics, _now: Duration) {}

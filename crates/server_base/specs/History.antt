@@ -1,5 +1,5 @@
 -- What the sockets of a service accepted, received and sent, in order.
-use Rattle.std.specs.Prelude.{◌≡◌, ℕ, List, [], ◌∷◌, ◌++◌, take, Option, Some, None, option_map, Result, MatchResult}
+use Rattle.std.specs.Prelude.{◌≡◌, ◌==◌, ◌<◌, ℕ, List, [], ◌∷◌, ◌++◌, take, Option, Some, None, option_map, Result, MatchResult, if◌then◌else◌, slice_index}
 use Rattle.std.specs.List.{Contains}
 
 -- An event of the sockets: a client of that name was accepted, these bytes arrived from it, it sends
@@ -50,3 +50,14 @@ abbrev pub RecordsWrite : {E : Type 0} → ℕ → Option (List HistoryEvent) �
     → Result ℕ E → List ℕ → Type 0
 RecordsWrite name past now result bytes =
     MatchResult result (λ n. Extends past now (Sent name (take n bytes) ∷ [])) (λ _. now ≡ past)
+
+-- The events that a note of a call adds to a history. The first number is the kind of the call: 0
+-- accepts a client, 1 reads, any other writes. The second one is the name of the client.
+abbrev pub events_of : (numbers bytes : List ℕ) → List HistoryEvent
+events_of numbers bytes = if slice_index numbers 0 == 0 then Accepted (slice_index numbers 1) ∷ []
+    else (if slice_index numbers 0 == 1 then read_events (slice_index numbers 1) bytes
+    else (Sent (slice_index numbers 1) bytes ∷ []))
+
+-- Holds if each accepted client has a name below this number.
+abbrev pub AreBelow : ℕ → List HistoryEvent → Type 0
+AreBelow next events = (name : ℕ) → Contains events (Accepted name) → name < next

@@ -3,6 +3,7 @@
 
 pub mod acceptance;
 pub mod backups;
+pub mod history;
 pub mod limits;
 pub mod phase;
 pub mod response_info;

@@ -16,7 +16,7 @@ use Rattle.wire_http.specs.declared.explaining.Explaining.{Explaining}
 use Rattle.wire_http.specs.declared.moments.Moments as moments
 use Rattle.wire_http.specs.Connection.{awaited_of, buffered_of, is_done, is_waiting, left_of}
 use Rattle.wire_http.specs.Count.{one_more}
-use Rattle.wire_http.specs.Later.{EndsStream}
+use Rattle.wire_http.specs.NextRequest.{EndsStream}
 use Rattle.wire_http.specs.NextRequest.{GivesRequest, IsFront, LosesNext, NeedsMore, body_in, call_in, closes_after, endpoint_in, method_in, path_in, size_in}
 use Rattle.wire_http.specs.Unread.{IsMadeFor}
 use Rattle.wire_http.specs.Wire.{AsksCall, RequestCall}

@@ -24,12 +24,12 @@ got_set xs i x lt = slice_get_read (slice_set xs i x) (length xs) i x (sym (leng
 -- Holds if no class before that index that may be next has a smaller virtual time.
 abbrev pub IsLeastOf : FairQueue → ℕ → ℕ → Type 0
 IsLeastOf queue count least = (other : ℕ) (rival : UssClass) → other < count → slice_get queue.classes.items other ≡ Some rival
-    → may_be_next queue.memory queue.unsent rival ≡ true → least ≤ rival.virtual_time
+    → may_be_next queue.memory queue.unsent queue.share rival ≡ true → least ≤ rival.virtual_time
 
 -- Holds if the class with that index may be next, and has that virtual time.
 abbrev pub IsFound : FairQueue → ℕ → ℕ → Type 0
 IsFound queue least index = (class : UssClass) × (slice_get queue.classes.items index ≡ Some class)
-    × (may_be_next queue.memory queue.unsent class ≡ true) × (least ≡ class.virtual_time)
+    × (may_be_next queue.memory queue.unsent queue.share class ≡ true) × (least ≡ class.virtual_time)
 
 same_class : (queue : FairQueue) (index : ℕ) (class rival : UssClass) → slice_get queue.classes.items index ≡ Some class → slice_get queue.classes.items index ≡ Some rival → rival ≡ class
 same_class queue index class rival e f = let one : slice_get queue.classes.items index ≡ Some class = e in let two : slice_get queue.classes.items index ≡ Some rival = f in cc
@@ -48,14 +48,14 @@ least_taken queue index least class h at lt other rival below there may =
 
 -- The class at the index has none, or may not be next.
 pub least_kept : (queue : FairQueue) (index least : ℕ) (class : UssClass) → IsLeastOf queue index least → slice_get queue.classes.items index ≡ Some class
-    → (may_be_next queue.memory queue.unsent class ≡ true → least ≤ class.virtual_time) → IsLeastOf queue (index + 1) least
+    → (may_be_next queue.memory queue.unsent queue.share class ≡ true → least ≤ class.virtual_time) → IsLeastOf queue (index + 1) least
 least_kept queue index least class h at other_wise other rival below there may =
     let within : other ≤ index = omega (arith, below) in
     elim (eq-or-lt_of_le {n = other} {m = index} within) [
       | inr before ↦ h other rival before there may
       | inl same ↦
           let is : rival ≡ class = same_class queue index class rival at (subst (λ (i : ℕ). slice_get queue.classes.items i ≡ Some rival) same there) in
-          subst (λ (c : UssClass). least ≤ c.virtual_time) (sym is) (other_wise (subst (λ (c : UssClass). may_be_next queue.memory queue.unsent c ≡ true) is may))
+          subst (λ (c : UssClass). least ≤ c.virtual_time) (sym is) (other_wise (subst (λ (c : UssClass). may_be_next queue.memory queue.unsent queue.share c ≡ true) is may))
     ]
 
 -- All classes were looked at.

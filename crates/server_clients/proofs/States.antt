@@ -15,7 +15,7 @@ use Rattle.wire_http.specs.declared.texts.Texts.{Texts}
 use Rattle.wire_http.specs.declared.unavailable.Unavailable.{Unavailable}
 use Rattle.wire_http.specs.Connection.{awaited_of, buffered_of, has_ended, holds_back, is_done, is_waiting, left_of, output_of, ready_of, slot_of}
 use Rattle.wire_http.specs.DeferredResponse.{Slot as DraftSlot, before_last, slot_at}
-use Rattle.wire_http.specs.Later.{EndsStream}
+use Rattle.wire_http.specs.NextRequest.{EndsStream}
 use Rattle.wire_http.specs.NextRequest.{IsStopped, closes_after, endpoint_in}
 use Rattle.wire_http.specs.Outcomes.{Answers, Drafts, Refuses, Waits}
 use Rattle.wire_http.specs.Text.{end_texts, noted_text, unavailable_text}

@@ -8,11 +8,11 @@ use Rattle.server_clients.specs.declared.fair_queue.UssClass.{UssClass}
 abbrev pub waiting_in : UssClass → List ℕ
 waiting_in class = class.open.items ++ class.ended.items
 
--- Returns true if a class has unsent bytes, and has used half of the budget for them or all classes
--- together have used the budget.
-abbrev pub is_held_up : (memory total : ℕ) → UssClass → Bool
-is_held_up memory total class =
-    nat_le 1 class.unsent && (nat_le (memory / 2) class.unsent || nat_le memory total)
+-- Returns true if so many requests of a class as its share wait at the backend, or if it has unsent
+-- bytes, and has used half of the budget for them or all classes together have used the budget.
+abbrev pub is_held_up : (memory total share : ℕ) → UssClass → Bool
+is_held_up memory total share class = nat_le share class.outstanding
+    || (nat_le 1 class.unsent && (nat_le (memory / 2) class.unsent || nat_le memory total))
 
 -- Holds if the client waits in the class with that index.
 abbrev pub WaitsIn : FairQueue → ℕ → ℕ → Type 0
@@ -24,26 +24,27 @@ abbrev pub has_waiting : UssClass → Bool
 has_waiting class = nat_lt 0 (length class.open.items) || nat_lt 0 (length class.ended.items)
 
 -- Returns true if a client waits in a class that is not held up.
-abbrev pub may_be_next : (memory total : ℕ) → UssClass → Bool
-may_be_next memory total class = has_waiting class && not (is_held_up memory total class)
+abbrev pub may_be_next : (memory total share : ℕ) → UssClass → Bool
+may_be_next memory total share class =
+    has_waiting class && not (is_held_up memory total share class)
 
 -- Holds if no class that may be next has a smaller virtual time than this one.
 abbrev pub HasLeastTime : FairQueue → UssClass → Type 0
 HasLeastTime queue class = (other : ℕ) (rival : UssClass)
     → slice_get queue.classes.items other ≡ Some rival
-    → may_be_next queue.memory queue.unsent rival ≡ true
+    → may_be_next queue.memory queue.unsent queue.share rival ≡ true
     → class.virtual_time ≤ rival.virtual_time
 
 -- Holds if the next request is one of the class with that index.
 abbrev pub IsNext : FairQueue → ℕ → Type 0
 IsNext queue index = (class : UssClass)
     × (slice_get queue.classes.items index ≡ Some class)
-    × (may_be_next queue.memory queue.unsent class ≡ true) × HasLeastTime queue class
+    × (may_be_next queue.memory queue.unsent queue.share class ≡ true) × HasLeastTime queue class
 
 -- Holds if the client may be picked: it waits in the class with that index, which is not held up.
 -- No other such class has a smaller virtual time.
 abbrev pub IsPicked : FairQueue → ℕ → ℕ → Type 0
 IsPicked queue index key = (class : UssClass)
     × (slice_get queue.classes.items index ≡ Some class)
-    × (may_be_next queue.memory queue.unsent class ≡ true) × HasLeastTime queue class
+    × (may_be_next queue.memory queue.unsent queue.share class ≡ true) × HasLeastTime queue class
     × Contains (waiting_in class) key

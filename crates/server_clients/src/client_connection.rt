@@ -537,7 +537,9 @@ impl<T: ClientSocket> ClientConnection<T> {
             return Ok(again_if(self.writable));
         }
         self.restart_request_timeout(now);
-        Ok(again_if(self.readable || !self.lacks || self.io.is_done()))
+        // what arrived while the request waited may be the next one
+        let may_go_on = self.readable || self.io.holds_any() || self.io.is_done();
+        Ok(again_if(may_go_on || !self.lacks))
     }
 
     // Sends pending output, and reads one chunk if no complete request is buffered.

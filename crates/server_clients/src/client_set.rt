@@ -39,8 +39,9 @@ pub struct ClientSet<T> {
 
 impl<T: ClientSocket> ClientSet<T> {
     /// Creates a set without clients. Allocates the memory for the maximum number of clients here,
-    /// so that no client is dropped later for lack of it.
-    pub fn new(alloc: Global, limits: Limits) -> Result<ClientSet<T>, AllocError>
+    /// so that no client is dropped later for lack of it. Of a class, `share` requests may wait at
+    /// the backend at once.
+    pub fn new(alloc: Global, limits: Limits, share: usize) -> Result<ClientSet<T>, AllocError>
         ensures { IfOk result (λ set. clients_of T.name set ≡ no_clients) }
     {
         let most = limits.clients.min(MAX_CONNECTIONS);
@@ -48,7 +49,7 @@ impl<T: ClientSocket> ClientSet<T> {
         let next = Vec::with_capacity(alloc, most)?;
         let spare = Vec::with_capacity(alloc, most)?;
         let wanting = VecDeque::with_capacity(alloc, most)?;
-        let fair = FairQueue::new(alloc, limits.response_memory)?;
+        let fair = FairQueue::new(alloc, limits.response_memory, share)?;
         Ok(ClientSet {
             alloc,
             connections,
@@ -275,6 +276,7 @@ impl<T: ClientSocket> ClientSet<T> {
             self.ending = self.ending.saturating_sub(1);
         }
         self.fair.set_unsent(&mut client.member, 0);
+        self.fair.set_outstanding(&mut client.member, false);
         if client.has_large_buffer() {
             self.add_large_buffer(client.member, now);
         }
@@ -344,15 +346,22 @@ impl<T: ClientSocket> ClientSet<T> {
         }
     }
 
-    /// Counts the unsent bytes of a client for its class.
-    pub fn count_unsent(&mut self, key: usize)
+    /// Counts the unsent bytes of a client, and its request if that waits at the backend, for its
+    /// class.
+    pub fn count_for_class(&mut self, key: usize)
         ensures { KeepsClients T.name self.old self.new }
     {
         let Some(client) = self.connections.get_mut(key) else {
             return;
         };
-        let unsent = client.unsent();
+        let (unsent, waits) = (client.unsent(), client.ticket().is_some());
         self.fair.set_unsent(&mut client.member, unsent);
+        self.fair.set_outstanding(&mut client.member, waits);
+    }
+
+    /// Returns the virtual time of the class of a client.
+    pub fn virtual_time_of(&self, key: usize) -> u64 {
+        self.fair.virtual_time_of(self.class_of(key))
     }
 
     /// Charges the class of a client its share of a commit that took so long.

@@ -46,6 +46,8 @@ pub struct ClassMember {
     pub waits: bool,
     /// The unsent bytes that are counted for its class.
     pub unsent: usize,
+    /// The class that its request counts for while that waits at the backend.
+    pub asked: Option<usize>,
     /// The nanoseconds that its last request took.
     pub cost: u64,
 }
@@ -58,6 +60,7 @@ impl ClassMember {
             buffer_class: WITHOUT_TOKEN,
             waits: false,
             unsent: 0,
+            asked: None,
             cost: 0,
         }
     }
@@ -73,8 +76,10 @@ struct UssClass {
     ended: VecDeque<usize>,
     // The virtual time in nanoseconds.
     virtual_time: u64,
-    // The unsent bytes of its responses, and how many large buffers it has.
+    // The unsent bytes of its responses, how many of its requests wait at the backend, and how many
+    // large buffers it has.
     unsent: usize,
+    outstanding: usize,
     large_buffers: usize,
 }
 
@@ -87,6 +92,7 @@ impl UssClass {
             ended: VecDeque::with_capacity(alloc, MAX_CONNECTIONS)?,
             virtual_time: 0,
             unsent: 0,
+            outstanding: 0,
             large_buffers: 0,
         })
     }
@@ -107,19 +113,21 @@ impl UssClass {
         !self.open.is_empty() || !self.ended.is_empty()
     }
 
-    // Returns true if no request of the class is answered until more of its responses are sent.
-    // `total` is the number of unsent bytes of all classes, and `memory` the budget.
-    fn is_held_up(&self, memory: usize, total: usize) -> bool
-        ensures { result ≡ is_held_up memory total self.now }
+    // Returns true if no request of the class is taken until more of its responses are sent, or
+    // fewer of its requests than `share` wait at the backend. `total` is the number of unsent bytes
+    // of all classes, and `memory` the budget.
+    fn is_held_up(&self, memory: usize, total: usize, share: usize) -> bool
+        ensures { result ≡ is_held_up memory total share self.now }
     {
-        self.unsent > 0 && (self.unsent >= memory / 2 || total >= memory)
+        self.outstanding >= share
+            || self.unsent > 0 && (self.unsent >= memory / 2 || total >= memory)
     }
 
     // Returns true if a client waits and the class is not held up.
-    fn may_be_next(&self, memory: usize, total: usize) -> bool
-        ensures { result ≡ may_be_next memory total self.now }
+    fn may_be_next(&self, memory: usize, total: usize, share: usize) -> bool
+        ensures { result ≡ may_be_next memory total share self.now }
     {
-        self.has_waiting() && !self.is_held_up(memory, total)
+        self.has_waiting() && !self.is_held_up(memory, total, share)
     }
 
     // Appends a client. Returns false if memory runs out.
@@ -154,11 +162,14 @@ pub struct FairQueue {
     // The budget for unsent bytes of responses, and the unsent bytes of all classes.
     memory: usize,
     unsent: usize,
+    // How many requests of a class may wait at the backend at once.
+    share: usize,
 }
 
 impl FairQueue {
-    /// Creates a queue in which no client waits, with that budget for unsent bytes of responses.
-    pub fn new(alloc: Global, memory: usize) -> Result<FairQueue, AllocError> {
+    /// Creates a queue in which no client waits, with that budget for unsent bytes of responses. Of
+    /// a class, `share` requests may wait at the backend at once.
+    pub fn new(alloc: Global, memory: usize, share: usize) -> Result<FairQueue, AllocError> {
         let mut classes = Vec::new(alloc);
         classes.push(UssClass::new(alloc, None)?)?;
         Ok(FairQueue {
@@ -167,6 +178,7 @@ impl FairQueue {
             virtual_time: 0,
             memory,
             unsent: 0,
+            share,
         })
     }
 
@@ -222,7 +234,9 @@ impl FairQueue {
         let mut least = u64::MAX;
         for index in 0..self.classes.len() {
             let class = &self.classes[index];
-            if class.may_be_next(self.memory, self.unsent) && class.virtual_time < least {
+            if class.may_be_next(self.memory, self.unsent, self.share)
+                && class.virtual_time < least
+            {
                 least = class.virtual_time;
                 found = Some(index);
             }
@@ -248,6 +262,14 @@ impl FairQueue {
         Some((index, key))
     }
 
+    /// Returns the virtual time of a class.
+    pub fn virtual_time_of(&self, index: usize) -> u64 {
+        match self.classes.get(index) {
+            Some(class) => class.virtual_time,
+            None => self.virtual_time,
+        }
+    }
+
     /// Adds to the virtual time of a class what a request of it took.
     pub fn charge(&mut self, index: usize, nanos: u64) {
         let virtual_time = self.virtual_time;
@@ -256,7 +278,7 @@ impl FairQueue {
         }
     }
 
-    /// Charges the class of a client its share of a commit that took so many nanoseconds, if the
+    /// Charges the class of a client its share of a commit that took `nanos` nanoseconds, if the
     /// calls of the batch took `total` together.
     pub fn charge_share(&mut self, member: ClassMember, nanos: u64, total: u64) {
         self.charge(
@@ -278,6 +300,25 @@ impl FairQueue {
         if unsent != member.unsent {
             self.count_unsent(member.class, member.unsent, unsent);
             member.unsent = unsent;
+        }
+    }
+
+    /// Sets whether the request of a client waits at the backend.
+    pub fn set_outstanding(&mut self, member: &mut ClassMember, waits: bool) {
+        match (member.asked, waits) {
+            (None, true) => {
+                if let Some(class) = self.classes.get_mut(member.class) {
+                    class.outstanding = class.outstanding.saturating_add(1);
+                }
+                member.asked = Some(member.class);
+            }
+            (Some(index), false) => {
+                if let Some(class) = self.classes.get_mut(index) {
+                    class.outstanding = class.outstanding.saturating_sub(1);
+                }
+                member.asked = None;
+            }
+            _ => {}
         }
     }
 

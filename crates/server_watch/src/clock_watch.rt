@@ -81,7 +81,7 @@ fn expected_at(last: u64, then: Duration, now: Duration) -> u64
 pub struct ClockWatch {
     state: ClockState,
     jumps: u64,
-    // True if somebody is told of jumps.
+    // True if jumps are reported.
     is_watched: bool,
 }
 

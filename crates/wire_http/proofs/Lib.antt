@@ -1,9 +1,9 @@
 pub mod CallLaws
 pub mod CallUnique
 pub mod DeferredLaws
+pub mod FirstRequest
 pub mod BufferedLaws
 pub mod KnownBytes
-pub mod LaterLaws
 pub mod NextLaws
 pub mod PeekLaws
 pub mod Outcomes

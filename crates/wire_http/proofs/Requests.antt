@@ -34,7 +34,7 @@ use Rattle.wire_http.specs.declared.request_info.RequestInfo.{RequestInfo}
 use Rattle.wire_http.specs.declared.texts.Texts.{Texts}
 use Rattle.wire_http.specs.BufferState.{IsHeld}
 use Rattle.wire_http.specs.Connection.{IsNotedStep, IsStepPart, buffered_of, left_of, output_of}
-use Rattle.wire_http.specs.Later.{EndsStream}
+use Rattle.wire_http.specs.NextRequest.{EndsStream}
 use Rattle.wire_http.specs.Next.{NextFits, body_at}
 use Rattle.wire_http.specs.NextRequest.{IsFront, IsStopped, LosesNext, NeedsMore, call_in, endpoint_in, entity_in, left_in}
 use Rattle.wire_http.specs.Notes.{IsWritten, MayBeNotes}
@@ -46,7 +46,7 @@ use Rattle.wire_http.specs.Texts.{MayBeTexts, texts_for}
 use Rattle.wire_http.specs.Turn.{Took}
 use Rattle.wire_http.specs.Unread.{IsMadeFor}
 use Rattle.wire_http.specs.Wire.{AsksCall, RequestCall}
-use Rattle.wire_http.proofs.LaterLaws.{left_here, named_here}
+use Rattle.wire_http.proofs.FirstRequest.{left_here, named_here}
 use Rattle.wire_http.proofs.TurnLaws.{unread_next}
 use Rattle.wire_http.proofs.Unread.{reply_for}
 use Rattle.wire_http.proofs.Written.{noted_none, some_message}

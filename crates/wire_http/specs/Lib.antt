@@ -1,5 +1,4 @@
 pub mod Input
-pub mod Later
 pub mod Awaited
 pub mod Count
 pub mod Connection

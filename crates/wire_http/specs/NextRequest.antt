@@ -1,5 +1,6 @@
 -- The next request of a connection, and the step that finds it.
-use Rattle.std.specs.Prelude.{◌≡◌, ◌<◌, ◌≤◌, ◌+◌, ◌-◌, ◌⊎◌, ◌==◌, ℕ, Bool, true, List, ◌++◌, drop, length, Option, IsUtf8}
+use Rattle.std.specs.Prelude.{◌≡◌, ◌<◌, ◌≤◌, ◌+◌, ◌-◌, ◌⊎◌, ◌==◌, ℕ, Bool, true, false, List, ◌++◌, drop, length, Option, IsUtf8}
+use Rattle.std.specs.List.{concat}
 use Rattle.httparse.specs.Grammar.{RequestHead}
 use Rattle.httparse.specs.Spans.{IsWithin, span_bytes}
 use Rattle.policy_core.specs.declared.call.Call.{Call}
@@ -10,19 +11,20 @@ use Rattle.wire_head.specs.Target.{path_of}
 use Rattle.wire_head.specs.declared.rule.WireRule.{WireRule}
 use Rattle.wire_operation.specs.Asked.{IsCallOf}
 use Rattle.wire_route.specs.declared.endpoint.Endpoint.{Endpoint}
-use Rattle.wire_http.specs.BufferState.{MayCome}
+use Rattle.wire_http.specs.BufferState.{HasNoRequest, MayCome, max_buffered}
 use Rattle.wire_http.specs.Connection.{IsSame, awaited_of, buffered_of, has_ended, is_done, left_of}
 use Rattle.wire_http.specs.Connection.{noted_of, output_of, ready_of, slot_of}
-use Rattle.wire_http.specs.Later.{EndsStream, MayGrow}
 use Rattle.wire_http.specs.Next.{body_at}
-use Rattle.wire_http.specs.RequestInfo.{IsEntityNamed, requested_kind}
+use Rattle.wire_http.specs.RequestInfo.{IsEntityNamed, noted_after, requested_kind}
 use Rattle.wire_http.specs.Stop.{Breaks}
+use Rattle.wire_http.specs.Text.{end_texts}
 use Rattle.wire_http.specs.Unread.{IsMadeFor}
-use Rattle.wire_http.specs.Wire.{IsRequest, left_after}
+use Rattle.wire_http.specs.Wire.{Finishes, IsRequest, left_after}
 use Rattle.wire_http.specs.declared.connection.Connection.{Connection}
 use Rattle.wire_http.specs.declared.connection.next.NextRequest.{NextRequest}
 use Rattle.wire_http.specs.declared.connection.next.NextStep.{NextStep}
 use Rattle.wire_http.specs.declared.connection.next.NextStep.TheVariants as steps
+use Rattle.wire_http.specs.declared.end.End.{End}
 
 -- ---- the parts of a request
 
@@ -91,6 +93,12 @@ pub record IsFront (callers : Callers) (left : ℕ) (bytes : List ℕ) (next : N
 
 -- ---- the step
 
+-- Holds if more input may arrive: no request is complete, and there is room.
+pub record MayGrow (c : Connection) : Type 0 where
+  pub more : has_ended c ≡ false
+  pub none : HasNoRequest (buffered_of c)
+  pub room : length (buffered_of c) < max_buffered
+
 -- Holds if more input is needed: the connection is as before, a request may still come, none is
 -- complete, and more input may arrive.
 pub record NeedsMore (c c' : Connection) : Type 0 where
@@ -98,6 +106,18 @@ pub record NeedsMore (c c' : Connection) : Type 0 where
   pub may_grow : MayGrow c
   pub same : IsSame c c'
   pub noted : noted_of c' ≡ noted_of c
+
+-- Holds if the stream ended in this way, whatever can still arrive.
+pub record EndsStream (c c' : Connection) (end : End) : Type 0 where
+  pub finishes : (later : List ℕ) → MayCome (has_ended c) later
+      → Finishes (left_of c) (buffered_of c ++ later) end
+  pub output : output_of c' ≡ output_of c ++ concat (end_texts end)
+  pub held : buffered_of c' ≡ buffered_of c
+  pub left : left_of c' ≡ left_of c
+  pub done : is_done c' ≡ true
+  pub slot : slot_of c' ≡ slot_of c
+  pub ended : has_ended c' ≡ has_ended c
+  pub noted : noted_of c' ≡ noted_after end (noted_of c)
 
 -- Holds if this request is the next one, and the connection is as before.
 pub record GivesRequest (callers : Callers) (c c' : Connection) (next : NextRequest) : Type 0 where

@@ -12,7 +12,7 @@ use Rattle.wire_http.specs.Awaited.{noted_with}
 use Rattle.wire_http.specs.Connection.{awaited_of, buffered_of, has_ended, is_done, left_of}
 use Rattle.wire_http.specs.Connection.{noted_of, output_of, ready_of, slot_of}
 use Rattle.wire_http.specs.DeferredResponse.{Slot}
-use Rattle.wire_http.specs.Later.{outcome_without}
+use Rattle.wire_http.specs.RequestInfo.{outcome_without}
 use Rattle.wire_http.specs.NextRequest.{call_in, closes_after, endpoint_in, entity_in, kind_in}
 use Rattle.wire_http.specs.NextRequest.{left_in, size_in}
 use Rattle.wire_http.specs.RequestInfo.{info_for, outcome_of, supplier_of}

@@ -12,6 +12,8 @@ use Rattle.wire_http.specs.declared.end.End.TheVariants as ends
 use Rattle.wire_http.specs.declared.request_info.RequestInfo.{RequestInfo}
 use Rattle.wire_http.specs.declared.request_info.Outcome.{Outcome}
 use Rattle.wire_http.specs.declared.request_info.Outcome.TheVariants as outcomes
+use Rattle.wire_http.specs.declared.unavailable.Unavailable.{Unavailable}
+use Rattle.wire_http.specs.declared.unavailable.Unavailable.TheVariants as unavailable
 use Rattle.wire_http.specs.Wire.{RequestCall}
 use Rattle.wire_route.specs.declared.endpoint.Endpoint.{Endpoint}
 use Rattle.wire_route.specs.Endpoint.{kind_at}
@@ -24,6 +26,12 @@ outcome_of (replies.Done answer) = outcomes.Done
 outcome_of (replies.Denied rule missing) = outcomes.Denied rule
 outcome_of replies.Fault = outcomes.Fault
 outcome_of replies.Stopped = outcomes.Stopped
+
+-- The recorded outcome of a request without a reply.
+abbrev pub outcome_without : Unavailable → Outcome
+outcome_without unavailable.Unreachable = outcomes.Stopped
+outcome_without unavailable.Unknown = outcomes.Fault
+outcome_without unavailable.Unassigned = outcomes.Stopped
 
 -- The id of an entity or a subscription that the first path parameter represents. Operations of
 -- some kinds have none.

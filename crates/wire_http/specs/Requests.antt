@@ -14,7 +14,7 @@ use Rattle.wire_http.specs.declared.explaining.Explaining.{Explaining}
 use Rattle.wire_http.specs.declared.fault.StreamFault.TheVariants as faults
 use Rattle.wire_http.specs.declared.texts.Texts.{Texts}
 use Rattle.wire_http.specs.Connection.{IsNotedStep, IsStepPart, buffered_of, left_of}
-use Rattle.wire_http.specs.Later.{EndsStream}
+use Rattle.wire_http.specs.NextRequest.{EndsStream}
 use Rattle.wire_http.specs.NextRequest.{IsFront, IsStopped, LosesNext, NeedsMore, call_in, left_in}
 use Rattle.wire_http.specs.Outcomes.{Drafts}
 use Rattle.wire_http.specs.Texts.{MayBeTexts}

@@ -10,7 +10,6 @@ ghost use Rattle.wire_http.specs.Peek.{IsPartPeek};
 ghost use Rattle.wire_http.specs.Text.{noted_text, response_text, end_texts};
 
 pub(crate) mod awaited;
-mod later;
 mod next;
 mod outcomes;
 

@@ -7,7 +7,6 @@ ghost use Rattle.policy_core.specs.declared.rule.Rule.{Rule};
 ghost use Rattle.service_step.specs.declared.reply.Reply.{Reply};
 ghost use Rattle.token_conf.specs.TokenFile.{Callers};
 ghost use Rattle.wire_operation.specs.Asked.{IsCallOf};
-ghost use Rattle.wire_http.specs.Later.{OneParts};
 ghost use Rattle.wire_http.specs.Connection.{deferred_of, holds_back, output_of, ready_of};
 ghost use Rattle.wire_http.specs.Laws.{OneStream};
 ghost use Rattle.wire_http.specs.Requests.{DraftIsATurn, EndIsAnEnd, InputIsAwaited, LossIsAPart};
@@ -38,12 +37,6 @@ pub fn one_kind()
 pub fn one_request()
     ensures { (rest : List ℕ) (h k : RequestHead) (a b : List ℕ)
         → IsRequest rest h a → IsRequest rest k b → (k ≡ h) × (b ≡ a) }
-{}
-
-/// States that the parts of the next request of a rest are those of each request that the rest begins
-/// with. So `Connection::answer_next` answers the request that `Connection::next_request` returned.
-pub fn one_parts()
-    ensures { OneParts }
 {}
 
 /// States that a request makes at most one call, at one endpoint.

@@ -19,7 +19,7 @@ use server_base::sockets::Sockets;
 use server_clients::client_connection::TurnOutcome;
 use server_clients::fair_queue::{is_round_over, nanos_between};
 use server_clients::request_context::RequestContext;
-use server_watch::store_watch::{CommitOutcome, outcome_of_change};
+use server_watch::store_watch::CommitOutcome;
 use server_watch::token_watch::TokenSource;
 use std::time::Duration;
 use wire_http::Moments;
@@ -57,13 +57,19 @@ impl<N: Sockets + Drop, K: MakeBackups + Drop> EventLoop<N, K> {
     }
 
     // Records what the response of a client's turn says of the store.
-    fn note_answer<J: ServerLog>(&mut self, key: usize, now: Duration, journal: &mut J)
+    fn note_answer<B: Backend, J: ServerLog>(
+        &mut self,
+        key: usize,
+        backend: &B,
+        now: Duration,
+        journal: &mut J,
+    )
         ensures { KeepsClients N.Client.name self.old.clients self.new.clients }
     {
         let Some(answer) = self.clients.answer_of(key) else {
             return;
         };
-        let outcome = outcome_of_change(answer, self.store.is_failing());
+        let outcome = backend.store_after(answer, self.store.is_failing());
         self.record_store(outcome, now, journal);
     }
 
@@ -85,12 +91,13 @@ impl<N: Sockets + Drop, K: MakeBackups + Drop> EventLoop<N, K> {
     }
 
     // Records how long the turn of a client took, and what is known after it.
-    fn note_turn<J: ServerLog>(
+    fn note_turn<B: Backend, J: ServerLog>(
         &mut self,
         key: usize,
         class: usize,
         turned: TurnOutcome,
         begun: Option<Duration>,
+        backend: &B,
         now: Duration,
         journal: &mut J,
     )
@@ -99,7 +106,7 @@ impl<N: Sockets + Drop, K: MakeBackups + Drop> EventLoop<N, K> {
         let took = nanos_between(begun, self.clock);
         self.clients.set_cost(key, took);
         self.clients.charge(class, begun, self.clock);
-        self.note_answer(key, now, journal);
+        self.note_answer(key, backend, now, journal);
         self.note_ticket(key, turned, took);
     }
 
@@ -133,7 +140,7 @@ impl<N: Sockets + Drop, K: MakeBackups + Drop> EventLoop<N, K> {
             return;
         };
         self.clock = sockets.monotonic_time().ok();
-        self.note_turn(key, class, turned, begun, now, journal);
+        self.note_turn(key, class, turned, begun, backend, now, journal);
         self.conclude(sockets, key, turned, watches.stops(), now, journal);
         self.clients.count_ending(key, was_ending);
     }

@@ -1,28 +1,82 @@
 //! What becomes of the next request of a connection: it is answered, refused, or waits for its reply.
-ghost use Rattle.std.specs.Prelude.{◌≡◌, ◌++◌, OnErr, OnOk};
+ghost use Rattle.std.specs.Prelude.{◌≡◌, ◌≤◌, ◌++◌, OnErr, OnOk, length, vec_len, vec_capacity};
+ghost use Rattle.wire_http.specs.BufferState.{IsLight};
 ghost use Rattle.wire_http.specs.NextRequest.{FitsIn, IsStopped};
 ghost use Rattle.wire_http.specs.Outcomes.{Answers, Drafts, Refuses, Resolves, Takes, Waits};
+ghost use Rattle.wire_http.specs.RequestInfo.{outcome_without};
+ghost use Rattle.wire_http.specs.Text.{unavailable_text};
 
 use crate::connection::awaited::Awaited;
-use crate::connection::later::{outcome_without, unreplied_behind};
 use crate::connection::next::NextRequest;
-use crate::connection::{Connection, DeferredResponse, noted_behind, shrink};
+use crate::connection::{Connection, DeferredResponse, noted_behind, put_behind, shrink};
 use crate::request_info::{Outcome, RequestInfo, info_of, outcome_of, record_outcome, supplier_of};
+use crate::source::shift;
+use crate::text::unavailable_text;
 use crate::texts::Texts;
 use crate::unavailable::Unavailable;
 use service_step::reply::Reply;
 use std::alloc::{AllocError, Global};
 
+// Returns the recorded outcome of a request without a reply.
+fn outcome_without(reason: Unavailable) -> Outcome
+    ensures { result ≡ outcome_without reason }
+{
+    match reason {
+        Unavailable::Unreachable | Unavailable::Unassigned => Outcome::Stopped,
+        Unavailable::Unknown => Outcome::Fault,
+    }
+}
+
+// Appends a response without a reply to the output. If memory runs out, appends nothing.
+fn unreplied_behind(
+    alloc: Global,
+    output: &mut Vec<u8>,
+    closing: bool,
+    reason: Unavailable,
+) -> Result<(), AllocError>
+    requires light { IsLight (vec_len output.old) (vec_capacity output.old) }
+    ensures whole { OnOk result
+        (output.new.items ≡ output.old.items ++ unavailable_text closing reason) }
+    ensures same { OnErr result (output.new.items ≡ output.old.items) }
+    ensures grows { length output.old.items ≤ length output.new.items }
+    ensures light { IsLight (vec_len output.new) (vec_capacity output.new) }
+{
+    let Ok(text) = unavailable_text(alloc, closing, reason) else {
+        return Err(AllocError);
+    };
+    match put_behind(output, text.as_slice()) {
+        Ok(()) => Ok(()),
+        Err(_) => Err(AllocError),
+    }
+}
+
 impl Connection {
-    ghost use Rattle.std.specs.Prelude.{[], None, Some, true, false};
+    ghost use Rattle.std.specs.Prelude.{[], None, Some, true, false, drop};
     ghost use Rattle.wire_http.specs.Awaited.{info_in, outcome_text, refusal_in, refusal_text, text_in};
     ghost use Rattle.wire_http.specs.Connection.{awaited_of, buffered_of, is_done, is_waiting};
     ghost use Rattle.wire_http.specs.Connection.{has_ended, holds_back, left_of};
     ghost use Rattle.wire_http.specs.Connection.{noted_of, output_of, ready_of, slot_of};
-    ghost use Rattle.wire_http.specs.Later.{outcome_without};
     ghost use Rattle.wire_http.specs.Outcomes.{KeepsRequests, noted_as};
     ghost use Rattle.wire_http.specs.RequestInfo.{outcome_of, recorded_as};
-    ghost use Rattle.wire_http.specs.Text.{unavailable_text};
+
+    // Removes the first `count` bytes of the buffer, which were a request.
+    fn pass(&mut self, count: usize, left: u32)
+        requires fits { count ≤ length (buffered_of self.old) }
+        ensures held { buffered_of self.new ≡ drop count (buffered_of self.old) }
+        ensures output { output_of self.new ≡ output_of self.old }
+        ensures ready { ready_of self.new ≡ ready_of self.old }
+        ensures slot { slot_of self.new ≡ slot_of self.old }
+        ensures awaited { awaited_of self.new ≡ awaited_of self.old }
+        ensures left { left_of self.new ≡ left }
+        ensures ended { has_ended self.new ≡ has_ended self.old }
+        ensures done { is_done self.new ≡ is_done self.old }
+        ensures noted { noted_of self.new ≡ noted_of self.old }
+    {
+        shift(&mut self.held, count);
+        shrink(&mut self.held);
+        self.wanted = 0;
+        self.left = left;
+    }
 
     // Consumes the next request, and records this outcome of it.
     fn take(&mut self, next: NextRequest, outcome: Outcome)
@@ -34,9 +88,8 @@ impl Connection {
         ensures awaited { awaited_of self.new ≡ awaited_of self.old }
         ensures noted { noted_of self.new ≡ Some (noted_as next outcome) }
     {
-        let count = next.head + next.body;
-        let left = next.left;
-        self.leave(count, left, info_of(next.routed, outcome));
+        self.pass(next.head + next.body, next.left);
+        self.noted = Some(info_of(next.routed, outcome));
     }
 
     /// Consumes the next request. Appends the response to its reply, and defers it until it is

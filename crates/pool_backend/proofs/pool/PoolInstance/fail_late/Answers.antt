@@ -7,6 +7,3 @@ loop-init g c = does_none g.L.Log g.S.Space IsFailure c.args.self.now
 
 pub loop-preserved : goal.loop-preserved
 loop-preserved g c = does_then g.L.Log g.S.Space IsFailure c.args.self.now c.loop.self c.fail.new.self c.loop.invariant c.fail.ensures
-
-pub returns-then-is_ended : goal.returns-then-is_ended
-returns-then-is_ended g c = c.fail_all.ensures

@@ -2,7 +2,7 @@ use Rattle.std.proofs.Common.{◌≡◌, refl, sym, ap, subst, ◌∙◌, true, 
 use Rattle.std.specs.Prelude.{position}
 use Rattle.policy_core.specs.declared.call.Call.{Call}
 use Rattle.service_calls.specs.Run.{IsReplyTo}
-use Rattle.pool_instance.specs.Does.{AnsweredAs, AnsweredSo}
+use Rattle.pool_instance.specs.Does.{AnsweredAs, HasOutcome}
 use Rattle.pool_instance.specs.Parts.{is_due, is_due_as, is_ended, sent_in}
 use Rattle.pool_instance.specs.Request.{call_of}
 use Rattle.pool_instance.specs.declared.fault.InstanceFault.{InstanceFault}
@@ -55,7 +55,7 @@ returns-in-Fault g c =
     let asked = subst (λ (v : Call). IsReplyTo g.S.Space old.service c.call-reply.new.self c.args.now v c.call-reply.result) same c.call-reply.ensures.reply in
     let removed = found_is (is_due old.taken) xs i c.remove-id.result f c.remove-id.ensures.value in (
       ap (λ (v : Reading). v.held.id) (sym removed) ∙ id_due_as c.args.id old.taken xs i w,
-      subst (λ (v : Reading). AnsweredSo g.L.Log g.S.Space c.args.now old new (Ok (Some (Failed v.held.id)))) removed
+      subst (λ (v : Reading). HasOutcome g.L.Log g.S.Space c.args.now old new (Failed v.held.id)) removed
           (answered_fault g.L.Log g.S.Space old new c.args.now i c.call-reply.result f c.if-self.false asked refl c.remove-id.ensures.items refl refl refl refl refl (sym c.is_stopped.ensures ∙ c.if-is_stopped.false) refl refl c.in-Fault.is),
     )
 
@@ -74,7 +74,7 @@ returns-in_default-reply g c =
     let goes = sym c.is_stopped.ensures ∙ c.if-is_stopped.false in
     let removed = found_is (is_due old.taken) xs i c.remove-id.result f c.remove-id.ensures.value in (
       ap (λ (v : Reading). v.held.id) (sym removed) ∙ id_due_as c.args.id old.taken xs i w,
-      subst (λ (v : Reading). AnsweredSo g.L.Log g.S.Space c.args.now old new (Ok (Some (Replied v.held.id c.call-reply.result)))) removed
+      subst (λ (v : Reading). HasOutcome g.L.Log g.S.Space c.args.now old new (Replied v.held.id c.call-reply.result)) removed
           (answered_reply g.L.Log g.S.Space old new c.args.now i c.call-reply.result f c.if-self.false asked refl c.remove-id.ensures.items refl refl refl refl refl goes refl refl
           (final_reply c.call-reply.result c.in_default-reply.not-Fault goes)),
     )

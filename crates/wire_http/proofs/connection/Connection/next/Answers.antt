@@ -1,6 +1,6 @@
 use Rattle.std.proofs.Common.{◌<◌, append-nil, length, drop, ap, arith, inl, inr, refl, sym}
 use Rattle.wire_http.proofs.BufferedLaws.{none_here}
-use Rattle.wire_http.proofs.LaterLaws.{breaks_some, request_here}
+use Rattle.wire_http.proofs.FirstRequest.{breaks_some, request_here}
 use Rattle.wire_http.proofs.PeekLaws.{closes_at}
 use Rattle.wire_http.proofs.StepLaws.{finishes, held_request, held_stops, held_wants, unsent_more}
 use Rattle.wire_http.specs.DeferredResponse.{before_last}

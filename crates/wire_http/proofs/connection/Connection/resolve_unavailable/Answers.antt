@@ -1,6 +1,6 @@
 use Rattle.std.proofs.Common.{◌∙◌, ◌++◌, ap, sym}
 use Rattle.wire_http.specs.Connection.{ready_of}
-use Rattle.wire_http.specs.Later.{outcome_without}
+use Rattle.wire_http.specs.RequestInfo.{outcome_without}
 use Rattle.wire_http.proofs.Outcomes.{on_ok, recorded_last, refusal_drafted, resolves_err, resolves_ok}
 use Rattle.wire_http.proofs.connection.Connection.resolve_unavailable.Goals as goal
 

@@ -1,9 +1,0 @@
-pub mod Takes
-pub mod Works
-pub mod Runs
-pub mod Steps
-pub mod Serves
-pub mod Own
-pub mod Requests
-pub mod ServedRuns
-pub mod Held

@@ -1,6 +1,0 @@
-use Rattle.std.proofs.Common.{◌≡◌}
-use Rattle.pool_server.specs.ServesClients.{KeepsClients}
-use Rattle.pool_server.proofs.pool_server.PoolServer.wait.Given as goal
-
-abbrev pub invariant-loop : goal.invariant-loop
-invariant-loop g l = KeepsClients g.T.ClientSocket.name l.fn.self l.self × (g.N.Sockets.history l.sockets ≡ g.N.Sockets.history l.fn.sockets)
