@@ -25,7 +25,7 @@ use Rattle.server_clients.specs.ClientEvents.{Asks, ClientEvent, EndsStream, Occ
 use Rattle.server_clients.specs.ServerEvents.{Accepts, Acts, Closes, Confirms, FollowAll, Follows, Looks, Moves, ReadsFor, Refuses, ServerEvent, ServerState, Setup, Stops, Tells, Works}
 use Rattle.database_backend.specs.Database.{MakesCall, ReceivesAs, StepsAs, service_of}
 use Rattle.database_backend.specs.declared.database.Database.{Database}
-use Rattle.database_laws.specs.OneList.{all_requests, requests_in}
+use Rattle.database_laws.specs.Requests.{all_requests, requests_in}
 
 abbrev pub asked_by : ClientEvent → List BackendEvent
 asked_by (Steps step) = []

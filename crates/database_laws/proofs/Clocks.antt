@@ -16,7 +16,7 @@ use Rattle.server_clients.specs.ClientEvents.{Asks, ClientEvent, EndsStream, Occ
 use Rattle.server_clients.specs.ServerEvents.{Accepts, Acts, Closes, Confirms, FollowAll, Follows, Looks, Moves, ReadsFor, Refuses, ServerEvent, ServerState, Setup, Stops, Tells, Works}
 use Rattle.database_backend.specs.Policy.{time_at, time_in, times_of}
 use Rattle.database_backend.specs.Policy as policy
-use Rattle.database_laws.specs.OneList.{all_requests, requests_in}
+use Rattle.database_laws.specs.Requests.{all_requests, requests_in}
 use Rattle.database_laws.specs.Serve.{PurgesAreDue}
 use Rattle.database_laws.proofs.Asked.{asked_events, asked_in}
 

@@ -1,6 +1,7 @@
 mod Acts
 mod Asked
 mod Clocks
+mod Kept
 mod OneList
 mod Policy
 mod Responses

@@ -12,7 +12,6 @@ use Rattle.server_backend.specs.Told.{told_replies}
 use Rattle.server_backend.specs.declared.backend.Backend as backends
 use Rattle.server_clients.specs.Backends.{all_backend_events}
 use Rattle.server_clients.specs.Clients.{EachClientIsServed}
-use Rattle.server_clients.specs.ServerEvents.{FollowAll, ServerEvent}
 use Rattle.database_backend.specs.Batches.{batches_of}
 use Rattle.database_backend.specs.Database.{StepsAs, retention_of, service_of}
 use Rattle.database_backend.specs.Delivered.{AreDelivered}
@@ -22,7 +21,7 @@ use Rattle.database_backend.proofs.Stories.{are_delivered}
 use Rattle.database_laws.specs.Responses.{ClientsGetThePolicy}
 use Rattle.database_laws.proofs.Acts.{timed_are}
 use Rattle.database_laws.proofs.Asked.{all_asked, asked_events, calls_asked}
-use Rattle.database_laws.proofs.Responses.{sent_replies}
+use Rattle.database_laws.proofs.Responses.{each_is_sent}
 use Rattle.database_laws.proofs.Told.{same_told}
 
 module _ {S M T : Type 0} (g : spaces.Ghosts S) (k : settles.Ghosts S) (b : backends.Ghosts (Database S)) (m : moments.Ghosts M) (t : sources.Ghosts T)
@@ -41,7 +40,5 @@ module _ {S M T : Type 0} (g : spaces.Ghosts S) (k : settles.Ghosts S) (b : back
         calls = timed_are (retention_of old.backend) asked cut.segments cut.batches cut.calls cut.acts ∙ calls_asked g k b m t is setup events old new follow;
         runs = policy.runs;
         unseen = policy.unseen;
-        clients = λ before after key name split stays.
-            sent_replies g k b m t is setup key each before after name old new (subst (λ (v : List ServerEvent). FollowAll b m t setup v old new) split follow) replies
-            (subst (λ (v : List ServerEvent). AreDelivered (told_replies (all_backend_events v)) replies) split told) stays;
+        clients = λ before during rest key name. each_is_sent g k b m t is setup key each events old new follow replies told before during rest name;
       }

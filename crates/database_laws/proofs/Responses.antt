@@ -1,7 +1,8 @@
 -- What the clients are sent is the texts of the replies of the policy.
-use Rattle.std.proofs.Common.{◌≡◌, ◌∙◌, ◌==◌, ◌&&◌, ℕ, Bool, true, false, not, List, [], ◌∷◌, ◌++◌, length, drop, Option, Some, None, Result, Ok, Err, IfSome, if◌then◌else◌, refl, sym, ap, subst}
+use Rattle.std.proofs.Common.{◌≡◌, ◌∙◌, ◌==◌, ◌&&◌, ℕ, Bool, true, false, not, List, [], ◌∷◌, ◌++◌, length, drop, take, Option, Some, None, Result, Ok, Err, IfSome, if◌then◌else◌, refl, sym, ap, subst}
 use Rattle.std.specs.List.{concat}
 use Rattle.std.proofs.lemmas.Bool.{eq-eqb}
+use Rattle.std.proofs.lemmas.List.Concat.{flat_map-append}
 use Rattle.std.proofs.lemmas.List.Folds.{concat-append}
 use Rattle.policy_core.specs.declared.call.Call.{Call}
 use Rattle.service_calls.specs.Run.{TimedCall}
@@ -31,13 +32,13 @@ use Rattle.server_clients.specs.ClientEvents.{Asks, EndsStream, ReadsClock, Step
 use Rattle.server_clients.specs.ClientState.{ClientState, drafted, new_client, slot_for}
 use Rattle.server_clients.specs.Clients.{EachClientIsServed, StaysOpen, text_for, texts_to, told_text}
 use Rattle.server_clients.specs.Replies.{IsTextOf}
-use Rattle.server_clients.specs.ServerEvents.{Accepts, Acts, Closes, Confirms, FollowAll, Looks, Moves, Refuses, ServerEvent, ServerState, Setup, Stops, Tells, Works}
+use Rattle.server_clients.specs.ServerEvents.{Accepts, Acts, Closes, Confirms, FollowAll, Looks, Moves, Refuses, ServerEvent, ServerState, Setup, Stops, Tells, Works, backend_events_of}
 use Rattle.server_clients.specs.Texts.{MayHaveTexts, RequestTexts, Slot, no_texts, outcome_text, reply_in, texts_for, without_texts}
 use Rattle.database_backend.specs.Database.{ReceivesAs, StepsAs, outcome_for, outcome_of}
 use Rattle.database_backend.specs.Delivered.{AreDelivered}
 use Rattle.database_backend.specs.declared.database.Database.{Database}
-use Rattle.database_laws.specs.OneList.{all_requests}
-use Rattle.database_laws.specs.Responses.{AreTextsTo, Cause, IsResponse, IsSentReplies, all_causes, has_text, is_told}
+use Rattle.database_laws.specs.Requests.{all_requests}
+use Rattle.database_laws.specs.Responses.{AreTextsTo, Cause, IsResponse, IsSentUpTo, all_causes, has_text, is_told}
 use Rattle.database_laws.proofs.Asked.{called_in, own_calls, told_calls}
 
 -- ---- outcomes
@@ -67,6 +68,27 @@ told_without (Announces ticket) events h = refl
 told_without (Answers moment ticket outcome) events h = refl
 told_without (Forgets ticket) events h = refl
 told_without StopsBackend events h = refl
+
+either_before : (same : Bool) (now later sooner : Option Reply) (P : Reply → Type 0) → (IfSome later P → IfSome sooner P) → IfSome (if same then now else later) P → IfSome (if same then now else sooner) P
+either_before true now later sooner P more h = h
+either_before false now later sooner P more h = more h
+
+in_before : (ticket : ℕ) (draft : Option Reply) (given : Option (ℕ × Outcome)) (later sooner : Option Reply) (P : Reply → Type 0) → (IfSome later P → IfSome sooner P)
+    → IfSome (reply_of_event ticket draft given later) P → IfSome (reply_of_event ticket draft given sooner) P
+in_before ticket draft None later sooner P more h = more h
+in_before ticket draft (Some given) later sooner P more h = either_before (ticket == given.0) (reply_by draft given.1) later sooner P more h
+
+-- A reply that was told by some events is told by these and later ones.
+under_before : (ticket : ℕ) (draft : Option Reply) (events rest : List BackendEvent) (P : Reply → Type 0) → IfSome (reply_under ticket draft (events ++ rest)) P → IfSome (reply_under ticket draft events) P
+under_before ticket draft [] rest P h = tt
+under_before ticket draft (event ∷ events) rest P h =
+    in_before ticket draft (outcome_in event) (reply_under ticket draft (events ++ rest)) (reply_under ticket draft events) P (under_before ticket draft events rest P) h
+
+told_before : (received : Received) (events rest : List BackendEvent) (P : Reply → Type 0) → IfSome (reply_after received (events ++ rest)) P → IfSome (reply_after received events) P
+told_before (came.Answered reply) events rest P h = h
+told_before (came.Drafted ticket reply) events rest P h = under_before ticket (Some reply) events rest P h
+told_before (came.Waits ticket) events rest P h = under_before ticket None events rest P h
+told_before (came.Refused reason) events rest P h = h
 
 no_outcome : (given : ℕ × Outcome) → None ≡ Some given → ⊥
 no_outcome given h = cc
@@ -248,6 +270,10 @@ module _ {S M T : Type 0} (g : spaces.Ghosts S) (k : settles.Ghosts S) (b : back
         → AreDelivered (told_replies (all_backend_events events)) replies
     skipped event events replies none h = subst (λ (v : List (Option Reply)). AreDelivered v replies) (told_without event (all_backend_events events) none) h
 
+    with_none : (event : BackendEvent) (events : List ServerEvent) (replies : List Reply) → called_in event ≡ [] → AreDelivered (told_replies (all_backend_events events)) replies
+        → AreDelivered (told_replies (event ∷ all_backend_events events)) replies
+    with_none event events replies none h = subst (λ (v : List (Option Reply)). AreDelivered v replies) (sym (told_without event (all_backend_events events) none)) h
+
     abbrev TextsOf : List ServerEvent → List Reply → Type 0
     TextsOf events replies = Texts setup.explaining key (all_causes events) replies (texts_to key events)
 
@@ -301,25 +327,76 @@ module _ {S M T : Type 0} (g : spaces.Ghosts S) (k : settles.Ghosts S) (b : back
     delivered_after (Stops ∷ before) after old new h replies d = delivered_after before after h.0 new h.2 replies d
     delivered_after (Closes other ∷ before) after old new h replies d = delivered_after before after h.0 new h.2 replies d
 
-    goes_on : (before after : List ServerEvent) (old new : ServerState (Database S) M T) → FollowAll b m t setup (before ++ after) old new
-        → (mid : ServerState (Database S) M T) × FollowAll b m t setup after mid new
-    goes_on [] after old new h = (old, h)
-    goes_on (event ∷ before) after old new h = goes_on before after h.0 new h.2
+    -- The replies to the first requests. A reply that was told later is not needed.
+    delivered_before : (during rest : List ServerEvent) (old new : ServerState (Database S) M T) → FollowAll b m t setup (during ++ rest) old new → (replies : List Reply)
+        → AreDelivered (told_replies (all_backend_events (during ++ rest))) replies → AreDelivered (told_replies (all_backend_events during)) (take (length (all_requests during)) replies)
+    delivered_before [] rest old new h replies d = refl
+    delivered_before (Acts other name (Asks asked made received texts lost) ∷ during) rest old new h [] d = absurd d
+    delivered_before (Acts other name (Asks asked made received texts lost) ∷ during) rest old new h (reply ∷ replies) d = (
+      told_before received (all_backend_events during) (all_backend_events rest) (λ it. it ≡ reply)
+          (subst (λ (v : List BackendEvent). IfSome (reply_after received v) (λ it. it ≡ reply)) (flat_map-append backend_events_of during rest) d.0),
+      delivered_before during rest h.0 new h.2 replies d.1,
+    )
+    delivered_before (Acts other name (EndsStream end) ∷ during) rest old new h replies d = delivered_before during rest h.0 new h.2 replies d
+    delivered_before (Acts other name (Steps step) ∷ during) rest old new h replies d = delivered_before during rest h.0 new h.2 replies d
+    delivered_before (Acts other name (ReadsClock moment) ∷ during) rest old new h replies d = delivered_before during rest h.0 new h.2 replies d
+    delivered_before (Tells event ticket outcome lost ∷ during) rest old new h replies d =
+        with_none event during (take (length (all_requests during)) replies) (told_calls m event old.clock h.1.1 h.1.3)
+        (delivered_before during rest h.0 new h.2 replies (skipped event (during ++ rest) replies (told_calls m event old.clock h.1.1 h.1.3) d))
+    delivered_before (Works event ∷ during) rest old new h replies d =
+        with_none event during (take (length (all_requests during)) replies) (own_calls event h.1.1)
+        (delivered_before during rest h.0 new h.2 replies (skipped event (during ++ rest) replies (own_calls event h.1.1) d))
+    delivered_before (Moves moment held now ∷ during) rest old new h replies d = delivered_before during rest h.0 new h.2 replies d
+    delivered_before (Accepts other name ∷ during) rest old new h replies d = delivered_before during rest h.0 new h.2 replies d
+    delivered_before (Refuses name ∷ during) rest old new h replies d = delivered_before during rest h.0 new h.2 replies d
+    delivered_before (Looks now found ∷ during) rest old new h replies d = delivered_before during rest h.0 new h.2 replies d
+    delivered_before (Confirms ∷ during) rest old new h replies d = delivered_before during rest h.0 new h.2 replies d
+    delivered_before (Stops ∷ during) rest old new h replies d = delivered_before during rest h.0 new h.2 replies d
+    delivered_before (Closes other ∷ during) rest old new h replies d = delivered_before during rest h.0 new h.2 replies d
 
-    pub sent_replies : EachClientIsServed b m t → (before after : List ServerEvent) (name : ℕ) (old new : ServerState (Database S) M T) → FollowAll b m t setup (before ++ Accepts key name ∷ after) old new
-        → (replies : List Reply) → AreDelivered (told_replies (all_backend_events (before ++ Accepts key name ∷ after))) replies → StaysOpen key after
-        → IsSentReplies setup.explaining key name after (drop (length (all_requests before)) replies) new
-    sent_replies each before after name old new h replies d stays =
-        let rest = goes_on before (Accepts key name ∷ after) old new h in
-        let mid = rest.1.0 in
-        let accepted : mid.clients key ≡ Some (new_client name) = ap (λ (s : ServerState (Database S) M T). s.clients key) rest.1.1.1 ∙ at_self rest.0.clients key (Some (new_client name)) in
-        let served = each setup after mid new key name rest.1.2 accepted stays in
-        let of = all_texts after mid new rest.1.2 (drop (length (all_requests before)) replies) (delivered_after before (Accepts key name ∷ after) old new h replies d) in
+    -- The state between events.
+    parted : (before after : List ServerEvent) (old new : ServerState (Database S) M T) → FollowAll b m t setup (before ++ after) old new
+        → (mid : ServerState (Database S) M T) × FollowAll b m t setup before old mid × FollowAll b m t setup after mid new
+    parted [] after old new h = (old, refl, h)
+    parted (event ∷ before) after old new h =
+        let found = parted before after h.0 new h.2 in
+        (found.0, (h.0, h.1, found.1), found.2)
+
+    follow_more : (before after : List ServerEvent) (old mid new : ServerState (Database S) M T) → FollowAll b m t setup before old mid → FollowAll b m t setup after mid new
+        → FollowAll b m t setup (before ++ after) old new
+    follow_more [] after old mid new h rest = subst (λ (s : ServerState (Database S) M T). FollowAll b m t setup after s new) h rest
+    follow_more (event ∷ before) after old mid new h rest = (h.0, h.1, follow_more before after h.0 mid new h.2 rest)
+
+    pub sent_up_to : EachClientIsServed b m t → (before during rest : List ServerEvent) (name : ℕ) (old new : ServerState (Database S) M T)
+        → FollowAll b m t setup (before ++ Accepts key name ∷ (during ++ rest)) old new → (replies : List Reply)
+        → AreDelivered (told_replies (all_backend_events (before ++ Accepts key name ∷ (during ++ rest)))) replies → StaysOpen key during
+        → IsSentUpTo b m t setup old replies before during key name
+    sent_up_to each before during rest name old new h replies d stays =
+        let outer = parted before (Accepts key name ∷ (during ++ rest)) old new h in
+        let accepts = outer.2 in
+        let start = accepts.0 in
+        let inner = parted during rest start new accepts.2 in
+        let accepted : start.clients key ≡ Some (new_client name) = ap (λ (s : ServerState (Database S) M T). s.clients key) accepts.1.1 ∙ at_self outer.0.clients key (Some (new_client name)) in
+        let served = each setup during start inner.0 key name inner.1 accepted stays in
+        let later = drop (length (all_requests before)) replies in
+        let after = delivered_after before (Accepts key name ∷ (during ++ rest)) old new h replies d in
+        let of = all_texts during start inner.0 inner.1 (take (length (all_requests during)) later) (delivered_before during rest start new accepts.2 later after) in
         record {
-          client = served.0;
-          client_is = served.1;
-          name_is = served.2;
-          texts = of.texts;
-          are_texts = of.are_texts;
-          sent = served.3 ∙ sym of.same;
+          mid = inner.0;
+          follow = follow_more before (Accepts key name ∷ during) old outer.0 inner.0 outer.1 (start, accepts.1, inner.1);
+          sent = record {
+            client = served.0;
+            client_is = served.1;
+            name_is = served.2;
+            texts = of.texts;
+            are_texts = of.are_texts;
+            sent = served.3 ∙ sym of.same;
+          };
         }
+
+    pub each_is_sent : EachClientIsServed b m t → (events : List ServerEvent) (old new : ServerState (Database S) M T) → FollowAll b m t setup events old new → (replies : List Reply)
+        → AreDelivered (told_replies (all_backend_events events)) replies → (before during rest : List ServerEvent) (name : ℕ) → events ≡ before ++ Accepts key name ∷ (during ++ rest)
+        → StaysOpen key during → IsSentUpTo b m t setup old replies before during key name
+    each_is_sent each events old new follow replies told before during rest name split stays =
+        sent_up_to each before during rest name old new (subst (λ (v : List ServerEvent). FollowAll b m t setup v old new) split follow) replies
+        (subst (λ (v : List ServerEvent). AreDelivered (told_replies (all_backend_events v)) replies) split told) stays

@@ -12,7 +12,7 @@ use Rattle.server_watch.specs.declared.token_watch.TokenSource as sources
 use Rattle.server_backend.specs.declared.backend.Backend as backends
 use Rattle.server_clients.specs.ClientEvents.{Asks, EndsStream, ReadsClock, Steps}
 use Rattle.server_clients.specs.ServerEvents.{Accepts, Acts, Closes, Confirms, FollowAll, Looks, Moves, Refuses, ServerEvent, ServerState, Setup, Stops, Tells, Works}
-use Rattle.database_laws.specs.OneList.{all_requests}
+use Rattle.database_laws.specs.Requests.{all_requests}
 use Rattle.database_laws.specs.Serve.{AskedUnder}
 
 abbrev tables_in : ServerEvent → List TokenFile

@@ -1,3 +1,5 @@
+pub mod Kept
 pub mod OneList
+pub mod Requests
 pub mod Responses
 pub mod Serve

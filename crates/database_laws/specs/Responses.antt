@@ -1,5 +1,5 @@
 -- What the clients of a server over a database are sent: the texts of the replies of the policy.
-use Rattle.std.specs.Prelude.{◌≡◌, ◌==◌, ◌&&◌, ℕ, Bool, true, false, not, List, [], ◌∷◌, ◌++◌, length, drop, map, Some, if◌then◌else◌}
+use Rattle.std.specs.Prelude.{◌≡◌, ◌==◌, ◌&&◌, ℕ, Bool, true, false, not, List, [], ◌∷◌, ◌++◌, length, drop, map, take, Some, if◌then◌else◌}
 use Rattle.std.specs.List.{concat}
 use Rattle.entity_core.specs.Airspace.{Airspace, IsAirspace}
 use Rattle.service_calls.specs.Batches.{Batch}
@@ -28,7 +28,7 @@ use Rattle.server_clients.specs.Texts.{no_texts}
 use Rattle.database_backend.specs.Database.{IsQuiet, service_of}
 use Rattle.database_backend.specs.Policy.{RunsFrom}
 use Rattle.database_backend.specs.declared.database.Database.{Database}
-use Rattle.database_laws.specs.OneList.{all_requests}
+use Rattle.database_laws.specs.Requests.{all_requests}
 use Rattle.database_laws.specs.Serve.{all_timed_in}
 
 -- Returns true if the backend gave an outcome under a ticket, and memory did not run out for the
@@ -114,14 +114,31 @@ pub record IsSentReplies {B M T : Type 0} (explaining : Explaining) (key name : 
   pub are_texts : AreTextsTo explaining key (all_causes events) replies texts
   pub sent : sent_to key events ++ client.ready ≡ concat texts
 
-module _ {S M T : Type 0} (k : settles.Ghosts S) where
+module _ {B M T : Type 0} (b : backends.Ghosts B) (m : moments.Ghosts M) (t : sources.Ghosts T)
+    (setup : Setup) (old : ServerState B M T) (replies : List Reply) where
+  -- Holds if the client that was accepted under a key after the events `before` was sent the texts
+  -- for it in the events `during`. Its replies are at the places of its requests.
+  pub record IsSentUpTo (before during : List ServerEvent) (key name : ℕ) : Type 0 where
+    pub mid : ServerState B M T
+    pub follow : FollowAll b m t setup (before ++ Accepts key name ∷ during) old mid
+    pub sent : IsSentReplies setup.explaining key name during
+        (take (length (all_requests during)) (drop (length (all_requests before)) replies)) mid
+
+  -- Holds if each client was sent the texts of these replies at the places of its requests, from
+  -- its acceptance on, up to each event until it is closed.
+  abbrev pub EachIsSent : List ServerEvent → Type 0
+  EachIsSent events = (before during rest : List ServerEvent) (key name : ℕ)
+      → events ≡ before ++ Accepts key name ∷ (during ++ rest) → StaysOpen key during
+      → IsSentUpTo before during key name
+
+module _ {S M T : Type 0} (k : settles.Ghosts S) (b : backends.Ghosts (Database S))
+    (m : moments.Ghosts M) (t : sources.Ghosts T) where
   -- Holds if one list of calls explains what all clients were sent. It is that of their requests.
   -- The delivered replies and the durable airspace are those of the policy, over what the purges
   -- between the batches left. If no reply was `Stopped`, and each call is forward-looking from the
-  -- purges before it, they are those of the policy without purges. Each client, from its acceptance
-  -- on, was sent the texts of the delivered replies at the places of its requests, as long as it
-  -- was not closed.
-  pub record IsSentThePolicy (explaining : Explaining) (a : Airspace) (events : List ServerEvent)
+  -- purges before it, they are those of the policy without purges. Each client was sent the texts
+  -- of the delivered replies at the places of its requests.
+  pub record IsSentThePolicy (setup : Setup) (a : Airspace) (events : List ServerEvent)
       (old new : ServerState (Database S) M T) : Type 0 where
     pub segments : List Segment
     pub batches : List Batch
@@ -131,10 +148,7 @@ module _ {S M T : Type 0} (k : settles.Ghosts S) where
     pub unseen : IsAirspace a → has_stopped (all_delivered_in segments batches) ≡ false
         → LookAheadOncePurged (salt_of (service_of old.backend)) a segments batches
         → AreUnseen k (salt_of (service_of old.backend)) a segments batches (service_of new.backend)
-    pub clients : (before after : List ServerEvent) (key name : ℕ)
-        → events ≡ before ++ Accepts key name ∷ after → StaysOpen key after
-        → IsSentReplies explaining key name after
-        (drop (length (all_requests before)) (all_delivered_in segments batches)) new
+    pub clients : EachIsSent b m t setup old (all_delivered_in segments batches) events
 
 -- ---- the law
 
@@ -148,4 +162,4 @@ module _ {S M T : Type 0} (g : spaces.Ghosts S) (k : settles.Ghosts S)
       (old new : ServerState (Database S) M T) (a : Airspace)
       → FollowAll b m t setup events old new → IsQuiet old.backend
       → RunsFrom g k a (service_of old.backend) (service_of new.backend)
-      → IsSentThePolicy k setup.explaining a events old new
+      → IsSentThePolicy k b m t setup a events old new

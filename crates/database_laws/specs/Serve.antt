@@ -39,7 +39,7 @@ module _ {S M : Type 0} (g : spaces.Ghosts S) (k : settles.Ghosts S) (m : moment
   -- Each call was checked against one token table. The first table is that of the start. Each later
   -- one was read whole from the token file as it then was, and has the same salt.
   -- The calls form batches. Each batch ended with a commit, which may have failed. The reply due to
-  -- a client follows from that. What clients received is not stated.
+  -- a client follows from that.
   -- Purge chunks ran between batches. They removed only what had ended at least the retention
   -- before a time of the clock. Without a retention nothing was purged.
   -- Each call was made at a time of the clock, which returned no more than these results.

@@ -12,7 +12,8 @@ use space_snapshot::snapshot::SnapshotSource;
 use wire_http::Moments;
 
 /// States that the service executed exactly the calls of the requests that the backend received,
-/// in one order for all clients.
+/// in one order for all clients, and that each client was sent the texts of the replies of its
+/// calls.
 ///
 /// Each call was checked against the active token table, was made at a time of the clock, and is in
 /// a batch that ended. Purges ran between batches, up to times of the clock less the retention. A
@@ -25,7 +26,9 @@ pub fn calls_of_clients_are_one_list<
 >()
     ensures { CallsOfClientsAreOneList S.Space S.GroupCommit.own ⟦<Database<S> as Backend>⟧
         M.Moments T.TokenSource }
-{}
+{
+    each_client_is_served::<Database<S>, M, T>();
+}
 
 /// States that what all clients were sent, and what may be sent, is the texts of the replies of the
 /// policy, each at the place of its request in one list of calls.

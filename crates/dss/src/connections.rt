@@ -5,7 +5,8 @@ use crate::change_time::paths_of;
 use crate::clock::SystemClock;
 use crate::clock_file::{read_time, remove_time, write_time};
 use crate::new_database::make_database;
-use crate::serving::{Ports, admin_listener, clients_of, explaining, log_of, served_tokens};
+use crate::serving::{admin_listener, clients_of, explaining, log_of, served_tokens};
+use crate::sockets::PortSockets;
 use crate::tokens::TokenFile;
 use admin_backup::folder::BackupDir;
 use dss_args::serve_args::ServeArgs;
@@ -16,12 +17,13 @@ use dss_command::limits::print_limits;
 use dss_command::moment::seconds_of;
 use dss_command::tokens::salt_of;
 use dss_database::files::{self, close_database, open_database};
+use mio::Poll;
 use server_base::limits::Limits;
 use server_base::trusted_time::{LastTime, TrustedTime};
 use server_watch::token_watch::TokenWatch;
 use sqlite::Start;
-use std::fs;
 use std::io::Write;
+use std::{fs, io};
 
 const MEBIBYTE: usize = 1_048_576;
 
@@ -98,6 +100,15 @@ fn keep_change(rt: &HostRuntime, given: &ServeArgs<'_>, last: Option<LastTime>) 
     write_time(rt, given.database, time).is_ok()
 }
 
+// Creates sockets without ports.
+fn sockets_of<'a>(
+    rt: &'a HostRuntime,
+    database: &'a str,
+    cause: &'a mut Cause,
+) -> io::Result<PortSockets<'a>> {
+    PortSockets::new(rt, Poll::new(rt)?, Some(database), cause)
+}
+
 /// Runs the command over the database, which is closed last.
 pub(crate) fn serve<F: Start, E: Write>(
     rt: &HostRuntime,
@@ -153,13 +164,13 @@ pub(crate) fn serve<F: Start, E: Write>(
     };
     let watch = TokenWatch::new(TokenFile::named(rt, given.tokens), text);
     let mut clock = SystemClock::new(rt);
-    let ports = Ports {
-        rt,
-        poll: None,
-        log,
-        backups,
-        database: Some(given.database),
-        cause,
+    let mut sockets = match sockets_of(rt, given.database, cause) {
+        Ok(sockets) => sockets,
+        Err(error) => {
+            let fault = io_fault(&error, Fault::Socket);
+            let _files = close_database(Err(fault), space)?;
+            return Ok(());
+        }
     };
     let _files = files::serve(
         rt.alloc(),
@@ -170,7 +181,9 @@ pub(crate) fn serve<F: Start, E: Write>(
         answering,
         watch,
         &mut clock,
-        ports,
+        &mut sockets,
+        backups,
+        log,
         error,
     )?;
     Ok(())

@@ -7,23 +7,27 @@ use crate::log_file::SystemLog;
 use crate::pool_file_check::check_file;
 use crate::pool_files::{FileName, PoolFiles, beginning_of};
 use crate::pool_log::{LogArgs, check_settings, new_poll, open_log, settings_of, with_loss};
-use crate::serving::{Ports, admin_listener, clients_of, explaining, log_of, served_tokens};
+use crate::serving::{admin_listener, clients_of, explaining, log_of, served_tokens};
+use crate::sockets::PortSockets;
 use crate::tokens::TokenFile;
 use dss_args::pool_args::PoolArgs;
-use dss_command::fault::Fault;
+use dss_command::fault::{Fault, io_fault};
 use dss_command::limits::print_limits;
-use dss_command::pool::{PoolConfig, new_instance, serve_pool_port};
+use dss_command::pool::{PoolConfig, new_backend, new_instance, serve_pool_port};
 use dss_command::pool_fault::PoolFault;
 use dss_database::pool_files::load;
 use mio::{Poll, Registry};
 use pool_etcd::etcd_log::EtcdLog;
-use pool_server::limits::PoolLimits;
+use server_base::limits::Limits;
 use server_watch::token_watch::TokenWatch;
 use space_memory::memory::MemorySpace;
 use sqlite::Start;
 use std::fs::File;
 use std::io::Write;
 use token_conf::token_table::TokenTable;
+
+// The budget for unsent bytes of responses.
+const RESPONSE_MEMORY: usize = 64 * 1_048_576;
 
 // The file from which an instance starts. It is not removed while the instance has its turn.
 #[derive(Drop)]
@@ -146,37 +150,40 @@ fn serve_from<E: Write>(
         registry,
         space,
     } = begun;
-    let mut instance = new_instance(rt.alloc(), log, space, tokens, given.retention)?;
+    let instance = new_instance(rt.alloc(), log, space, tokens, given.retention)?;
     let clients = clients_of(rt, given.max_connections);
+    let log_io = EtcdIo::new(rt, registry);
+    let mut backend = new_backend(rt.alloc(), instance, log_io, clients)?;
     let config = PoolConfig {
         tokens,
         addresses: given.listen.as_slice(),
-        limits: PoolLimits::usual(clients, given.count),
+        limits: Limits {
+            count: given.count,
+            clients,
+            response_memory: RESPONSE_MEMORY,
+        },
         explaining: explaining(given.explain),
+        keep: given.retention,
         operated: admin_listener(rt, given.admin_port),
         verbose: given.verbose,
     };
-    let ports = Ports {
-        rt,
-        poll: Some(poll),
-        log: access_log,
-        backups: None,
-        database: None,
-        cause,
+    let mut sockets = match PortSockets::new(rt, poll, None, cause) {
+        Ok(sockets) => sockets,
+        Err(error) => return Err(io_fault(&error, Fault::Socket)),
     };
     let served = serve_pool_port(
         rt.alloc(),
-        &mut instance,
+        &mut backend,
         config,
         TokenWatch::new(TokenFile::named(rt, given.tokens), text),
         &mut SystemClock::new(rt),
-        ports,
-        &mut EtcdIo::new(rt, registry),
+        &mut sockets,
+        access_log,
         error,
     );
     match served {
         Ok(()) => Ok(()),
-        Err(fault) => Err(with_loss(fault, instance.log().loss())),
+        Err(fault) => Err(with_loss(fault, backend.instance().log().loss())),
     }
 }
 

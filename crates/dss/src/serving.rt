@@ -1,18 +1,14 @@
 //! What the commands `serve` and `serve --pool` share.
-use crate::backups::PortBackups;
 use crate::cause::Cause;
 use crate::clock::SystemClock;
 use crate::descriptors::max_clients;
 use crate::log_file::SystemLog;
-use crate::sockets::PortSockets;
 use crate::tokens::served_token_text;
 use dss_command::fault::{Fault, io_fault};
-use dss_command::ports::{AdminListener, Listen};
+use dss_command::ports::AdminListener;
 use dss_command::token_files::print_token_check;
 use dss_command::tokens::table_of;
-use mio::Poll;
 use server_base::limits::MAX_CONNECTIONS;
-use std::io;
 use std::io::Write;
 use std::net::SocketAddr;
 use token_conf::token_table::TokenTable;
@@ -37,55 +33,6 @@ pub(crate) fn explaining(explain: bool) -> Explaining {
         Explaining::On
     } else {
         Explaining::Off
-    }
-}
-
-/// The ports of this system, its log, the maker of backups, and the record of a cause.
-#[derive(Drop)]
-pub(crate) struct Ports<'a> {
-    pub(crate) rt: &'a HostRuntime,
-    /// What watches the sockets, if it watches others already.
-    pub(crate) poll: Option<Poll>,
-    pub(crate) log: Option<SystemLog<'a>>,
-    pub(crate) backups: Option<PortBackups<'a>>,
-    /// The name of the database file, if there is one.
-    pub(crate) database: Option<&'a str>,
-    pub(crate) cause: &'a mut Cause,
-}
-
-impl<'a> Listen for Ports<'a> {
-    type Sockets = PortSockets<'a>;
-
-    type Backups = PortBackups<'a>;
-
-    type Log = SystemLog<'a>;
-
-    fn log(&mut self) -> Option<SystemLog<'a>> {
-        self.log.take()
-    }
-
-    fn backups(&mut self) -> Option<PortBackups<'a>> {
-        self.backups.take()
-    }
-
-    fn listen(
-        self,
-        addresses: &[SocketAddr],
-        operators: Option<SocketAddr>,
-    ) -> io::Result<PortSockets<'a>> {
-        let Ports {
-            rt,
-            poll,
-            log: _,
-            backups: _,
-            database,
-            cause,
-        } = self;
-        let poll = match poll {
-            Some(poll) => poll,
-            None => Poll::new(rt)?,
-        };
-        PortSockets::listen(rt, poll, addresses, operators, database, cause)
     }
 }
 

@@ -1,15 +1,23 @@
 //! The sockets of the system, watched together.
+//!
+//! Each method that moves bytes of a client makes one call of the system, and notes it with its
+//! answer.
+ghost use Rattle.server_base.specs.History.{AreBelow};
+
 use crate::cause::Cause;
 use crate::clock_file::write_time;
 use crate::machine::machine_metrics;
 use admin_http::machine::MachineMetrics;
+use dss_command::ports::Listen;
 use mio::event::Event;
 use mio::net::{TcpListener, TcpStream};
 use mio::{Events, Interest, Poll, Token};
+use server_base::history::{ACCEPT, History, READ, WRITE};
 use server_base::sockets::{
     AcceptFault, AdminSocket, ClientSocket, EventSource, SocketEvent, Sockets,
 };
 use server_base::trusted_time::TrustedTime;
+use std::alloc::AllocError;
 use std::io;
 use std::io::{ErrorKind, Read, Write};
 use std::net::{Shutdown, SocketAddr};
@@ -42,16 +50,16 @@ const NO_DESCRIPTOR: i32 = 24;
 
 const NO_BUFFER: i32 = 105;
 
-/// The socket of a client.
+/// The socket of a client. Its name is its number in the order of acceptance.
 #[derive(Drop)]
 pub(crate) struct Client {
     stream: TcpStream,
     address: SocketAddr,
+    name: u64,
 }
 
 impl ClientSocket for Client {
-    // The history of these sockets is unknown, so that no name is in it.
-    ghost name = { λ _. 0 };
+    ghost name = { λ client. client.name };
 
     fn client(&self) -> Option<SocketAddr> {
         Some(self.address)
@@ -95,6 +103,10 @@ pub(crate) struct PortSockets<'a> {
     // The name of the database file, if there is one.
     database: Option<&'a str>,
     cause: &'a mut Cause,
+    history: History,
+    // The name of the next client.
+    next_name: u64,
+    ghost new_names: { AreBelow next_name history.events },
 }
 
 // Returns the source of events with that token. Returns `None` for a connection to etcd.
@@ -141,6 +153,21 @@ fn listener_on(
     Ok(listener)
 }
 
+// Opens watched listeners on the ports of these addresses.
+fn listeners_on(
+    rt: &HostRuntime,
+    poll: &Poll,
+    addresses: &[SocketAddr],
+    cause: &mut Cause,
+) -> io::Result<Vec<TcpListener>> {
+    let mut listeners = Vec::with_capacity(rt.alloc(), addresses.len())?;
+    for address in addresses {
+        let listener = listener_on(rt, poll, *address, EventSource::Port, cause)?;
+        listeners.push(listener)?;
+    }
+    Ok(listeners)
+}
+
 // Accepts the next connection of a listener. Records the system's error if `serve` ends with it.
 fn accept_stream(
     listener: &TcpListener,
@@ -161,6 +188,68 @@ fn accept_stream(
             Err(fault)
         }
     }
+}
+
+// Accepts the next connection of the listener whose turn it is. Each one gets its turn.
+fn accept_in_turn(
+    listeners: &[TcpListener],
+    turn: &mut usize,
+    cause: &mut Cause,
+) -> Result<(TcpStream, SocketAddr), AcceptFault> {
+    let this = *turn;
+    let next = this.saturating_add(1);
+    *turn = if next < listeners.len() { next } else { 0 };
+    match listeners.get(this) {
+        Some(listener) => accept_stream(listener, cause),
+        None => Err(AcceptFault::NoneWaits),
+    }
+}
+
+// Accepts the next connection of any listener.
+fn accept_next(
+    listeners: &[TcpListener],
+    turn: &mut usize,
+    cause: &mut Cause,
+) -> Result<(TcpStream, SocketAddr), AcceptFault> {
+    for _ in 0..listeners.len() {
+        match accept_in_turn(listeners, turn, cause) {
+            Err(AcceptFault::NoneWaits) => {}
+            taken => return taken,
+        }
+    }
+    Err(AcceptFault::NoneWaits)
+}
+
+// Accepts the next connection of the admin port.
+fn accept_operator(
+    listener: &Option<TcpListener>,
+    cause: &mut Cause,
+) -> Result<TcpStream, AcceptFault> {
+    match listener {
+        Some(listener) => {
+            let (stream, _) = accept_stream(listener, cause)?;
+            Ok(stream)
+        }
+        None => Err(AcceptFault::NoneWaits),
+    }
+}
+
+// Registers a stream for events from that source.
+fn register(poll: &Poll, stream: &mut TcpStream, which: EventSource) -> io::Result<()> {
+    let interests = Interest::READABLE | Interest::WRITABLE;
+    poll.registry()
+        .register(stream, Token(token_of(which)), interests)
+}
+
+// Puts the events of sockets.
+fn put_events(events: &Events, ready: &mut Vec<SocketEvent>) -> Result<(), AllocError> {
+    ready.clear();
+    for event in events.iter() {
+        if let Some(event) = socket_event(event) {
+            ready.push(event)?;
+        }
+    }
+    Ok(())
 }
 
 // Converts an event. Returns `None` for one of a connection to etcd.
@@ -188,90 +277,67 @@ fn accept_fault(cause: io::Error) -> AcceptFault {
 }
 
 impl<'a> PortSockets<'a> {
-    /// Listens on the ports of these addresses, and on the admin port if there is one.
-    pub(crate) fn listen(
+    ghost use Rattle.std.specs.Prelude.{[]};
+
+    /// Creates sockets without ports. `poll` watches them.
+    pub(crate) fn new(
         rt: &'a HostRuntime,
         poll: Poll,
-        addresses: &[SocketAddr],
-        operators: Option<SocketAddr>,
         database: Option<&'a str>,
         cause: &'a mut Cause,
     ) -> io::Result<PortSockets<'a>> {
-        let mut listeners = Vec::with_capacity(rt.alloc(), addresses.len())?;
-        for address in addresses {
-            let listener = listener_on(rt, &poll, *address, EventSource::Port, cause)?;
-            listeners.push(listener)?;
-        }
-        let operators = match operators {
-            Some(address) => Some(listener_on(rt, &poll, address, EventSource::AdminPort, cause)?),
-            None => None,
-        };
         Ok(PortSockets {
             rt,
             start: Instant::now(rt)?,
             poll,
-            listeners,
+            listeners: Vec::new(rt.alloc()),
             turn: 0,
-            operators,
+            operators: None,
             events: Events::with_capacity(rt.alloc(), EVENTS)?,
             ready: Vec::with_capacity(rt.alloc(), EVENTS)?,
             taken: 0,
             database,
             cause,
+            history: History::new(),
+            next_name: 0,
         })
     }
 }
 
-impl<'a> PortSockets<'a> {
-    // Accepts the next connection of the listener whose turn it is. Each one gets its turn.
-    fn accept_in_turn(&mut self) -> Result<Client, AcceptFault> {
-        let turn = self.turn;
-        let next = turn.saturating_add(1);
-        self.turn = if next < self.listeners.len() { next } else { 0 };
-        match self.listeners.get(turn) {
-            Some(listener) => {
-                let (stream, address) = accept_stream(listener, self.cause)?;
-                Ok(Client { stream, address })
-            }
-            None => Err(AcceptFault::NoneWaits),
-        }
-    }
-
-    // Registers a stream for events from that source.
-    fn register(&mut self, stream: &mut TcpStream, which: EventSource) -> io::Result<()> {
-        let interests = Interest::READABLE | Interest::WRITABLE;
-        self.poll
-            .registry()
-            .register(stream, Token(token_of(which)), interests)
-    }
-}
-
 impl<'a> Sockets for PortSockets<'a> {
-    ghost use Rattle.std.specs.Prelude.{None};
+    ghost use Rattle.std.specs.Prelude.{Some};
 
     type Client = Client;
 
     type Admin = Admin;
 
-    // What arrives at the sockets of the system is not known in advance.
-    ghost history = { λ _. None };
+    ghost history = { λ sockets. Some sockets.history.events };
 
     fn accept(&mut self) -> Result<Client, AcceptFault> {
-        for _ in 0..self.listeners.len() {
-            match self.accept_in_turn() {
-                Err(AcceptFault::NoneWaits) => {}
-                taken => return taken,
-            }
-        }
-        Err(AcceptFault::NoneWaits)
+        let name = self.next_name;
+        let Some(next) = name.checked_add(1) else {
+            return Err(AcceptFault::Full);
+        };
+        let (stream, address) = accept_next(self.listeners.as_slice(), &mut self.turn, self.cause)?;
+        self.next_name = next;
+        self.history.note(&[ACCEPT, name], &[]);
+        Ok(Client {
+            stream,
+            address,
+            name,
+        })
     }
 
     fn receive(&mut self, client: &mut Client, chunk: &mut [u8]) -> io::Result<usize> {
-        client.stream.read(chunk)
+        let count = client.stream.read(chunk)?;
+        self.history.note(&[READ, client.name], &chunk[..count]);
+        Ok(count)
     }
 
     fn send(&mut self, client: &mut Client, bytes: &[u8]) -> io::Result<usize> {
-        client.stream.write(bytes)
+        let count = client.stream.write(bytes)?;
+        self.history.note(&[WRITE, client.name], &bytes[..count]);
+        Ok(count)
     }
 
     fn end_sending(&mut self, client: &mut Client) -> io::Result<()> {
@@ -279,32 +345,26 @@ impl<'a> Sockets for PortSockets<'a> {
     }
 
     fn watch(&mut self, client: &mut Client, key: usize) -> io::Result<()> {
-        self.register(&mut client.stream, EventSource::Client(key))
+        register(&self.poll, &mut client.stream, EventSource::Client(key))
     }
 
     fn accept_admin(&mut self) -> Result<Admin, AcceptFault> {
-        match &self.operators {
-            Some(listener) => {
-                let (stream, _) = accept_stream(listener, self.cause)?;
-                Ok(Admin { stream })
-            }
-            None => Err(AcceptFault::NoneWaits),
-        }
+        let stream = accept_operator(&self.operators, self.cause)?;
+        Ok(Admin { stream })
     }
 
     fn watch_admin(&mut self, socket: &mut Admin, key: usize) -> io::Result<()> {
-        self.register(&mut socket.stream, EventSource::AdminConnection(key))
+        register(
+            &self.poll,
+            &mut socket.stream,
+            EventSource::AdminConnection(key),
+        )
     }
 
     fn wait(&mut self, patience: Option<Duration>) -> io::Result<()> {
         self.poll.poll(&mut self.events, patience)?;
-        self.ready.clear();
         self.taken = 0;
-        for event in self.events.iter() {
-            if let Some(event) = socket_event(event) {
-                self.ready.push(event)?;
-            }
-        }
+        put_events(&self.events, &mut self.ready)?;
         Ok(())
     }
 
@@ -327,5 +387,31 @@ impl<'a> Sockets for PortSockets<'a> {
 
     fn monotonic_time(&self) -> io::Result<Duration> {
         Ok(Instant::now(self.rt)?.saturating_duration_since(self.start))
+    }
+}
+
+impl<'a> Listen for PortSockets<'a> {
+    fn listen(
+        &mut self,
+        addresses: &[SocketAddr],
+        operators: Option<SocketAddr>,
+    ) -> io::Result<()> {
+        self.listeners = listeners_on(self.rt, &self.poll, addresses, self.cause)?;
+        if let Some(address) = operators {
+            let listener = listener_on(
+                self.rt,
+                &self.poll,
+                address,
+                EventSource::AdminPort,
+                self.cause,
+            )?;
+            self.operators = Some(listener);
+        }
+        Ok(())
+    }
+
+    fn close(&mut self) {
+        self.listeners.clear();
+        self.operators = None;
     }
 }

@@ -1,5 +1,6 @@
 mod Counting
 mod Chunks
 mod Explaining
-mod PoolStarts
 mod Served
+mod PoolServed
+mod Setups

@@ -1,11 +1,12 @@
 //! The command `serve` above the operating system.
-ghost use Rattle.std.specs.Prelude.{◌≡◌, ◌⊎◌, OnOk, OnErr, IsSome};
+ghost use Rattle.std.specs.Prelude.{◌≡◌, ◌⊎◌, OnOk, OnErr, IsSome, is_some};
 ghost use Rattle.token_conf.specs.TokenFile.{salt_of};
 ghost use Rattle.dss_command.specs.Fault.{EndsServing};
-ghost use Rattle.dss_command.specs.Service.{ServesClients};
+ghost use Rattle.dss_command.specs.Service.{MayServe, ServesClients, setup_in};
 
 use crate::fault::{Fault, io_fault};
 use crate::ports::{AdminListener, Listen, build_of, hosts_of, operators_address, print_ports};
+use crate::request_log::LogFile;
 use crate::server_lines::Lines;
 use admin_http::build::BuildInfo;
 use database_backend::database::Database;
@@ -13,6 +14,7 @@ use database_laws::laws::calls_of_clients_are_one_list;
 use entity_core::salt::Salt;
 use server::laws::rounds_are_settled;
 use server::serve::serve;
+use server_backend::backend::Backend;
 use server_base::backups::MakeBackups;
 use server_base::limits::Limits;
 use server_base::server_log::ServerLog;
@@ -93,10 +95,13 @@ fn serve_sockets<
     backups: Option<B>,
     journal: &mut J,
 ) -> (Result<(), Fault>, S)
-    requires { salt ≡ salt_of given.tokens.now }
-    ensures served { ServesClients S.Space S.GroupCommit.own M.Moments T.gives
-        given.entry.keep given.entry.tokens.now space result.1 moments.old moments.new }
-    ensures counted { OnOk result.0 (IsSome given.entry.limits.count ⊎ IsSome build.entry) }
+    requires salt { salt ≡ salt_of given.tokens.now }
+    requires operated { is_some build ≡ is_some given.operated }
+    ensures served { ServesClients S.Space S.GroupCommit.own ⟦<Database<S> as Backend>⟧
+        M.Moments T.TokenSource (setup_in given.entry) given.entry.keep watch
+        space result.1 moments.old moments.new (N.history sockets.old) (N.history sockets.new) }
+    ensures counted { OnOk result.0 (IsSome given.entry.limits.count
+        ⊎ IsSome given.entry.operated) }
 {
     calls_of_clients_are_one_list::<S, M, T>();
     rounds_are_settled::<Database<S>, M, T>();
@@ -124,8 +129,8 @@ fn serve_sockets<
     (end_of_serving(served), backend.into_service().into_space())
 }
 
-/// Answers the clients of a port with a new service over a space, and returns the space after the
-/// last batch has ended.
+/// Opens the ports of the sockets, and answers their clients with a new service over a space.
+/// Returns the space after the last batch has ended, when the ports are closed.
 ///
 /// Meanwhile the token file is watched, and what ended at least the retention ago is purged between
 /// batches. Prints that the port is open, and later the fault of each aborted client, and why a
@@ -135,7 +140,9 @@ fn serve_sockets<
 pub fn serve_port<
     S: PurgeEnded + SnapshotSource + Drop,
     M: Moments,
-    L: Listen + Drop,
+    N: Listen + Drop,
+    B: MakeBackups + Drop,
+    L: LogFile + Drop,
     T: TokenSource + Drop,
     E: Write,
 >(
@@ -145,15 +152,20 @@ pub fn serve_port<
     given: ServeConfig<'_>,
     watch: TokenWatch<T>,
     moments: &mut M,
-    mut listener: L,
+    sockets: &mut N,
+    backups: Option<B>,
+    log: Option<L>,
     error: &mut E,
 ) -> (Result<(), Fault>, S)
     requires { salt ≡ salt_of given.tokens.now }
-    ensures served { OnOk result.0 (ServesClients S.Space S.GroupCommit.own M.Moments T.gives
-        given.entry.keep given.entry.tokens.now space result.1 moments.old moments.new) }
-    ensures part { OnErr result.0 ((result.1 ≡ space) × (moments.new ≡ moments.old)
-        ⊎ ServesClients S.Space S.GroupCommit.own M.Moments T.gives
-        given.entry.keep given.entry.tokens.now space result.1 moments.old moments.new) }
+    ensures served { OnOk result.0 (ServesClients S.Space S.GroupCommit.own
+        ⟦<Database<S> as Backend>⟧ M.Moments T.TokenSource (setup_in given.entry)
+        given.entry.keep watch space result.1 moments.old moments.new
+        (N.history sockets.old) (N.history sockets.new)) }
+    ensures part { OnErr result.0 (MayServe S.Space S.GroupCommit.own
+        ⟦<Database<S> as Backend>⟧ M.Moments T.TokenSource (setup_in given.entry)
+        given.entry.keep watch space result.1 moments.old moments.new
+        (N.history sockets.old) (N.history sockets.new)) }
     ensures counted { OnOk result.0 (IsSome given.entry.limits.count
         ⊎ IsSome given.entry.operated) }
 {
@@ -163,15 +175,12 @@ pub fn serve_port<
     let Ok(hosts) = hosts_of(alloc, given.operated) else {
         return (Err(Fault::Memory), space);
     };
-    let log = listener.log();
-    let backups = listener.backups();
-    let mut sockets = match listener.listen(given.addresses, operators_address(given.operated)) {
-        Ok(sockets) => sockets,
-        Err(cause) => return (Err(io_fault(&cause, Fault::Socket)), space),
-    };
+    if let Err(cause) = sockets.listen(given.addresses, operators_address(given.operated)) {
+        return (Err(io_fault(&cause, Fault::Socket)), space);
+    }
     print_ports(given.addresses, given.operated, error);
     let mut journal = Lines::new(alloc, error, log, given.verbose);
-    serve_sockets(
+    let served = serve_sockets(
         alloc,
         space,
         salt,
@@ -180,8 +189,10 @@ pub fn serve_port<
         build_of(given.operated, &hosts),
         watch,
         moments,
-        &mut sockets,
+        sockets,
         backups,
         &mut journal,
-    )
+    );
+    sockets.close();
+    served
 }

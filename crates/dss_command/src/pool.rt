@@ -1,23 +1,30 @@
 //! The command `serve --pool` above the operating system.
-ghost use Rattle.std.specs.Prelude.{◌≡◌, ◌⊎◌, IfOk, IsSome, OnOk};
-ghost use Rattle.std.specs.IoError.{error_kind};
-ghost use Rattle.pool_instance.specs.Parts.{is_ended, retention_in};
-ghost use Rattle.pool_server.specs.Serving.{ServesAsInstance};
-ghost use Rattle.dss_command.specs.Pool.{EndsPool, ServesPoolFrom, StartsOver, pool_fault};
+ghost use Rattle.std.specs.Prelude.{◌≡◌, ◌⊎◌, IfOk, IsSome, OnOk, is_some};
+ghost use Rattle.pool_instance.specs.Parts.{retention_in};
+ghost use Rattle.pool_backend.specs.Pool.{IsNewPool};
+ghost use Rattle.dss_command.specs.Pool.{EndsPool, MayServePool, ServesPoolClients, StartsOver, pool_setup_in};
 
 use crate::fault::{Fault, io_fault};
 use crate::pool_fault::PoolFault;
 use crate::ports::{AdminListener, Listen, build_of, hosts_of, operators_address, print_ports};
+use crate::request_log::LogFile;
 use crate::server_lines::Lines;
 use crate::tokens::salt_of;
 use admin_http::build::BuildInfo;
+use pool_backend::laws::outcomes_are_given;
+use pool_backend::pool::PoolInstance;
+use pool_backend::timeouts::Timeouts;
 use pool_core::log::Log;
 use pool_core::log_io::LogIo;
 use pool_instance::instance::Instance;
-use pool_server::limits::PoolLimits;
-use pool_server::serve::serve_pool;
+use server::serve::serve;
+use server_backend::backend::Backend;
+use server_base::backups::NoBackups;
+use server_base::limits::{Limits, MAX_CONNECTIONS};
 use server_base::server_log::ServerLog;
 use server_base::sockets::Sockets;
+use server_clients::laws::events_are_the_backends;
+use server_watch::clock_watch::ClockWatch;
 use server_watch::token_watch::{TokenSource, TokenWatch};
 use service_calls::service::Service;
 use space_core::purge_ended::PurgeEnded;
@@ -26,7 +33,7 @@ use space_memory::memory::MemorySpace;
 use space_snapshot::snapshot::SnapshotSource;
 use std::alloc::Global;
 use std::io;
-use std::io::{ErrorKind, Write};
+use std::io::Write;
 use std::net::SocketAddr;
 use token_conf::token_table::TokenTable;
 use wire_http::{Explaining, Moments};
@@ -39,10 +46,12 @@ pub struct PoolConfig<'a> {
     pub tokens: &'a TokenTable,
     /// The addresses and ports to listen on.
     pub addresses: &'a [SocketAddr],
-    /// The limits on connections and on requests that wait.
-    pub limits: PoolLimits,
+    /// The limits on connections.
+    pub limits: Limits,
     /// Whether responses have explanations.
     pub explaining: Explaining,
+    /// The retention of what has ended in seconds; no purge is offered if `None`.
+    pub keep: Option<u64>,
     /// The admin port, if there is one.
     pub operated: Option<AdminListener>,
     /// True if the causes of faults are reported, too.
@@ -70,13 +79,25 @@ pub fn new_instance<G: Log + Drop>(
     Ok(Instance::new(alloc, log, service, retention))
 }
 
-// Returns the fault of a failed system call that ended the service.
-fn system_fault(cause: &io::Error) -> Fault
-    ensures { result ≡ pool_fault (error_kind cause.now) }
+/// Creates the backend of an instance, with the input and output of its log. So many requests can
+/// wait for the log at once.
+///
+/// The only possible fault is `Memory`.
+pub fn new_backend<G: Log + Drop, I: LogIo<G> + Drop>(
+    alloc: Global,
+    instance: Instance<G, MemorySpace>,
+    log_io: I,
+    most: usize,
+) -> Result<PoolInstance<G, I, MemorySpace>, Fault>
+    ensures { IfOk result (IsNewPool instance) }
 {
-    match cause.kind() {
-        ErrorKind::Other => Fault::Clock,
-        _ => io_fault(cause, Fault::Socket),
+    let Ok(routes) = Routes::new(alloc) else {
+        return Err(Fault::Memory);
+    };
+    let most = most.min(MAX_CONNECTIONS);
+    match PoolInstance::new(alloc, instance, log_io, routes, Timeouts::usual(), most) {
+        Ok(backend) => Ok(backend),
+        Err(_) => Err(Fault::Memory),
     }
 }
 
@@ -87,80 +108,93 @@ fn end_of_pool(served: io::Result<()>, is_ended: bool) -> Result<(), Fault>
     match served {
         Ok(()) if is_ended => Err(Fault::Pool(PoolFault::Ended)),
         Ok(()) => Ok(()),
-        Err(cause) => Err(system_fault(&cause)),
+        Err(cause) => Err(io_fault(&cause, Fault::Socket)),
     }
 }
 
 // Answers the clients of the sockets with an instance.
 fn serve_sockets<
     G: Log + Drop,
+    I: LogIo<G> + Drop,
     S: SnapshotSource + PurgeEnded + Drop,
     M: Moments,
     N: Sockets + Drop,
-    I: LogIo<G>,
     T: TokenSource + Drop,
     J: ServerLog,
 >(
     alloc: Global,
     routes: &Routes,
-    instance: &mut Instance<G, S>,
+    backend: &mut PoolInstance<G, I, S>,
     given: PoolConfig<'_>,
     build: Option<BuildInfo<'_>>,
     watch: TokenWatch<T>,
     moments: &mut M,
     sockets: &mut N,
-    log_io: &mut I,
     journal: &mut J,
 ) -> Result<(), Fault>
-    ensures served { ServesAsInstance G.Log S.Space M.Moments T.TokenSource
-        given.entry.tokens.now watch instance.old instance.new moments.old moments.new }
-    ensures counted { OnOk result (IsSome given.entry.limits.count ⊎ IsSome build.entry) }
+    requires { is_some build ≡ is_some given.operated }
+    ensures served { ServesPoolClients G.Log S.Space ⟦<PoolInstance<G, I, S> as Backend>⟧ M.Moments
+        T.TokenSource (pool_setup_in given.entry) watch backend.old backend.new
+        moments.old moments.new (N.history sockets.old) (N.history sockets.new) }
+    ensures counted { OnOk result (IsSome given.entry.limits.count
+        ⊎ IsSome given.entry.operated) }
 {
-    let served = serve_pool(
+    events_are_the_backends::<PoolInstance<G, I, S>, M, T>();
+    outcomes_are_given::<G, I, S>();
+    let is_watched = given.keep.is_some() || build.is_some();
+    let clock = ClockWatch::new(given.keep, None, is_watched);
+    let backups: Option<NoBackups> = None;
+    let served = serve(
         alloc,
         routes,
         given.tokens,
         watch,
-        instance,
+        clock,
+        None,
+        backend,
         moments,
         sockets,
-        log_io,
+        backups,
         given.limits,
         given.explaining,
         build,
         journal,
     );
-    end_of_pool(served, instance.is_ended())
+    end_of_pool(served, backend.has_ended())
 }
 
-/// Answers the clients of a port with a new instance of a pool, whatever airspace it starts from,
-/// until the instance ends, the number of connections in `limits` is reached, or an operator stops
-/// it.
+/// Opens the ports of the sockets, and answers their clients with an instance of a pool, whatever
+/// airspace it starts from, until the instance ends, the number of connections in `limits` is
+/// reached, or an operator stops it. Then the ports are closed.
 ///
 /// Meanwhile the token file is watched. Prints that the port is open, and later the fault of each
 /// aborted client, and why a changed token file was not loaded. Logs each answered request.
 ///
 /// Returns `Ok` only if the connections were counted and all are closed, or an operator stopped the
-/// service on the admin port. If the instance has ended, returns `PoolFault::Ended`; the log knows whether it is lost, and why.
+/// service on the admin port. If the instance has ended, returns `PoolFault::Ended`; the log knows
+/// whether it is lost, and why.
 pub fn serve_pool_port<
     G: Log + Drop,
+    I: LogIo<G> + Drop,
     M: Moments,
-    L: Listen + Drop,
-    I: LogIo<G>,
+    N: Listen + Drop,
+    L: LogFile + Drop,
     T: TokenSource + Drop,
     E: Write,
 >(
     alloc: Global,
-    instance: &mut Instance<G, MemorySpace>,
+    backend: &mut PoolInstance<G, I, MemorySpace>,
     given: PoolConfig<'_>,
     watch: TokenWatch<T>,
     moments: &mut M,
-    mut listener: L,
-    log_io: &mut I,
+    sockets: &mut N,
+    log: Option<L>,
     error: &mut E,
 ) -> Result<(), Fault>
-    ensures served { ServesPoolFrom G.Log ⟦<MemorySpace as Space>⟧ M.Moments T.TokenSource
-        given.entry.tokens.now watch instance.old instance.new moments.old moments.new }
+    ensures served { MayServePool G.Log ⟦<MemorySpace as Space>⟧
+        ⟦<PoolInstance<G, I, MemorySpace> as Backend>⟧ M.Moments T.TokenSource
+        (pool_setup_in given.entry) watch backend.old backend.new moments.old moments.new
+        (N.history sockets.old) (N.history sockets.new) }
     ensures counted { OnOk result (IsSome given.entry.limits.count
         ⊎ IsSome given.entry.operated) }
 {
@@ -170,23 +204,22 @@ pub fn serve_pool_port<
     let Ok(hosts) = hosts_of(alloc, given.operated) else {
         return Err(Fault::Memory);
     };
-    let log = listener.log();
-    let mut sockets = match listener.listen(given.addresses, operators_address(given.operated)) {
-        Ok(sockets) => sockets,
-        Err(cause) => return Err(io_fault(&cause, Fault::Socket)),
-    };
+    if let Err(cause) = sockets.listen(given.addresses, operators_address(given.operated)) {
+        return Err(io_fault(&cause, Fault::Socket));
+    }
     print_ports(given.addresses, given.operated, error);
     let mut journal = Lines::new(alloc, error, log, given.verbose);
-    serve_sockets(
+    let served = serve_sockets(
         alloc,
         &routes,
-        instance,
+        backend,
         given,
         build_of(given.operated, &hosts),
         watch,
         moments,
-        &mut sockets,
-        log_io,
+        sockets,
         &mut journal,
-    )
+    );
+    sockets.close();
+    served
 }

@@ -1,13 +1,11 @@
 //! The ports of a service: who opens them, and the lines that say that they are open.
-ghost use Rattle.std.specs.Prelude.{◌++◌, IsSome, OnOk, codes};
+ghost use Rattle.std.specs.Prelude.{◌≡◌, ◌++◌, IfOk, OnOk, codes, is_some};
 ghost use Rattle.std.specs.Io.KnownBytes.{Appends};
 ghost use Rattle.std.specs.Net.Text.{socket_text};
 
-use crate::request_log::LogFile;
 use admin_http::build::BuildInfo;
 use admin_http::web_page::OwnHosts;
 use dss_args::version::{KIT, VERSION};
-use server_base::backups::MakeBackups;
 use server_base::sockets::Sockets;
 use std::alloc::{AllocError, Global};
 use std::io;
@@ -53,26 +51,17 @@ pub(crate) fn print_ports<E: Write>(
     }
 }
 
-/// A listener on a port, with the log of the requests that arrive there.
-pub trait Listen {
-    type Sockets: Sockets + Drop;
-
-    type Backups: MakeBackups + Drop;
-
-    type Log: LogFile + Drop;
-
-    /// Returns the access log, if there is one, once.
-    fn log(&mut self) -> Option<Self::Log>;
-
-    /// Returns the maker of backups, if there is a backup directory, once.
-    fn backups(&mut self) -> Option<Self::Backups>;
+/// Sockets whose ports are opened once, before they accept a client.
+pub trait Listen: Sockets {
+    ghost use Rattle.std.specs.Prelude.{◌≡◌};
 
     /// Opens the ports of these addresses, and the admin port.
-    fn listen(
-        self,
-        addresses: &[SocketAddr],
-        operators: Option<SocketAddr>,
-    ) -> io::Result<Self::Sockets>;
+    fn listen(&mut self, addresses: &[SocketAddr], operators: Option<SocketAddr>) -> io::Result<()>
+        ensures { Self.history self.new ≡ Self.history self.old };
+
+    /// Closes the ports. Clients that were accepted stay connected.
+    fn close(&mut self)
+        ensures { Self.history self.new ≡ Self.history self.old };
 }
 
 /// Returns the build information for the admin port.
@@ -80,7 +69,8 @@ pub(crate) fn build_of(
     operated: Option<AdminListener>,
     hosts: &Option<OwnHosts>,
 ) -> Option<BuildInfo<'_>>
-    ensures { IsSome result → IsSome operated }
+    requires { is_some hosts.now ≡ is_some operated }
+    ensures { is_some result ≡ is_some operated }
 {
     match (operated, hosts) {
         (Some(operated), Some(hosts)) => Some(BuildInfo {
@@ -97,7 +87,9 @@ pub(crate) fn build_of(
 pub(crate) fn hosts_of(
     alloc: Global,
     operated: Option<AdminListener>,
-) -> Result<Option<OwnHosts>, AllocError> {
+) -> Result<Option<OwnHosts>, AllocError>
+    ensures { IfOk result (λ hosts. is_some hosts ≡ is_some operated) }
+{
     match operated {
         Some(operated) => Ok(Some(OwnHosts::new(alloc, operated.address.port())?)),
         None => Ok(None),

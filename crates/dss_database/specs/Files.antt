@@ -35,7 +35,13 @@ use Rattle.space_sql_schema.specs.declared.format.Format.TheVariants.{One, TwoUn
 use Rattle.token_conf.specs.TokenFile.{TokenFile}
 use Rattle.wire_http.specs.declared.moments.Moments as moments
 use Rattle.dss_command.specs.Print.{WritesReport, purged_line}
-use Rattle.dss_command.specs.Service.{ServesClients}
+use Rattle.server_base.specs.History.{HistoryEvent}
+use Rattle.server_watch.specs.declared.token_watch.TokenSource as sources
+use Rattle.server_watch.specs.declared.token_watch.TokenWatch.{TokenWatch}
+use Rattle.server_backend.specs.declared.backend.Backend as backends
+use Rattle.database_backend.specs.declared.database.Database.{Database as ServedDatabase}
+use Rattle.server_clients.specs.ServerEvents.{Setup}
+use Rattle.dss_command.specs.Service.{MayServe, ServesClients}
 use Rattle.dss_command.specs.PurgeCounts.{IsLess}
 use Rattle.dss_command.specs.Purging.{PurgesSpace}
 use Rattle.dss_command.specs.declared.purged.PurgeCounts.{PurgeCounts}
@@ -189,39 +195,45 @@ pub record ServesClosing {D : Type 0} {g : disk.Ghosts D}
   pub part : IfErr done (ServesPartOver space tokens now remaining before after old new)
   pub closed : EndsClosing done new result
 
+-- The space of `serve` over tables in a store: a mirror and a quota above them.
+abbrev pub ServedModel : Type 0 → Type 0
+ServedModel S = QuotaModel (MirroredModel (SqlSpaceModel S))
+
 -- States that the clients of a port were answered over a mirrored space over tables. The space was
 -- read at most once for the mirror. All calls were in batches that have ended, with purges between
 -- them. Then the space is returned, without the mirror.
 --
 -- `first` is the space, with its mirror, before the first call, and `last` the one after the last.
 -- After `Ok` (`served`), the clients were answered from `first` to `last`. After `Err` (`part`),
--- there are two cases: no call was made, so that space and clock are as before; or the clients were
--- answered from `first` to `last`.
-pub record ServesMirrored {S M : Type 0} (tables : spaces.Ghosts (SqlSpaceModel S))
-    (space : spaces.Ghosts (QuotaModel (MirroredModel (SqlSpaceModel S))))
-    (m : moments.Ghosts M) (gives : List ℕ → Type 0) (keep : Option ℕ) (tokens : TokenFile)
-    (old new : SqlSpaceModel S) (clock clock' : M) (done : Result (Unit {0}) Fault) : Type 0 where
-  pub first : QuotaModel (MirroredModel (SqlSpaceModel S))
-  pub last : QuotaModel (MirroredModel (SqlSpaceModel S))
+-- they were so, or nothing was done.
+pub record ServesMirrored {S M T : Type 0} (tables : spaces.Ghosts (SqlSpaceModel S))
+    (space : spaces.Ghosts (ServedModel S)) (b : backends.Ghosts (ServedDatabase (ServedModel S)))
+    (m : moments.Ghosts M) (t : sources.Ghosts T) (setup : Setup) (keep : Option ℕ)
+    (watch : TokenWatch T) (old new : SqlSpaceModel S) (clock clock' : M)
+    (past now : Option (List HistoryEvent)) (done : Result (Unit {0}) Fault) : Type 0 where
+  pub first : ServedModel S
+  pub last : ServedModel S
   pub answer : Result LoadedAirspace SpaceFault
   pub reads : Reads tables.holds tables.is_sound tables.is_whole old first.space.store answer
       (λ a found. loaded_airspace found ≡ a)
   pub calm : is_pending_in first.space ≡ false
-  pub served : OnOk done
-      (ServesClients space (quota_pending_of tables) m gives keep tokens first last clock clock')
-  pub part : OnErr done ((last ≡ first) × (clock' ≡ clock)
-      ⊎ ServesClients space (quota_pending_of tables) m gives keep tokens first last clock clock')
+  pub served : OnOk done (ServesClients space (quota_pending_of tables) b m t setup keep watch
+      first last clock clock' past now)
+  pub part : OnErr done (MayServe space (quota_pending_of tables) b m t setup keep watch
+      first last clock clock' past now)
   pub sound : tables.is_sound last.space.store → space.is_sound last
   pub released : new ≡ last.space.store
 
 -- States the same, and that the space over tables was closed last.
-pub record ClosesServed {D M : Type 0} {g : disk.Ghosts D}
+pub record ClosesServed {D M T : Type 0} {g : disk.Ghosts D}
     (tables : spaces.Ghosts (SqlSpaceModel (FileStore D g)))
-    (space : spaces.Ghosts (QuotaModel (MirroredModel (SqlSpaceModel (FileStore D g)))))
-    (m : moments.Ghosts M) (gives : List ℕ → Type 0) (keep : Option ℕ) (tokens : TokenFile)
-    (old : SqlSpaceModel (FileStore D g)) (clock clock' : M)
-    (result : Result (Files D) (Failure D g)) : Type 0 where
+    (space : spaces.Ghosts (ServedModel (FileStore D g)))
+    (b : backends.Ghosts (ServedDatabase (ServedModel (FileStore D g))))
+    (m : moments.Ghosts M) (t : sources.Ghosts T) (setup : Setup) (keep : Option ℕ)
+    (watch : TokenWatch T) (old : SqlSpaceModel (FileStore D g)) (clock clock' : M)
+    (past now : Option (List HistoryEvent)) (result : Result (Files D) (Failure D g))
+    : Type 0 where
   pub new : SqlSpaceModel (FileStore D g)
   pub done : Result (Unit {0}) Fault
-  pub served : ServesMirrored tables space m gives keep tokens old new clock clock' done
+  pub served : ServesMirrored tables space b m t setup keep watch old new clock clock' past now done
   pub closed : EndsClosing done new result

@@ -7,6 +7,7 @@ ghost use Rattle.space_sql.specs.Found.{FindsSpelt};
 ghost use Rattle.space_sql.specs.Load.{IsAllOf};
 ghost use Rattle.token_conf.specs.TokenFile.{salt_of};
 ghost use Rattle.wire_http.specs.Counted.{inner_of};
+ghost use Rattle.dss_command.specs.Service.{setup_in};
 ghost use Rattle.dss_command.specs.Stream.{ServesOver, ServesPartOver};
 ghost use Rattle.dss_command.specs.declared.fault.Fault.TheVariants.{DatabaseFailed, Memory, Output};
 ghost use Rattle.dss_database.specs.Files.{ClosesServed, EndsClosing, IsOfDatabase};
@@ -17,6 +18,7 @@ ghost use Rattle.dss_command.specs.Purging.{PurgesSpace};
 
 use crate::failure::Failure;
 use crate::with_mirror::with_mirror;
+use database_backend::database::Database;
 use dss_command::clients::{ServeConfig, serve_port};
 use dss_command::fault::Fault;
 use dss_command::ports::Listen;
@@ -24,8 +26,11 @@ use dss_command::print;
 use dss_command::print::{put_format, put_purged};
 use dss_command::purge::purge_space;
 use dss_command::purged::PurgeCounts;
+use dss_command::request_log::LogFile;
 use dss_command::stream::serve_stream_over;
 use entity_core::salt::Salt;
+use server_backend::backend::Backend;
+use server_base::backups::MakeBackups;
 use server_watch::token_watch::{TokenSource, TokenWatch};
 use space_core::space::{Space, SpaceFault};
 use space_mirror::mirrored::Mirrored;
@@ -267,7 +272,9 @@ fn tally_of(alloc: Global, quota: Option<u32>) -> Option<UsageTable> {
 fn served_with_mirror<
     A: Alter + Drop,
     M: Moments,
-    L: Listen + Drop,
+    N: Listen + Drop,
+    B: MakeBackups + Drop,
+    L: LogFile + Drop,
     T: TokenSource + Drop,
     E: Write,
 >(
@@ -279,21 +286,27 @@ fn served_with_mirror<
     given: ServeConfig<'_>,
     watch: TokenWatch<T>,
     moments: &mut M,
-    listener: L,
+    sockets: &mut N,
+    backups: Option<B>,
+    log: Option<L>,
     error: &mut E,
 ) -> (Result<(), Fault>, SqlSpace<A>)
     requires salt { salt ≡ salt_of given.tokens.now }
     requires loaded { IfSome loaded (IsAllOf A.Store space) }
     ensures served { ServesMirrored ⟦<SqlSpace<A> as Space>⟧
-        ⟦<QuotaSpace<Mirrored<SqlSpace<A>>> as Space>⟧ M.Moments T.gives
-        given.entry.keep given.entry.tokens.now space result.1 moments.old moments.new result.0 }
+        ⟦<QuotaSpace<Mirrored<SqlSpace<A>>> as Space>⟧
+        ⟦<Database<QuotaSpace<Mirrored<SqlSpace<A>>>> as Backend>⟧ M.Moments T.TokenSource
+        (setup_in given.entry) given.entry.keep watch space result.1 moments.old moments.new
+        (N.history sockets.old) (N.history sockets.new) result.0 }
     ensures counted { OnOk result.0 (IsSome given.entry.limits.count
         ⊎ IsSome given.entry.operated) }
 {
     let mut tally = tally_of(alloc, quota);
     let grouped = with_mirror(alloc, space, loaded, &mut tally);
     let bounded = QuotaSpace::new(grouped, tally);
-    let (done, served) = serve_port(alloc, bounded, salt, given, watch, moments, listener, error);
+    let (done, served) = serve_port(
+        alloc, bounded, salt, given, watch, moments, sockets, backups, log, error,
+    );
     let inside = served.into_inner();
     (done, inside.into_store())
 }
@@ -304,7 +317,15 @@ fn served_with_mirror<
 /// batch are committed at its end, all or none. What ended at least the retention ago is purged, a
 /// chunk at a time, as long as there is a mirror. With a quota, the stored entities and
 /// subscriptions of each USS are limited.
-pub fn serve<F: Start, M: Moments, L: Listen + Drop, T: TokenSource + Drop, E: Write>(
+pub fn serve<
+    F: Start,
+    M: Moments,
+    N: Listen + Drop,
+    B: MakeBackups + Drop,
+    L: LogFile + Drop,
+    T: TokenSource + Drop,
+    E: Write,
+>(
     alloc: Global,
     space: SqlSpace<FileStore<FileFrom<F>>>,
     loaded: Option<LoadedAirspace>,
@@ -313,19 +334,23 @@ pub fn serve<F: Start, M: Moments, L: Listen + Drop, T: TokenSource + Drop, E: W
     given: ServeConfig<'_>,
     watch: TokenWatch<T>,
     moments: &mut M,
-    listener: L,
+    sockets: &mut N,
+    backups: Option<B>,
+    log: Option<L>,
     error: &mut E,
 ) -> Result<Files<FileFrom<F>>, Failure<FileFrom<F>>>
     requires salt { salt ≡ salt_of given.tokens.now }
     requires loaded { IfSome loaded (IsAllOf over_files space) }
     ensures served { ClosesServed ⟦<SqlSpace<FileStore<FileFrom<F>>> as Space>⟧
-        ⟦<QuotaSpace<Mirrored<SqlSpace<FileStore<FileFrom<F>>>>> as Space>⟧ M.Moments T.gives
-        given.entry.keep given.entry.tokens.now space moments.old moments.new result }
+        ⟦<QuotaSpace<Mirrored<SqlSpace<FileStore<FileFrom<F>>>>> as Space>⟧
+        ⟦<Database<QuotaSpace<Mirrored<SqlSpace<FileStore<FileFrom<F>>>>>> as Backend>⟧
+        M.Moments T.TokenSource (setup_in given.entry) given.entry.keep watch
+        space moments.old moments.new (N.history sockets.old) (N.history sockets.new) result }
     ensures counted { OnOk result (IsSome given.entry.limits.count
         ⊎ IsSome given.entry.operated) }
 {
     let (done, space) = served_with_mirror(
-        alloc, space, loaded, quota, salt, given, watch, moments, listener, error,
+        alloc, space, loaded, quota, salt, given, watch, moments, sockets, backups, log, error,
     );
     close_database(done, space)
 }

@@ -1,6 +1,8 @@
 //! Laws of the commands over a database. No program calls them: their contracts are the statements.
 ghost use Rattle.dss_database.specs.Served.{NextStartFinds, NextStartFindsLeft};
 
+use database_backend::database::Database;
+use server_backend::backend::Backend;
 use server_watch::token_watch::TokenSource;
 use service_recovery::laws::{closed_run_in_batches_continues, run_in_batches_continues};
 use space_core::space::Space;
@@ -14,11 +16,14 @@ use wire_http::Moments;
 /// its clients as done.
 ///
 /// It relates what `opened` opens (clause `finds`), what `serve` then closes (clause `served`), and
-/// what `SqlSpace::open` opens next.
+/// what `SqlSpace::open` opens next. The bytes that `serve` sent, as the history of its sockets
+/// records them, are the texts of the replies of one list of calls. The airspace that is found next
+/// follows by the policy from these calls with these replies.
 pub fn next_start_finds<F: Start, M: Moments, T: Alter, W: TokenSource>()
     ensures { NextStartFinds ⟦<SqlSpace<FileStore<FileFrom<F>>> as Space>⟧
-        ⟦<QuotaSpace<Mirrored<SqlSpace<FileStore<FileFrom<F>>>>> as Space>⟧ M.Moments
-        ⟦<SqlSpace<T> as Space>⟧ W.gives }
+        ⟦<QuotaSpace<Mirrored<SqlSpace<FileStore<FileFrom<F>>>>> as Space>⟧
+        ⟦<Database<QuotaSpace<Mirrored<SqlSpace<FileStore<FileFrom<F>>>>>> as Backend>⟧
+        M.Moments W.TokenSource ⟦<SqlSpace<T> as Space>⟧ }
 {
     closed_run_in_batches_continues::<F>();
 }
@@ -31,8 +36,9 @@ pub fn next_start_finds<F: Start, M: Moments, T: Alter, W: TokenSource>()
 /// too, and a crash leaves what `AreLeft` says.
 pub fn next_start_finds_after_a_failure<F: Start, M: Moments, T: Alter, W: TokenSource>()
     ensures { NextStartFindsLeft ⟦<SqlSpace<FileStore<FileFrom<F>>> as Space>⟧
-        ⟦<QuotaSpace<Mirrored<SqlSpace<FileStore<FileFrom<F>>>>> as Space>⟧ M.Moments
-        ⟦<SqlSpace<T> as Space>⟧ W.gives }
+        ⟦<QuotaSpace<Mirrored<SqlSpace<FileStore<FileFrom<F>>>>> as Space>⟧
+        ⟦<Database<QuotaSpace<Mirrored<SqlSpace<FileStore<FileFrom<F>>>>>> as Backend>⟧
+        M.Moments W.TokenSource ⟦<SqlSpace<T> as Space>⟧ }
 {
     closed_run_in_batches_continues::<F>();
     run_in_batches_continues::<F>();

@@ -17,7 +17,7 @@ use Rattle.space_core.specs.declared.space.Space.{Ghosts}
 use Rattle.service_calls.specs.declared.service.Service.{Service}
 use Rattle.service_calls.specs.Held.{salt_of, space_of}
 use Rattle.service_calls.specs.Batches.{CallRecord, CalledInOrder, MadeBatches, Batch, uncommitted}
-use Rattle.service_calls.specs.Purged.{MadeSegments, MayHavePersistedPurged, OpenSegmentIsNotDurable, Segment}
+use Rattle.service_calls.specs.Purged.{MadeSegments, AreDeliveredAndDurable, OpenSegmentIsNotDurable, Segment}
 use Rattle.space_quota.specs.QuotaSpace.{QuotaModel}
 use Rattle.space_mirror.specs.Mirrored.{MirroredModel}
 use Rattle.space_sql_schema.specs.declared.format.Format.TheVariants.{Two}
@@ -96,7 +96,7 @@ module _ {D : Type 0} {g : disk.Ghosts D} (space : Ghosts (QuotaModel (MirroredM
         (batches_whole space (quota_pending_of (words_of over_files)) purged mid batches batches_made mid_sound
         (segments_whole space (quota_pending_of (words_of over_files)) old purged segments segments_made purged_sound (over.whole (space_of old) first_whole))))
 
-    kept : IsContent (holds_of over_files) (space_of old).space.store a → (b : Airspace) → holds_of over_files (space_of new).space.store b → MayHavePersistedPurged (salt_of old) a segments (batches ++ uncommitted calls ∷ []) b
+    kept : IsContent (holds_of over_files) (space_of old).space.store a → (b : Airspace) → holds_of over_files (space_of new).space.store b → AreDeliveredAndDurable (salt_of old) a segments (batches ++ uncommitted calls ∷ []) b
     kept content b held =
         (law old mid new segments batches calls a (record {
           goes = starts.goes;
@@ -106,7 +106,7 @@ module _ {D : Type 0} {g : disk.Ghosts D} (space : Ghosts (QuotaModel (MirroredM
           segments_made = segments_made;
           made = batches_made;
           sound = mid_sound;
-        }) calls_made (by_store sound)).kept b held
+        }) calls_made (by_store sound)).both b held
 
   pub served : (after : Image) (last : FileStore D g) → LeavesFiles (space_of new).space.store last → IsClean (store.view last) → FilesLeft last after → Continues before (run_purged old segments (batches ++ uncommitted calls ∷ [])) after
   served after last left clean may a stands =

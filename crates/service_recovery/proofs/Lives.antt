@@ -29,10 +29,10 @@ use Rattle.space_sql.specs.Closing.{ClosesTrees}
 use Rattle.space_sql.specs.Found.{FilesSpell, FindsSpelt, RefusesFound}
 use Rattle.space_sql.specs.Holding.{SqlSpaceModel, holds_of, is_sound_of, is_whole_of}
 use Rattle.space_sql.specs.Restart.{ClosesFiles, FilesHave, FilesLeft, LeavesFiles, LeavesTrees, without_log}
-use Rattle.service_calls.specs.Batches.{MayHavePersisted}
+use Rattle.service_calls.specs.Purged.{AreDeliveredAndDurable}
 use Rattle.service_recovery.specs.Life.{Continues, Lives, MayComeOfAll, Run, StandFor, alone, run_of, unasked}
 use Rattle.service_recovery.proofs.Crashes.{words_of}
-use Rattle.service_recovery.proofs.Persisting.{alone_is_stepped}
+use Rattle.service_recovery.proofs.Persisting.{alone_is_stepped, alone_is_told, unasked_comes}
 
 pub content_found : {T : Type 0} (image : Image) (space : Ghosts (SqlSpaceModel T)) (k : SqlSpaceModel T) → FindsSpelt image space k → space.is_sound k → (a : Airspace) → StandFor image a → IsContent space.holds k a
 content_found image space k finds sound a (inl it) = finds.spelt sound it.0 a it.1
@@ -49,8 +49,10 @@ module _ {D : Type 0} {g : disk.Ghosts D} (before : Image) (old new : Service (S
   whole : is_sound_of over_files (space_of new) → (a : Airspace) → StandFor before a → is_whole_of over_files (space_of new)
   whole sound a stands = all.stays.whole sound (finds.whole (all.stays.sound sound) a (content sound a stands).held)
 
-  kept : is_sound_of over_files (space_of new) → (a : Airspace) → StandFor before a → (b : Airspace) → holds_of over_files (space_of new) b → MayHavePersisted (salt_of old) a (alone calls replies ∷ []) b
-  kept sound a stands b held = (alone_is_stepped (salt_of old) a b calls replies).1 ((all.runs goes sound a (content sound a stands)).kept b held)
+  kept : is_sound_of over_files (space_of new) → (a : Airspace) → StandFor before a → (b : Airspace) → holds_of over_files (space_of new) b → AreDeliveredAndDurable (salt_of old) a [] (alone calls replies ∷ []) b
+  kept sound a stands b held =
+      let runs = all.runs goes sound a (content sound a stands) in
+      (alone_is_told (salt_of old) a calls replies all.one_each runs.replies, (alone_is_stepped (salt_of old) a b calls replies).1 (runs.kept b held))
 
   pub served : (after : Image) (last : FileStore D g) → LeavesFiles (space_of new) last → IsClean (store.view last) → FilesLeft last after → Continues before (run_of old (alone calls replies ∷ [])) after
   served after last left clean may a stands =
@@ -77,12 +79,12 @@ module _ {D : Type 0} {g : disk.Ghosts D} (before : Image) (back : Held (FileSto
   ]
 
   pub refused : (after : Image) (last : FileStore D g) → LeavesTrees back last → IsClean (store.view last) → FilesLeft last after → Continues before unasked after
-  refused after last left clean may a stands = ∥∥₁_map (left.found clean after may) (λ it. (a, refl, stands_on after (left.clean clean) a stands it.0 it.1 it.2))
+  refused after last left clean may a stands = ∥∥₁_map (left.found clean after may) (λ it. (a, unasked_comes [] a, stands_on after (left.clean clean) a stands it.0 it.1 it.2))
 
   pub refused_closed : (after : Image) (files : Files D) → ClosesTrees back files → AreClean g files.log files.db → FilesHave g files after → Continues before unasked after × Continues before unasked (without_log after)
   refused_closed after files closes clean have = (
-    (λ a stands. ∥∥₁_map (closes.found clean after have) (λ it. (a, refl, stands_on after (closes.clean clean) a stands it.0 it.1 it.2))),
-    (λ a stands. ∥∥₁_map (closes.found clean after have) (λ it. (a, refl, stands_on (without_log after) (closes.clean clean) a stands it.0 it.1 it.3))),
+    (λ a stands. ∥∥₁_map (closes.found clean after have) (λ it. (a, unasked_comes [] a, stands_on after (closes.clean clean) a stands it.0 it.1 it.2))),
+    (λ a stands. ∥∥₁_map (closes.found clean after have) (λ it. (a, unasked_comes [] a, stands_on (without_log after) (closes.clean clean) a stands it.0 it.1 it.3))),
   )
 
 pub life_leaves : (before after : Image) (runs : List Run) (a : Airspace) → StandFor before a → Lives before runs after → ∥ ((b : Airspace) × MayComeOfAll a runs b × StandFor after b) ∥₁

@@ -1,19 +1,20 @@
 -- Proofs about what may be durable of batches and segments.
-use Rattle.std.specs.Prelude.{◌≡◌, ◌↔◌, ◌∷◌, ℕ, List, [], ◌++◌, map, true, false, refl}
+use Rattle.std.specs.Prelude.{◌≡◌, ◌↔◌, ◌∷◌, ℕ, List, [], ◌++◌, All, Ok, length, map, true, false, refl}
 use Rattle.std.specs.List.{AllByRecursion}
-use Rattle.std.proofs.Common.{inl, inr, sym, subst, ◌∙◌}
+use Rattle.std.proofs.Common.{inl, inr, sym, ap, append-nil, arith, subst, ◌∙◌}
+use Rattle.std.proofs.lemmas.List.Concat.{flat_map-append}
 use Rattle.entity_core.specs.Airspace.{Airspace}
 use Rattle.entity_purge.specs.Purge.{IsPartlyPurged}
 use Rattle.entity_purge.proofs.Chunks.{chunks_make}
 use Rattle.service_step.specs.Step.{step}
 use Rattle.service_step.specs.declared.reply.Reply.{Reply}
 use Rattle.service_step.specs.declared.reply.Reply.TheVariants.{Done, Denied, Fault, Stopped}
-use Rattle.service_calls.specs.Batches.{IfStopped, CallRecord, MayHavePersisted, MayHaveLeft, Batch, airspace_of, all_timed, all_delivered, timed_in, replies_delivered, delivered_reply, uncommitted}
-use Rattle.service_calls.specs.Run.{MayHaveStepped, TimedCall, airspace_after, answered_calls, has_stopped}
-use Rattle.service_calls.specs.Purged.{MayHavePersistedPurged, Segment, airspace_after_batches, all_delivered_in}
+use Rattle.service_calls.specs.Batches.{IfStopped, CallRecord, MayHavePersisted, MayHaveLeft, Batch, StayStoppedIn, airspace_of, all_timed, all_delivered, timed_in, replies_delivered, delivered_reply, uncommitted}
+use Rattle.service_calls.specs.Run.{MayHaveStepped, TimedCall, airspace_after, answered_calls, delivered_replies, has_stopped, replies_of}
+use Rattle.service_calls.specs.Purged.{AllStopped, AreDeliveredAndDurable, AreTold, MayHavePersistedPurged, Segment, airspace_after_batches, all_delivered_in}
 use Rattle.service_calls.proofs.InBatches.{even_in}
 use Rattle.service_calls.proofs.Joined.{airspace_then, goes_first, stops_then}
-use Rattle.service_recovery.specs.Life.{AreEmpty, IsExpectedAfter, alone}
+use Rattle.service_recovery.specs.Life.{AreEmpty, IsExpectedAfter, alone, made_at_once}
 
 -- A batch without pending changes may be durable exactly if its calls may have been stepped.
 pub alone_is_stepped : (salt : List ℕ) (a b : Airspace) (cs : List TimedCall) (rs : List Reply) → MayHavePersisted salt a (alone cs rs ∷ []) b ↔ MayHaveStepped salt a cs rs b
@@ -56,6 +57,89 @@ without_empty_purged salt a b (s ∷ ss) batches may =
             | false ↦ λ more. (more.0, more.1, without_empty_purged salt more.0 b ss batches more.2)
           ] may.1,
     )
+
+-- The durable airspace is one that the delivered replies allow.
+pub durable : (salt : List ℕ) (a b : Airspace) (segments : List Segment) (batches : List Batch) → AreDeliveredAndDurable salt a segments batches b → MayHavePersistedPurged salt a segments batches b
+durable salt a b [] batches both = both.1
+durable salt a b (s ∷ ss) batches both =
+    let after = airspace_after_batches salt a s.batches in (
+      tt,
+      elim (has_stopped (all_delivered s.batches)) as (λ x. IfStopped x (AllStopped ss batches × MayHavePersisted salt a s.batches b) ((c : Airspace) × IsPartlyPurged s.until after c × AreDeliveredAndDurable salt c ss batches b)
+          → IfStopped x (MayHavePersisted salt a s.batches b) ((c : Airspace) × IsPartlyPurged s.until after c × MayHavePersistedPurged salt c ss batches b)) [
+            | true ↦ λ left. left.1
+            | false ↦ λ more. (more.0, more.1, durable salt more.0 b ss batches more.2)
+          ] both.1,
+    )
+
+-- An open batch without a call delivers nothing.
+same_delivered : (batches : List Batch) → all_delivered (batches ++ uncommitted [] ∷ []) ≡ all_delivered batches
+same_delivered batches = flat_map-append replies_delivered batches (uncommitted [] ∷ []) ∙ append-nil (all_delivered batches)
+
+same_timed : (batches : List Batch) → all_timed (batches ++ uncommitted [] ∷ []) ≡ all_timed batches
+same_timed batches = flat_map-append timed_in batches (uncommitted [] ∷ []) ∙ append-nil (all_timed batches)
+
+same_delivered_in : (segments : List Segment) (batches : List Batch) → all_delivered_in segments (batches ++ uncommitted [] ∷ []) ≡ all_delivered_in segments batches
+same_delivered_in [] batches = same_delivered batches
+same_delivered_in (s ∷ ss) batches = ap (λ (v : List Reply). all_delivered s.batches ++ v) (same_delivered_in ss batches)
+
+stay_stopped : (batches : List Batch) → StayStoppedIn (batches ++ uncommitted [] ∷ []) → StayStoppedIn batches
+stay_stopped [] stay = tt
+stay_stopped (r ∷ rs) stay =
+    elim (has_stopped (replies_delivered r)) as (λ x. IfStopped x (All (λ v. v ≡ Stopped) (all_delivered (rs ++ uncommitted [] ∷ []))) (StayStoppedIn (rs ++ uncommitted [] ∷ []))
+    → IfStopped x (All (λ v. v ≡ Stopped) (all_delivered rs)) (StayStoppedIn rs)) [
+      | true ↦ λ all. subst (λ (v : List Reply). All (λ r. r ≡ Stopped) v) (same_delivered rs) all
+      | false ↦ λ more. stay_stopped rs more
+    ] stay
+
+told_without_empty : (salt : List ℕ) (a : Airspace) (batches : List Batch) → AreTold salt a (batches ++ uncommitted [] ∷ []) → AreTold salt a batches
+told_without_empty salt a batches told = record {
+  replies = subst (λ (v : List TimedCall). delivered_replies (all_delivered batches) ≡ replies_of salt a (answered_calls v (all_delivered batches))) (same_timed batches)
+      (subst (λ (v : List Reply). delivered_replies v ≡ replies_of salt a (answered_calls (all_timed (batches ++ uncommitted [] ∷ [])) v)) (same_delivered batches) told.replies);
+  stopped = stay_stopped batches told.stopped;
+}
+
+pub both_without_empty : (salt : List ℕ) (a b : Airspace) (segments : List Segment) (batches : List Batch) → AreDeliveredAndDurable salt a segments (batches ++ uncommitted [] ∷ []) b → AreDeliveredAndDurable salt a segments batches b
+both_without_empty salt a b [] batches both = (told_without_empty salt a batches both.0, without_empty salt a b batches both.1)
+both_without_empty salt a b (s ∷ ss) batches both =
+    let after = airspace_after_batches salt a s.batches in (
+      both.0,
+      elim (has_stopped (all_delivered s.batches)) as (λ x.
+          IfStopped x (AllStopped ss (batches ++ uncommitted [] ∷ []) × MayHavePersisted salt a s.batches b) ((c : Airspace) × IsPartlyPurged s.until after c × AreDeliveredAndDurable salt c ss (batches ++ uncommitted [] ∷ []) b)
+          → IfStopped x (AllStopped ss batches × MayHavePersisted salt a s.batches b) ((c : Airspace) × IsPartlyPurged s.until after c × AreDeliveredAndDurable salt c ss batches b)) [
+            | true ↦ λ left. (subst (λ (v : List Reply). All (λ r. r ≡ Stopped) v) (same_delivered_in ss batches) left.0, left.1)
+            | false ↦ λ more. (more.0, more.1, both_without_empty salt more.0 b ss batches more.2)
+          ] both.1,
+    )
+
+-- A run without calls leaves the airspace.
+pub unasked_comes : (salt : List ℕ) (a : Airspace) → AreDeliveredAndDurable salt a [] [] a
+unasked_comes salt a = (record { replies = refl; stopped = tt }, refl)
+
+-- ---- the batch of a space without pending changes
+
+alone_delivered : (cs : List TimedCall) (rs : List Reply) → length rs ≡ length cs → map (delivered_reply (Ok tt)) (made_at_once cs rs) ≡ rs
+alone_delivered [] [] same = refl
+alone_delivered [] (r ∷ rs) same = absurd (omega (arith, same))
+alone_delivered (c ∷ cs) [] same = refl
+alone_delivered (c ∷ cs) (r ∷ rs) same = ap (λ (v : List Reply). r ∷ v) (alone_delivered cs rs (omega (arith, same)))
+
+alone_timed : (cs : List TimedCall) (rs : List Reply) → length rs ≡ length cs → map (λ made. made.timed) (made_at_once cs rs) ≡ cs
+alone_timed [] rs same = refl
+alone_timed (c ∷ cs) [] same = absurd (omega (arith, same))
+alone_timed (c ∷ cs) (r ∷ rs) same = ap (λ (v : List TimedCall). c ∷ v) (alone_timed cs rs (omega (arith, same)))
+
+pub alone_is_told : (salt : List ℕ) (a : Airspace) (cs : List TimedCall) (rs : List Reply) → length rs ≡ length cs → delivered_replies rs ≡ replies_of salt a (answered_calls cs rs) → AreTold salt a (alone cs rs ∷ [])
+alone_is_told salt a cs rs same replies =
+    let delivered : all_delivered (alone cs rs ∷ []) ≡ rs = append-nil (replies_delivered (alone cs rs)) ∙ alone_delivered cs rs same in
+    let timed : all_timed (alone cs rs ∷ []) ≡ cs = append-nil (timed_in (alone cs rs)) ∙ alone_timed cs rs same in
+    record {
+      replies = subst (λ (v : List TimedCall). delivered_replies (all_delivered (alone cs rs ∷ [])) ≡ replies_of salt a (answered_calls v (all_delivered (alone cs rs ∷ [])))) (sym timed)
+          (subst (λ (v : List Reply). delivered_replies v ≡ replies_of salt a (answered_calls cs v)) (sym delivered) replies);
+      stopped = elim (has_stopped (replies_delivered (alone cs rs))) as (λ x. IfStopped x (All (λ r. r ≡ Stopped) (all_delivered [])) (StayStoppedIn [])) [
+        | true ↦ λ i d within. absurd (omega (arith, within))
+        | false ↦ tt
+      ];
+    }
 
 -- If no call of a segment returned `Stopped`, the next segments continue from its airspace, partly
 -- purged.

@@ -20,7 +20,7 @@ use Rattle.service_calls.specs.declared.service.Service.{Service}
 use Rattle.service_calls.specs.Held.{is_shut, salt_of, space_of}
 use Rattle.service_calls.specs.Batches.{CallRecord, MayHavePersisted, Batch, all_timed, all_delivered}
 use Rattle.service_calls.specs.Run.{AskedInOrder, MayHaveStepped, TimedCall, airspace_after, answered_calls, has_stopped}
-use Rattle.service_calls.specs.Purged.{MayHavePersistedPurged, Segment, airspace_after_batches, all_delivered_in}
+use Rattle.service_calls.specs.Purged.{AreDeliveredAndDurable, Segment, airspace_after_batches, all_delivered_in}
 use Rattle.space_sql_schema.specs.declared.format.Format.{Format}
 use Rattle.space_sql_open.specs.declared.open_fault.OpenFault.{OpenFault}
 use Rattle.space_sql.specs.Closing.{ClosesTrees}
@@ -74,9 +74,9 @@ AloneIsStepped =
     → MayHavePersisted salt a (alone calls replies ∷ []) b ↔ MayHaveStepped salt a calls replies b
 
 -- Holds if the airspace can follow from the other one in this run: by the policy's steps for the
--- calls that were answered. Of the first batch with a `Stopped`, if there is one, the calls without
--- pending changes count, or all calls up to the `Stopped`, with its own call or without it. Only
--- what had ended was purged between two segments.
+-- calls that were answered, with the replies that the run delivered. Of the first batch with a
+-- `Stopped`, if there is one, the calls without pending changes count, or all calls up to the
+-- `Stopped`, with its own call or without it. Only what had ended was purged between two segments.
 --
 -- Example: a run without segments has one batch of two calls. The first creates an intent and has
 -- the reply `Done`, which is deferred. The second deletes a constraint and has the reply `Stopped`.
@@ -84,7 +84,7 @@ AloneIsStepped =
 -- without the constraint. If the second reply is `Done` too and the batch was committed, only the
 -- last one can follow.
 abbrev pub MayCome : Airspace → Run → Airspace → Type 0
-MayCome a run b = MayHavePersistedPurged run.salt a run.segments run.batches b
+MayCome a run b = AreDeliveredAndDurable run.salt a run.segments run.batches b
 
 -- Holds if files that stood for an airspace before the run stand for one that may follow from it
 -- after the run.
