@@ -243,7 +243,7 @@ def pictures_are_drawn():
     old = [name for name, picture in drawn["PICTURES"].items() if picture() != (TOP / "docs" / name).read_text()]
     found = [f"docs/{name} is another: run scripts/pictures" for name in old]
     # what asks no space calls no change of one
-    is_blind = drawn["picture_of_a_put"].calls("early::early", "change::commit_change")
+    is_blind = drawn["picture_of_a_path"].calls("early::early", "change::commit_change")
     return found + (["a call is seen where there is none"] if is_blind else [])
 
 

@@ -2,7 +2,6 @@
 import contextlib
 import json
 import os
-import pathlib
 import resource
 import select
 import socket
@@ -10,6 +9,7 @@ import time
 
 import wire
 from admin_port import HEALTH, SERVING, AdminService, said, until_counted
+from large_requests import ARRAYS, COMPARED, FIRST_BYTES, OF_USS, SENT_WITHIN, WITHOUT_TOKEN, large, nested, processor_ticks
 from lateness import again, exceeded
 from many_clients import answers_from
 from program import SECONDS
@@ -25,11 +25,6 @@ WAITS = 1
 READ_NOTHING, FEWER = 24, 7
 # The seconds after which the buffers of the system are full at the latest.
 FULL_WITHIN = 120
-# The buffers for requests over 64 KiB: of requests without a token, and of one USS.
-WITHOUT_TOKEN, OF_USS = 8, 32
-# The bytes of such a request that are sent at first, and the seconds in which the others must follow: after 5 s, 4 KiB are
-# due each second, of which it has more than 64 KiB for its first 14 s.
-FIRST_BYTES, SENT_WITHIN = 125_000, 14
 # The descriptors of a narrow service, and those that clients leave.
 DESCRIPTORS, RESERVED = 64, 32
 ACCEPT = b"dss: accept: no file descriptor or memory for a connection; raise LimitNOFILE\n"
@@ -103,12 +98,6 @@ def budget():
         return found
 
 
-def large(token):
-    """Returns a setting with a body of 130 kB. Without a token it is denied."""
-    body = b'{"old_version":"none","availability":"Down","x":"' + b"x" * 130_000 + b'"}'
-    return wire.request("PUT", f"{wire.AVAILABILITY}/uss-b", token and f"Bearer {token}", body)
-
-
 def buffers():
     """At most 8 requests over 64 KiB without a token arrive at once, and at most 32 of a USS. Others of these wait, but
     not those of another USS. Each is answered once another one is done."""
@@ -136,18 +125,16 @@ def buffers():
 
 def unread():
     """A request without a token is denied before its body is parsed: it costs less than half of one with a token."""
-    body = b"[" * 100 + b"[]," * 300_000 + b"[]" + b"]" * 100
     costs, found = {}, []
     with AdminService() as started:
-        ticks = pathlib.Path(f"/proc/{started.program.pid}/stat")
         for token, status in (None, b"HTTP/1.1 401"), ("tok-a", b"HTTP/1.1 400"):
-            sent = wire.request("POST", f"{wire.INTENTS}/query", token and f"Bearer {token}", body)
-            before = sum(map(int, ticks.read_text().rpartition(")")[2].split()[11:13]))
-            for _ in range(40):
+            sent = wire.request("POST", f"{wire.INTENTS}/query", token and f"Bearer {token}", nested(ARRAYS))
+            before = processor_ticks(started.program.pid)
+            for _ in range(COMPARED):
                 with started.connect() as connection:
                     connection.sendall(sent)
                     found += difference(f"{token}", answers_from(connection, 1)[:12], status)
-            costs[token] = sum(map(int, ticks.read_text().rpartition(")")[2].split()[11:13])) - before
+            costs[token] = processor_ticks(started.program.pid) - before
     return found + ([] if 2 * costs[None] < costs["tok-a"] else [f"processor time in ticks: {costs}"])
 
 

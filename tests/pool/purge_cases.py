@@ -4,7 +4,7 @@ import pathlib
 import struct
 import time
 
-from cases import TOKENS, get, metric, put, until_serving
+from cases import TOKENS, admin, get, metric, put, until_serving
 from devices import library
 from doors import Pool, answer, create, until
 from file_cases import folder_of, followed, pages, started
@@ -61,6 +61,13 @@ def with_clocks(case, options=("--retention", RETENTION)):
     return run
 
 
+def jump(pool, at):
+    """Moves the clock of an instance, and confirms it there, since a jump holds the purges of the instance."""
+    pool.clocks.move(at, MOVED)
+    until(lambda: metric(pool.ports[at], "dss_purge_held") == 1, f"instance {at} does not notice that its clock has jumped")
+    admin(pool.ports[at], "/purge/resume", "POST")
+
+
 def ending(index, seconds=60):
     """Returns the creation of an intent that ends after so many seconds."""
     method, path, caller, body = put(index)
@@ -87,7 +94,7 @@ def at_every_door(pool):
     create(pool.doors[0], ending(1))
     change(pool.doors[0], 2)
     for at in range(3):
-        pool.clocks.move(at, MOVED)
+        jump(pool, at)
     # the flight stays until an instance hears another one
     began = time.time()
     change(pool.doors[0], 3)
@@ -103,7 +110,7 @@ def at_every_door(pool):
 def by_a_wrong_clock(pool):
     """An organization whose clock is two hours ahead purges no flight, and makes no other instance purge one."""
     create(pool.doors[0], ending(11))
-    pool.clocks.move(2, MOVED)
+    jump(pool, 2)
     beside = pool.add("c2", TOKENS, options=pool.doors[2].options[:2], environment=pool.clocks.of(2))
     pool.ready([beside])
     for it in range(12):
@@ -111,7 +118,7 @@ def by_a_wrong_clock(pool):
         time.sleep(0.25)
     assert statuses(pool, 11) == [200] * 4
     # once another clock agrees, the same flight is purged
-    pool.clocks.move(0, MOVED)
+    jump(pool, 0)
     change(pool.doors[0], 40)
     await_statuses(pool, 11, 404)
 
@@ -150,7 +157,7 @@ def in_files(pool):
     create(pool.doors[0], ending(61))
     first = followed(pool, folder)
     for at in range(3):
-        pool.clocks.move(at, MOVED)
+        jump(pool, at)
     change(pool.doors[0], 62)
     await_statuses(pool, 61, 404)
     assert followed(pool, folder) > first
