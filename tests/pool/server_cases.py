@@ -179,19 +179,6 @@ def share(pool):
         assert answer(pool.door, get(1), first[0])[0] == 404
 
 
-def pipelined(pool):
-    """A request that arrives while an earlier one of its client waits is answered, though nothing more arrives."""
-    with contextlib.ExitStack() as stack:
-        (client,) = known(pool, stack, "tok-b", 1)
-        pool.cluster.stop(0)
-        client.send(get(1, "tok-b"))
-        until(lambda: metric(pool.port, "dss_pool_requests_waiting") == 1, "no request waits")
-        client.send(get(2, "tok-b"))
-        time.sleep(0.3)
-        pool.cluster.go_on(0)
-        assert {client.receive()[0] for _ in range(2)} <= {404, 503}
-
-
 def flight(index):
     """Returns a put of an intent that meets none of another index, with the longest address."""
     method, path, caller, body = put(index)
@@ -369,7 +356,6 @@ CASES = {
     "turns and rounds": with_instance(again(rounds_end)),
     "reads by cost": with_instance(again(reads_by_cost)),
     "share of a USS": with_instance(share),
-    "pipelined": with_instance(pipelined),
     "unsent responses": with_instance(unsent),
     "large buffers": with_instance(again(large_buffers, SENT_WITHIN)),
     "slow large requests": with_instance(again(slow, STEADY)),
