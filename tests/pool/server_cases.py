@@ -179,18 +179,37 @@ def share(pool):
         assert answer(pool.door, get(1), first[0])[0] == 404
 
 
+def pipelined(pool):
+    """A request that arrives while an earlier one of its client waits is answered, though nothing more arrives."""
+    with contextlib.ExitStack() as stack:
+        (client,) = known(pool, stack, "tok-b", 1)
+        pool.cluster.stop(0)
+        client.send(get(1, "tok-b"))
+        until(lambda: metric(pool.port, "dss_pool_requests_waiting") == 1, "no request waits")
+        client.send(get(2, "tok-b"))
+        time.sleep(0.3)
+        pool.cluster.go_on(0)
+        got = statuses_on(client.connection, 2)
+        assert len(got) == 2 and set(got) <= {404, 503}, got
+
+
 def flight(index):
     """Returns a put of an intent that meets none of another index, with the longest address."""
     method, path, caller, body = put(index)
     return method, path, caller, json.dumps({**json.loads(body), "uss_base_url": f"https://{'a' * 247}"}).encode()
 
 
+def statuses_on(way, count):
+    """Returns the statuses of the next responses: so many, or fewer if the connection ends."""
+    came = b""
+    while len(got := [int(it[9:12]) for it in wire.answers_of(came)]) < count and (piece := way.recv(1 << 16)):
+        came += piece
+    return got
+
+
 def created(way, indices):
     """Returns those of these intents that were created, whose requests were sent at once."""
-    came = b""
-    while len(statuses := [it[9:12] for it in wire.answers_of(came)]) < len(indices) and (piece := way.recv(1 << 16)):
-        came += piece
-    return {index for index, status in zip(indices, statuses) if status in (b"201", b"409")}
+    return {index for index, status in zip(indices, statuses_on(way, len(indices))) if status in (201, 409)}
 
 
 def fill(pool, count):
@@ -356,6 +375,7 @@ CASES = {
     "turns and rounds": with_instance(again(rounds_end)),
     "reads by cost": with_instance(again(reads_by_cost)),
     "share of a USS": with_instance(share),
+    "pipelined": with_instance(pipelined),
     "unsent responses": with_instance(unsent),
     "large buffers": with_instance(again(large_buffers, SENT_WITHIN)),
     "slow large requests": with_instance(again(slow, STEADY)),

@@ -78,7 +78,7 @@ in_before : (ticket : ℕ) (draft : Option Reply) (given : Option (ℕ × Outcom
 in_before ticket draft None later sooner P more h = more h
 in_before ticket draft (Some given) later sooner P more h = either_before (ticket == given.0) (reply_by draft given.1) later sooner P more h
 
--- A reply that was told by some events is told by these and later ones.
+-- If some events deliver a reply, so do these events with later ones.
 under_before : (ticket : ℕ) (draft : Option Reply) (events rest : List BackendEvent) (P : Reply → Type 0) → IfSome (reply_under ticket draft (events ++ rest)) P → IfSome (reply_under ticket draft events) P
 under_before ticket draft [] rest P h = tt
 under_before ticket draft (event ∷ events) rest P h =

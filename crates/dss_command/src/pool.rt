@@ -1,8 +1,9 @@
 //! The command `serve --pool` above the operating system.
-ghost use Rattle.std.specs.Prelude.{◌≡◌, ◌⊎◌, IfOk, IsSome, OnOk, is_some};
+ghost use Rattle.std.specs.Prelude.{◌≡◌, ◌⊎◌, IfErr, IfOk, IsSome, OnOk, is_some};
 ghost use Rattle.pool_instance.specs.Parts.{retention_in};
 ghost use Rattle.pool_backend.specs.Pool.{IsNewPool};
 ghost use Rattle.dss_command.specs.Pool.{EndsPool, MayServePool, ServesPoolClients, StartsOver, pool_setup_in};
+ghost use Rattle.dss_command.specs.declared.fault.Fault.TheVariants.{Memory};
 
 use crate::fault::{Fault, io_fault};
 use crate::pool_fault::PoolFault;
@@ -79,7 +80,7 @@ pub fn new_instance<G: Log + Drop>(
     Ok(Instance::new(alloc, log, service, retention))
 }
 
-/// Creates the backend of an instance, with the input and output of its log. So many requests can
+/// Creates the backend of an instance, with the input and output of its log. At most `most` requests
 /// wait for the log at once.
 ///
 /// The only possible fault is `Memory`.
@@ -89,7 +90,8 @@ pub fn new_backend<G: Log + Drop, I: LogIo<G> + Drop>(
     log_io: I,
     most: usize,
 ) -> Result<PoolInstance<G, I, MemorySpace>, Fault>
-    ensures { IfOk result (IsNewPool instance) }
+    ensures new { IfOk result (IsNewPool instance) }
+    ensures memory { IfErr result (λ fault. fault ≡ Memory) }
 {
     let Ok(routes) = Routes::new(alloc) else {
         return Err(Fault::Memory);

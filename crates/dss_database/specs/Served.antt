@@ -77,8 +77,8 @@ module _ {S T M W : Type 0} (space : spaces.Ghosts S) (waiting : settles.Ghosts 
     pub clients : MayServe space waiting b m t setup keep watch first last clock clock' past now
     pub found : FindsAgain again before (run_if_served clients) after
 
--- Holds if the first is true of what `opened` opens and `serve` then closes, over files whose disk
--- returned what was written.
+-- Holds if `ServedIsFound` is true of what `opened` opens and `serve` then closes, over files whose
+-- disk returned what was written.
 abbrev pub NextStartFinds : {D T M W : Type 0} {g : disk.Ghosts D}
     → spaces.Ghosts (SqlSpaceModel (FileStore D g)) → spaces.Ghosts (ServedModel (FileStore D g))
     → backends.Ghosts (Database (ServedModel (FileStore D g))) → moments.Ghosts M
@@ -104,8 +104,8 @@ AreLeft {D} {g} (Closed files) after = AreClean g files.log files.db × FilesHav
 AreLeft (Unclosed last) after =
     IsClean (store.view last) × IsTrue (store.view last).is_numbered × FilesLeft last after
 
--- Holds if the second is true of what `opened` opens, and of what is left of its files when `serve`
--- fails.
+-- Holds if `FailedIsFound` is true of what `opened` opens, and of what is left of its files when
+-- `serve` fails.
 abbrev pub NextStartFindsLeft : {D T M W : Type 0} {g : disk.Ghosts D}
     → spaces.Ghosts (SqlSpaceModel (FileStore D g)) → spaces.Ghosts (ServedModel (FileStore D g))
     → backends.Ghosts (Database (ServedModel (FileStore D g))) → moments.Ghosts M

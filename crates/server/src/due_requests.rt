@@ -30,7 +30,7 @@ impl DueRequests {
         self.items.is_empty()
     }
 
-    /// Adds a request. If memory runs out, it is not added, and its time will be over.
+    /// Adds a request. If memory runs out, it is dropped, and its client is closed at its timeout.
     pub(crate) fn push(&mut self, ticket: u64, key: usize) {
         let _ = self.items.push(DueRequest { ticket, key });
     }

@@ -465,6 +465,8 @@ impl<T: ClientSocket> ClientConnection<T> {
                 }
                 // if the client sends nothing more, no further event follows
                 self.readable = count == most || self.ended;
+                // the next request may be complete now, also while an earlier one waits
+                self.lacks = false;
             }
             ReadOutcome::End => {}
         }
@@ -537,9 +539,7 @@ impl<T: ClientSocket> ClientConnection<T> {
             return Ok(again_if(self.writable));
         }
         self.restart_request_timeout(now);
-        // what arrived while the request waited may be the next one
-        let may_go_on = self.readable || self.io.holds_any() || self.io.is_done();
-        Ok(again_if(may_go_on || !self.lacks))
+        Ok(again_if(self.readable || !self.lacks || self.io.is_done()))
     }
 
     // Sends pending output, and reads one chunk if no complete request is buffered.
