@@ -12,6 +12,7 @@ path_of page.Health = codes "/health"
 path_of page.Metrics = codes "/metrics"
 path_of page.Stop = codes "/stop"
 path_of page.Backup = codes "/backup"
+path_of page.File = codes "/file"
 path_of page.Airspace = codes "/airspace"
 path_of page.ResumePurges = codes "/purge/resume"
 
@@ -20,6 +21,7 @@ method_of page.Health = codes "GET"
 method_of page.Metrics = codes "GET"
 method_of page.Stop = codes "POST"
 method_of page.Backup = codes "POST"
+method_of page.File = codes "POST"
 method_of page.Airspace = codes "GET"
 method_of page.ResumePurges = codes "POST"
 
@@ -34,8 +36,8 @@ IsAsked method path (Refuses p) = (path ≡ path_of p) × (method ≢ method_of 
 IsAsked method path Unknown = IsNoPath path
 
 -- The status of an endpoint's response. Only that of `/health` depends on the health of the
--- service. That of `/backup` applies without a backup directory, and that of `/airspace` without a
--- snapshot.
+-- service. Those of `/backup` and `/file` apply without a directory for them, and that of `/airspace`
+-- without a snapshot.
 abbrev pub status_at : AdminRoute → Health → ℕ
 status_at page.Health state.Serving = 200
 status_at page.Health state.Degraded = 200
@@ -46,6 +48,7 @@ status_at page.Health state.Stopping = 503
 status_at page.Metrics health = 200
 status_at page.Stop health = 200
 status_at page.Backup health = 404
+status_at page.File health = 404
 status_at page.Airspace health = 503
 status_at page.ResumePurges health = 200
 

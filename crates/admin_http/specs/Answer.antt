@@ -19,6 +19,7 @@ type_of (Some page.Metrics) = codes "text/plain; version=0.0.4; charset=utf-8"
 type_of (Some page.Health) = codes "text/plain; charset=utf-8"
 type_of (Some page.Stop) = codes "text/plain; charset=utf-8"
 type_of (Some page.Backup) = codes "text/plain; charset=utf-8"
+type_of (Some page.File) = codes "text/plain; charset=utf-8"
 type_of (Some page.Airspace) = codes "application/json"
 type_of (Some page.ResumePurges) = codes "text/plain; charset=utf-8"
 type_of None = codes "text/plain; charset=utf-8"
@@ -66,6 +67,8 @@ Answers (Does page.Stop) health text =
     text ≡ text_of (status_of (Does page.Stop) health) (type_of None) None (codes "stopping\n")
 Answers (Does page.Backup) health text =
     text ≡ text_of (status_of (Does page.Backup) health) (type_of None) None (codes "no such path\n")
+Answers (Does page.File) health text =
+    text ≡ text_of (status_of (Does page.File) health) (type_of None) None (codes "no such path\n")
 Answers (Does page.Airspace) health text =
     text ≡ text_of (status_of (Does page.Airspace) health) (type_of None) None (codes "no snapshot\n")
 Answers (Does page.ResumePurges) health text =

@@ -13,6 +13,8 @@ pub enum AdminRoute {
     Stop,
     /// A backup of the database.
     Backup,
+    /// A file of the pool.
+    File,
     /// A page of the airspace.
     Airspace,
     /// The confirmation of the clock, so that purges go on.
@@ -57,6 +59,7 @@ impl AdminRoute {
             AdminRoute::Metrics => "GET",
             AdminRoute::Stop => "POST",
             AdminRoute::Backup => "POST",
+            AdminRoute::File => "POST",
             AdminRoute::Airspace => "GET",
             AdminRoute::ResumePurges => "POST",
         }
@@ -79,6 +82,9 @@ fn page_at(path: &[u8]) -> Option<AdminRoute>
     }
     if path == "/backup".as_bytes() {
         return Some(AdminRoute::Backup);
+    }
+    if path == "/file".as_bytes() {
+        return Some(AdminRoute::File);
     }
     if path == "/airspace".as_bytes() {
         return Some(AdminRoute::Airspace);
@@ -114,7 +120,7 @@ pub fn request_status(asked: AdminRequest, health: Health) -> u16
             AdminRequest::Does(AdminRoute::Health),
             Health::Failing | Health::Silent | Health::Stopped | Health::Stopping,
         ) => 503,
-        (AdminRequest::Does(AdminRoute::Backup), _) => 404,
+        (AdminRequest::Does(AdminRoute::Backup | AdminRoute::File), _) => 404,
         (AdminRequest::Does(AdminRoute::Airspace), _) => 503,
         _ => 200,
     }

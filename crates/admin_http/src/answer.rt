@@ -101,8 +101,8 @@ fn health_text(health: Health) -> &'static str
     }
 }
 
-/// Returns the response to a request. For a backup it is the response without a backup directory,
-/// and for the airspace the one without a snapshot.
+/// Returns the response to a request. For a backup or a file it is the response without a directory
+/// for it, and for the airspace the one without a snapshot.
 pub fn answer(
     alloc: Global,
     asked: AdminRequest,
@@ -132,7 +132,7 @@ pub fn answer(
             )
         }
         AdminRequest::Does(AdminRoute::Stop) => whole(alloc, status, None, None, "stopping\n"),
-        AdminRequest::Does(AdminRoute::Backup) => whole(
+        AdminRequest::Does(AdminRoute::Backup | AdminRoute::File) => whole(
             alloc,
             status,
             None,

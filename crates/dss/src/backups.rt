@@ -1,5 +1,6 @@
 //! The backups that the service requests.
 use admin_backup::folder::BackupDir;
+use admin_http::admin_route::AdminRoute;
 use admin_http::backup::BackupResult;
 use server_base::backups::{MakeBackups, Progress};
 
@@ -17,12 +18,16 @@ fn progress_of(ended: Option<BackupResult>) -> Progress {
     }
 }
 
-impl<'a> MakeBackups for PortBackups<'a> {
-    fn begin(&mut self, name: &str) -> Progress {
+impl<'a, B> MakeBackups<B> for PortBackups<'a> {
+    fn route(&self) -> AdminRoute {
+        AdminRoute::Backup
+    }
+
+    fn begin(&mut self, _backend: &B, name: &str) -> Progress {
         progress_of(self.folder.begin(name))
     }
 
-    fn go_on(&mut self) -> Progress {
+    fn go_on(&mut self, _backend: &B) -> Progress {
         progress_of(self.folder.step())
     }
 

@@ -79,7 +79,7 @@ fn serve_sockets<
     S: PurgeEnded + SnapshotSource + Drop,
     M: Moments,
     N: Sockets + Drop,
-    B: MakeBackups + Drop,
+    B: MakeBackups<Database<S>> + Drop,
     T: TokenSource + Drop,
     J: ServerLog,
 >(
@@ -141,7 +141,7 @@ pub fn serve_port<
     S: PurgeEnded + SnapshotSource + Drop,
     M: Moments,
     N: Listen + Drop,
-    B: MakeBackups + Drop,
+    B: MakeBackups<Database<S>> + Drop,
     L: LogFile + Drop,
     T: TokenSource + Drop,
     E: Write,

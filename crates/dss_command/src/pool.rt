@@ -20,7 +20,7 @@ use pool_core::log_io::LogIo;
 use pool_instance::instance::Instance;
 use server::serve::serve;
 use server_backend::backend::Backend;
-use server_base::backups::NoBackups;
+use server_base::backups::MakeBackups;
 use server_base::limits::{Limits, MAX_CONNECTIONS};
 use server_base::server_log::ServerLog;
 use server_base::sockets::Sockets;
@@ -121,6 +121,7 @@ fn serve_sockets<
     S: SnapshotSource + PurgeEnded + Drop,
     M: Moments,
     N: Sockets + Drop,
+    K: MakeBackups<PoolInstance<G, I, S>> + Drop,
     T: TokenSource + Drop,
     J: ServerLog,
 >(
@@ -132,6 +133,7 @@ fn serve_sockets<
     watch: TokenWatch<T>,
     moments: &mut M,
     sockets: &mut N,
+    backups: Option<K>,
     journal: &mut J,
 ) -> Result<(), Fault>
     requires { is_some build ≡ is_some given.operated }
@@ -145,7 +147,6 @@ fn serve_sockets<
     outcomes_are_given::<G, I, S>();
     let is_watched = given.keep.is_some() || build.is_some();
     let clock = ClockWatch::new(given.keep, None, is_watched);
-    let backups: Option<NoBackups> = None;
     let served = serve(
         alloc,
         routes,
@@ -173,13 +174,14 @@ fn serve_sockets<
 /// aborted client, and why a changed token file was not loaded. Logs each answered request.
 ///
 /// Returns `Ok` only if the connections were counted and all are closed, or an operator stopped the
-/// service on the admin port. If the instance has ended, returns `PoolFault::Ended`; the log knows
+/// service on the admin port, where files are requested, too. If the instance has ended, returns `PoolFault::Ended`; the log knows
 /// whether it is lost, and why.
 pub fn serve_pool_port<
     G: Log + Drop,
     I: LogIo<G> + Drop,
     M: Moments,
     N: Listen + Drop,
+    K: MakeBackups<PoolInstance<G, I, MemorySpace>> + Drop,
     L: LogFile + Drop,
     T: TokenSource + Drop,
     E: Write,
@@ -190,6 +192,7 @@ pub fn serve_pool_port<
     watch: TokenWatch<T>,
     moments: &mut M,
     sockets: &mut N,
+    files: Option<K>,
     log: Option<L>,
     error: &mut E,
 ) -> Result<(), Fault>
@@ -220,6 +223,7 @@ pub fn serve_pool_port<
         watch,
         moments,
         sockets,
+        files,
         &mut journal,
     );
     sockets.close();

@@ -15,7 +15,6 @@ use crate::tickets::Tickets;
 use admin_http::service_metrics::ServiceMetrics;
 use server_admin::admin_connections::AdminConnections;
 use server_base::acceptance::Acceptance;
-use server_base::backups::MakeBackups;
 use server_base::limits::{LOOKS, LOOKS_SOON, Limits, MAX_CONNECTIONS};
 use server_base::server_log::ServerLog;
 use server_base::service_record::failure_of;
@@ -59,7 +58,7 @@ pub(crate) struct EventLoop<N: Sockets, K> {
     measured_until: Duration,
 }
 
-impl<N: Sockets + Drop, K: MakeBackups + Drop> EventLoop<N, K> {
+impl<N: Sockets + Drop, K: Drop> EventLoop<N, K> {
     /// Creates an event loop without clients. Allocates the memory for the maximum number of
     /// clients here, so that no client is dropped later for lack of it. Of a class, `share` requests
     /// may wait at the backend at once.

@@ -28,7 +28,7 @@ use wire_http::{Explaining, Moments};
 use wire_route::routes::Routes;
 
 // Confirms the clock if an operator requested that.
-fn confirm<N: Sockets + Drop, K: MakeBackups + Drop, T: TokenSource>(
+fn confirm<N: Sockets + Drop, K: Drop, T: TokenSource>(
     event_loop: &mut EventLoop<N, K>,
     watches: &mut Watches<T>,
 )
@@ -43,7 +43,7 @@ fn confirm<N: Sockets + Drop, K: MakeBackups + Drop, T: TokenSource>(
 
 // Answers the admin port, and does what operators requested: confirms the clock, or begins the
 // stop. Returns true if a stop is complete.
-fn operate<B: Backend, M: Moments, N: Sockets + Drop, K: MakeBackups + Drop, T: TokenSource>(
+fn operate<B: Backend, M: Moments, N: Sockets + Drop, K: MakeBackups<B> + Drop, T: TokenSource>(
     event_loop: &mut EventLoop<N, K>,
     sockets: &N,
     context: RequestContext<'_>,
@@ -71,7 +71,7 @@ fn operate<B: Backend, M: Moments, N: Sockets + Drop, K: MakeBackups + Drop, T: 
         if !watches.is_overdue(now) && !event_loop.is_served() {
             return false;
         }
-        event_loop.abort_backup();
+        event_loop.abort_backup::<B>();
         return true;
     }
     confirm(event_loop, watches);
@@ -91,7 +91,7 @@ fn end_round<
     B: Backend,
     M: Moments,
     N: Sockets + Drop,
-    K: MakeBackups + Drop,
+    K: MakeBackups<B> + Drop,
     T: TokenSource,
     J: ServerLog,
 >(
@@ -167,7 +167,7 @@ pub fn serve<
     B: Backend,
     M: Moments,
     N: Sockets + Drop,
-    K: MakeBackups + Drop,
+    K: MakeBackups<B> + Drop,
     T: TokenSource + Drop,
     J: ServerLog,
 >(

@@ -171,7 +171,7 @@ impl<T: AdminSocket> AdminConnection<T> {
         let made = match parse_admin_request(hosts, self.held.as_slice()) {
             RequestParse::Incomplete => return AdminTurnOutcome::Again,
             RequestParse::Request(AdminRequest::Does(AdminRoute::Backup), query)
-                if admin_context.backs_up => {
+                if admin_context.backs_up == Some(AdminRoute::Backup) => {
                 let Some(name) = name_in(query) else {
                     return self.give(
                         backup_answer(admin_context.alloc, BackupResult::InvalidName),
@@ -182,6 +182,10 @@ impl<T: AdminSocket> AdminConnection<T> {
                     return AdminTurnOutcome::Gone;
                 };
                 return self.want(name);
+            }
+            RequestParse::Request(AdminRequest::Does(AdminRoute::File), _)
+                if admin_context.backs_up == Some(AdminRoute::File) => {
+                return self.want(String::new(admin_context.alloc));
             }
             RequestParse::Request(AdminRequest::Does(AdminRoute::Airspace), query) => {
                 airspace_answer(admin_context.alloc, query, admin_context.shown)

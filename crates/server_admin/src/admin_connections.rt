@@ -4,6 +4,7 @@ ghost use Rattle.std.specs.Prelude.{◌≡◌};
 use crate::admin_connection::{AdminConnection, AdminTurnOutcome};
 use crate::admin_context::AdminContext;
 use crate::backup_job::BackupJob;
+use admin_http::admin_route::AdminRoute;
 use admin_http::backup::BackupResult;
 use server_base::backups::MakeBackups;
 use server_base::limits::{
@@ -18,7 +19,7 @@ use std::time::Duration;
 
 /// All connections to the admin port.
 #[derive(Drop)]
-pub struct AdminConnections<N: Sockets, B> {
+pub struct AdminConnections<N: Sockets, K> {
     alloc: Global,
     all: Slab<AdminConnection<N::Admin>>,
     // True if one may wait to be accepted, and the time until which the system has no room for it.
@@ -29,19 +30,19 @@ pub struct AdminConnections<N: Sockets, B> {
     stops: bool,
     // True if one confirmed the clock, until that is taken.
     confirms: bool,
-    // The maker of backups, if there is a backup directory, and the backup in progress.
-    backups: Option<B>,
+    // The maker of backups, if there is a directory for them, and the backup in progress.
+    backups: Option<K>,
     backing_up: BackupJob,
 }
 
-impl<N: Sockets + Drop, B: MakeBackups + Drop> AdminConnections<N, B> {
+impl<N: Sockets + Drop, K: Drop> AdminConnections<N, K> {
     /// Creates an empty set. Connections may come only if there is an admin port, and backups are
     /// made only if there is a maker of backups.
     pub fn new(
         alloc: Global,
         may_come: bool,
-        backups: Option<B>,
-    ) -> Result<AdminConnections<N, B>, AllocError> {
+        backups: Option<K>,
+    ) -> Result<AdminConnections<N, K>, AllocError> {
         let room = if may_come { ADMIN_SLOTS } else { 0 };
         Ok(AdminConnections {
             alloc,
@@ -169,9 +170,15 @@ impl<N: Sockets + Drop, B: MakeBackups + Drop> AdminConnections<N, B> {
         }
     }
 
-    /// Returns true if there is a maker of backups.
-    pub fn has_backups(&self) -> bool {
-        self.backups.is_some()
+    /// Returns the endpoint at which backups are requested, if there is a maker of backups.
+    pub fn backup_route<B>(&self) -> Option<AdminRoute>
+    where
+        K: MakeBackups<B>,
+    {
+        match &self.backups {
+            Some(backups) => Some(backups.route()),
+            None => None,
+        }
     }
 
     /// Accepts waiting connections, as far as there is room: one more than the maximum, so that
@@ -220,20 +227,26 @@ impl<N: Sockets + Drop, B: MakeBackups + Drop> AdminConnections<N, B> {
     }
 
     /// Runs the turn of each connection, and one step of the requested backup.
-    pub fn run_once(&mut self, admin_context: AdminContext<'_>, now: Duration) {
+    pub fn run_once<B>(&mut self, admin_context: AdminContext<'_>, backend: &B, now: Duration)
+    where
+        K: MakeBackups<B>,
+    {
         self.again = false;
         for key in 0..ADMIN_SLOTS {
             self.turn(key, admin_context, now);
-            self.begin_wanted(key, now);
+            self.begin_wanted(key, backend, now);
         }
-        if let Some((key, backup)) = self.backing_up.go_on(self.backups.as_mut()) {
+        if let Some((key, backup)) = self.backing_up.go_on(backend, self.backups.as_mut()) {
             self.tell(key, backup, now);
         }
         self.again = self.again || self.backing_up.is_running();
     }
 
     // Begins the backup that a connection requested.
-    fn begin_wanted(&mut self, key: usize, now: Duration) {
+    fn begin_wanted<B>(&mut self, key: usize, backend: &B, now: Duration)
+    where
+        K: MakeBackups<B>,
+    {
         let Some(operator) = self.all.get_mut(key) else {
             return;
         };
@@ -242,7 +255,7 @@ impl<N: Sockets + Drop, B: MakeBackups + Drop> AdminConnections<N, B> {
         };
         let told = self
             .backing_up
-            .begin(key, name.as_str(), self.backups.as_mut());
+            .begin(key, backend, name.as_str(), self.backups.as_mut());
         if let Some(backup) = told {
             self.tell(key, backup, now);
         }
@@ -258,7 +271,10 @@ impl<N: Sockets + Drop, B: MakeBackups + Drop> AdminConnections<N, B> {
     }
 
     /// Aborts the backup in progress, because the service ends.
-    pub fn abort(&mut self) {
-        self.backing_up.abort(self.backups.as_mut());
+    pub fn abort<B>(&mut self)
+    where
+        K: MakeBackups<B>,
+    {
+        self.backing_up.abort::<B, K>(self.backups.as_mut());
     }
 }

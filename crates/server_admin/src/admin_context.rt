@@ -1,4 +1,5 @@
 //! The context of admin requests, the same for all connections.
+use admin_http::admin_route::AdminRoute;
 use admin_http::build::BuildInfo;
 use admin_http::service_metrics::ServiceMetrics;
 use space_snapshot::snapshot::{NoMirror, Snapshot};
@@ -10,8 +11,8 @@ pub struct AdminContext<'a> {
     pub alloc: Global,
     pub metrics: &'a ServiceMetrics,
     pub build: BuildInfo<'a>,
-    /// True if there is a backup directory.
-    pub backs_up: bool,
+    /// The endpoint at which backups are requested, if there is a maker of backups.
+    pub backs_up: Option<AdminRoute>,
     /// The airspace of the service, or the reason why none can be shown.
     pub shown: Result<Snapshot<'a>, NoMirror>,
 }

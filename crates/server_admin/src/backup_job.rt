@@ -22,11 +22,12 @@ impl BackupJob {
 
     /// Begins a backup for the connection under that key. Returns the result at once if the backup
     /// does not go on.
-    pub(crate) fn begin<B: MakeBackups>(
+    pub(crate) fn begin<B, K: MakeBackups<B>>(
         &mut self,
         key: usize,
+        backend: &B,
         name: &str,
-        backups: Option<&mut B>,
+        backups: Option<&mut K>,
     ) -> Option<BackupResult> {
         if self.requested_by.is_some() {
             return Some(BackupResult::Busy);
@@ -34,7 +35,7 @@ impl BackupJob {
         let Some(backups) = backups else {
             return Some(BackupResult::NoDirectory);
         };
-        match backups.begin(name) {
+        match backups.begin(backend, name) {
             Progress::GoesOn => {
                 self.requested_by = Some(key);
                 None
@@ -45,13 +46,14 @@ impl BackupJob {
 
     /// Makes one step of the backup in progress. At its end, returns the key of the connection that
     /// requested it, and the result.
-    pub(crate) fn go_on<B: MakeBackups>(
+    pub(crate) fn go_on<B, K: MakeBackups<B>>(
         &mut self,
-        backups: Option<&mut B>,
+        backend: &B,
+        backups: Option<&mut K>,
     ) -> Option<(usize, BackupResult)> {
         let key = self.requested_by?;
         let backups = backups?;
-        match backups.go_on() {
+        match backups.go_on(backend) {
             Progress::GoesOn => None,
             Progress::Ended(backup) => {
                 self.requested_by = None;
@@ -61,7 +63,7 @@ impl BackupJob {
     }
 
     /// Aborts the backup in progress, because the service ends.
-    pub(crate) fn abort<B: MakeBackups>(&mut self, backups: Option<&mut B>) {
+    pub(crate) fn abort<B, K: MakeBackups<B>>(&mut self, backups: Option<&mut K>) {
         if self.requested_by.is_some()
             && let Some(backups) = backups
         {

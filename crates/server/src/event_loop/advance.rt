@@ -6,13 +6,12 @@ ghost use Rattle.server.specs.Numbers.{ForgetsAll};
 
 use super::EventLoop;
 use server_backend::backend::Backend;
-use server_base::backups::MakeBackups;
 use server_base::server_log::ServerLog;
 use server_base::sockets::Sockets;
 use server_clients::request_context::RequestContext;
 use std::time::Duration;
 
-impl<N: Sockets + Drop, K: MakeBackups + Drop> EventLoop<N, K> {
+impl<N: Sockets + Drop, K: Drop> EventLoop<N, K> {
     /// Lets the backend do what is due besides requests, at a time of the clock, and records what
     /// it did. `is_held` says that the clock is held as wrong.
     pub(crate) fn advance<B: Backend, J: ServerLog>(

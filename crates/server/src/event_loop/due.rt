@@ -9,7 +9,6 @@ ghost use Rattle.server.specs.Watches.{server_state};
 use super::EventLoop;
 use crate::watches::Watches;
 use server_backend::backend::Backend;
-use server_base::backups::MakeBackups;
 use server_base::limits::MAX_CONNECTIONS;
 use server_base::server_log::ServerLog;
 use server_base::sockets::Sockets;
@@ -20,7 +19,7 @@ use server_watch::token_watch::TokenSource;
 use std::time::Duration;
 use wire_http::{Moments, StreamFault};
 
-impl<N: Sockets + Drop, K: MakeBackups + Drop> EventLoop<N, K> {
+impl<N: Sockets + Drop, K: Drop> EventLoop<N, K> {
     // Adds a request to those that can be answered, if its client waits.
     fn note_due(&mut self, ticket: u64)
         ensures { KeepsClients N.Client.name self.old.clients self.new.clients }

@@ -14,7 +14,7 @@ use server_base::sockets::Sockets;
 use server_watch::token_watch::TokenSource;
 use std::time::Duration;
 
-impl<N: Sockets + Drop, K: MakeBackups + Drop> EventLoop<N, K> {
+impl<N: Sockets + Drop, K: Drop> EventLoop<N, K> {
     // Sets the metrics of the server and its backend.
     fn show<B: Backend, T: TokenSource>(
         &mut self,
@@ -47,6 +47,8 @@ impl<N: Sockets + Drop, K: MakeBackups + Drop> EventLoop<N, K> {
         backend: &B,
         now: Duration,
     )
+    where
+        K: MakeBackups<B>,
         ensures { KeepsClients N.Client.name self.old.clients self.new.clients }
     {
         if self.operators.is_idle() {
@@ -57,10 +59,10 @@ impl<N: Sockets + Drop, K: MakeBackups + Drop> EventLoop<N, K> {
             alloc: self.alloc,
             metrics: &self.metrics,
             build,
-            backs_up: self.operators.has_backups(),
+            backs_up: self.operators.backup_route::<B>(),
             shown: backend.snapshot(),
         };
-        self.operators.run_once(admin_context, now);
+        self.operators.run_once(admin_context, backend, now);
     }
 
     /// Returns true if an operator confirms the clock, once for each confirmation.
@@ -81,9 +83,11 @@ impl<N: Sockets + Drop, K: MakeBackups + Drop> EventLoop<N, K> {
     }
 
     /// Aborts a backup in progress, since the server ends.
-    pub(crate) fn abort_backup(&mut self)
+    pub(crate) fn abort_backup<B>(&mut self)
+    where
+        K: MakeBackups<B>,
         ensures { KeepsClients N.Client.name self.old.clients self.new.clients }
     {
-        self.operators.abort();
+        self.operators.abort::<B>();
     }
 }

@@ -12,7 +12,6 @@ use crate::drafts::Drafts;
 use crate::watches::Watches;
 use server_backend::backend::Backend;
 use server_backend::outcome::Outcome;
-use server_base::backups::MakeBackups;
 use server_base::limits::MAX_CONNECTIONS;
 use server_base::server_log::ServerLog;
 use server_base::sockets::Sockets;
@@ -24,7 +23,7 @@ use server_watch::token_watch::TokenSource;
 use std::time::Duration;
 use wire_http::Moments;
 
-impl<N: Sockets + Drop, K: MakeBackups + Drop> EventLoop<N, K> {
+impl<N: Sockets + Drop, K: Drop> EventLoop<N, K> {
     /// Counts what became known of the store, and logs a change of its state.
     pub(crate) fn record_store<J: ServerLog>(
         &mut self,
