@@ -72,7 +72,7 @@ fn replace_availability<S: Alter>(
 }
 
 /// Sets the availability of a USS under a version.
-pub(crate) fn set_availability<S: Alter>(
+pub fn set_availability<S: Alter>(
     tx: &mut Transaction<'_, S>,
     uss: &UssId,
     availability: Availability,

@@ -75,7 +75,7 @@ fn insert_entity<S: Alter>(
 }
 
 /// Stores an entity. It keeps the number of the one with its kind and id, if there is one.
-pub(crate) fn put_entity<S: Alter>(
+pub fn put_entity<S: Alter>(
     alloc: Global,
     tx: &mut Transaction<'_, S>,
     entity: &Entity,

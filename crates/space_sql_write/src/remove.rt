@@ -81,7 +81,7 @@ fn remove_numbered<S: Alter>(tx: &mut Transaction<'_, S>, num: i64) -> Result<()
 }
 
 /// Removes the entity with a kind and an id. Returns an error if there is none.
-pub(crate) fn remove_entity<S: Alter>(
+pub fn remove_entity<S: Alter>(
     alloc: Global,
     tx: &mut Transaction<'_, S>,
     kind: Kind,

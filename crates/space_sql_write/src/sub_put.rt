@@ -68,7 +68,7 @@ fn store_sub<S: Alter>(alloc: Global, tx: &mut Transaction<'_, S>, sub: &Sub) ->
 }
 
 /// Stores a subscription. It keeps the number of the one with its id, if there is one.
-pub(crate) fn put_sub<S: Alter>(
+pub fn put_sub<S: Alter>(
     alloc: Global,
     tx: &mut Transaction<'_, S>,
     sub: &Sub,

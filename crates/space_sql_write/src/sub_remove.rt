@@ -47,7 +47,7 @@ pub(crate) fn clear_sub<S: Alter>(tx: &mut Transaction<'_, S>, num: i64) -> Resu
 
 /// Removes the subscription with an id. Returns an error if there is none, or if an intent
 /// references it.
-pub(crate) fn remove_sub<S: Alter>(
+pub fn remove_sub<S: Alter>(
     alloc: Global,
     tx: &mut Transaction<'_, S>,
     id: EntityId,
