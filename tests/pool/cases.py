@@ -366,6 +366,7 @@ def admin_port(pool):
     assert ids == ["00000000-0000-4000-8000-000000000054"], page
     assert "\ndss_mirror_up 1\n" in admin(port, "/metrics")[1]
     assert admin(port, "/backup?name=a", "POST")[0] == 404
+    assert admin(port, "/file", "POST") == (404, "no such path\n"), "a file without --files"
 
 
 def stopped(pool):

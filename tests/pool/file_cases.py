@@ -3,6 +3,7 @@ import base64
 import concurrent.futures
 import contextlib
 import fcntl
+import http.client
 import json
 import pathlib
 import random
@@ -24,6 +25,8 @@ NO_FILE = "dss: pool: files: the directory has no file REVISION-SETTINGS-BEGINNI
 UNUSABLE = "dss: pool: files: cannot read or write the directory; check that it exists, its permissions and its disk"
 BUSY = "dss: pool: files: another dss follow or dss begin uses the directory; wait until it ends"
 NO_AIRSPACE = "dss: pool: files: the newest file is gone, or has no airspace; move it away, and start again"
+NO_CHAIN = "dss: pool: files: the chain of the newest file is gone or damaged; copy the file and its chain again"
+OTHER = "its name or its content is that of another file"
 SILENT = "dss: pool: etcd does not answer; check --pool and that a majority of its members runs"
 
 
@@ -247,8 +250,7 @@ def refused(pool):
     whole = (folder / third).read_bytes()
     (folder / third).write_bytes(whole[: len(whole) // 2])
     status, lines = serve(folder)
-    assert status == 1 and re.fullmatch(r"dss: db: fault \d+ \w+", lines[-2]), (status, lines)
-    assert lines[-1].startswith(f"dss: cause: {folder / third}: "), lines
+    assert (status, lines[-2:]) == (1, [NO_CHAIN, f"dss: cause: {folder / third}: {OTHER}"]), (status, lines)
     (folder / third).unlink()
     door = started(pool, "late", folder)
     assert [answer(door, get(it))[0] for it in (90, 91, 92)] == [200] * 3
@@ -423,6 +425,146 @@ def silent_log(pool):
     assert followed(pool, folder) > first
 
 
+def maker_of(pool, folder, name="maker"):
+    """Starts an instance from the files, which can write them. Returns it and its admin port."""
+    port = free_port()
+    door = pool.add(name, TOKENS, options=("--files", folder, "--admin-port", port))
+    pool.ready([door])
+    return door, port
+
+
+def write_file(port, folder):
+    """Requests a file of an instance. Returns its name."""
+    status, body = admin(port, "/file", "POST")
+    assert status == 200, (status, body)
+    newest = names(folder)[-1]
+    assert body == f"made: {(folder / newest).stat().st_size} bytes\n", body
+    return newest
+
+
+def by_instance(pool):
+    """A running instance writes a file while clients change the airspace. Others start from it, also after a compaction up to the head."""
+    judge, folder = Judge(pool, 47), folder_of(pool)
+    judge.calls(100)
+    first = followed(pool, folder)
+    _, port = maker_of(pool, folder)
+    judge.calls(150)
+    with concurrent.futures.ThreadPoolExecutor(1) as threads:
+        made = threads.submit(write_file, port, folder)
+        judge.calls(150)
+        second = made.result()
+    assert names(folder) == [first, second] and second[20:] == first[20:], names(folder)
+    judge.calls(50)
+    third = write_file(port, folder)
+    assert names(folder) == [second, third]
+    assert {it.name for it in folder.iterdir() if not it.name.endswith("-wal")} - {"turn"} == {"lock", *with_chains(second, third)}
+    judge.mark_all()
+    head = int(pool.cluster.ask(0, "/v3/kv/range", {"key": base64.b64encode(b"in/").decode()}, 60)["header"]["revision"])
+    pool.cluster.control("compaction", str(head))
+    assert pool.follow(folder, TOKENS)[0] in (0, 1), "it fails if the head is behind the file"
+    fourth = write_file(port, folder)
+    assert int(fourth[:20]) >= int(third[:20])
+    _, late = maker_of(pool, folder, "late")
+    judge.calls(100)
+    judge.mark_all()
+    same_pages((port, late))
+    assert followed(pool, folder) >= fourth
+
+
+def without_etcd(pool):
+    """An instance writes a file also if etcd is gone. Its file begins a new pool with all changes that it was given."""
+    judge, folder = Judge(pool, 53), folder_of(pool)
+    judge.calls(100)
+    followed(pool, folder)
+    door, port = maker_of(pool, folder)
+    judge.calls(100)
+    judge.mark_all()
+    for it in (0, 1):
+        pool.cluster.stop(it)
+    newest = write_file(port, folder)
+    assert write_file(port, folder) == newest, "without a change"
+    before = pages(port)
+    for it in (0, 1):
+        pool.cluster.go_on(it)
+    pool.cluster.await_leader()
+    _, late = maker_of(pool, folder, "late")
+    until(lambda: pages(late) == before, "the airspaces differ")
+    judge.mark_all()
+
+
+def refused_by_instance(pool):
+    """An instance that cannot write a file says why, and goes on. A file that was stopped leaves nothing that counts."""
+    judge, folder = Judge(pool, 59), folder_of(pool)
+    judge.calls(50)
+    first = followed(pool, folder)
+    door, port = maker_of(pool, folder)
+    judge.calls(50)
+    with open(folder / "lock", "w") as lock:
+        fcntl.flock(lock, fcntl.LOCK_EX)
+        assert admin(port, "/file", "POST") == (503, "busy: another backup is running\n")
+    assert admin(port, "/file")[0] == 405
+    hidden = folder.with_name("hidden")
+    folder.rename(hidden)
+    assert admin(port, "/file", "POST") == (503, "failed: the backup directory cannot be written\n")
+    hidden.rename(folder)
+    for name in "next.db", "next.chain":
+        (folder / name).write_bytes(b"x" * 9_000)
+    second = write_file(port, folder)
+    assert names(folder) == [first, second]
+    assert not (folder / "next.db").exists() and not (folder / "next.chain").exists()
+    draw = random.Random(61)
+    for _ in range(8):
+        judge.calls(10)
+        with concurrent.futures.ThreadPoolExecutor(1) as threads:
+            asked = threads.submit(admin, port, "/file", "POST")
+            time.sleep(draw.uniform(0, 0.2))
+            door.kill()
+            with contextlib.suppress(OSError, http.client.HTTPException):
+                asked.result()
+        door.start()
+        pool.ready([door])
+    write_file(port, folder)
+    judge.mark_all()
+
+
+def of_another_file(pool):
+    """A file whose name or content is not what its chain says is refused, and so is a changed first file."""
+    judge, folder, other = Judge(pool, 67), folder_of(pool), folder_of(pool, "other")
+    judge.calls(30)
+    first = followed(pool, folder)
+    judge.calls(30)
+    second = followed(pool, folder)
+    serve = lambda: pool.fails("i9", TOKENS, options=("--files", other))
+    refused = lambda lines, name: lines[-2:] == [NO_CHAIN, f"dss: cause: {other / name}: {OTHER}"]
+    renamed = f"{int(second[:20]) + 1:020}{second[20:]}"
+    changed = bytearray((folder / second).read_bytes())
+    changed[-1] ^= 1
+    for name, database, chain in (
+        (second, folder / first, folder / chain_of(second)),
+        (second, folder / second, folder / chain_of(first)),
+        (renamed, folder / second, folder / chain_of(second)),
+    ):
+        shutil.copy(chain, other / chain_of(name))
+        shutil.copy(database, other / name)
+        status, lines = serve()
+        assert status == 1 and refused(lines, name), (name, lines)
+        status, printed, errors = pool.follow(other, TOKENS)
+        assert (status, printed) == (1, "") and refused(errors.splitlines(), name), errors
+        for it in other.glob("0*"):
+            it.unlink()
+    shutil.copy(folder / chain_of(second), other)
+    (other / second).write_bytes(changed)
+    assert refused(serve()[1], second)
+    # a chain of a release before names no file
+    text = (folder / chain_of(second)).read_text().split("\n")
+    numbers = text[0].split()
+    text[0] = f"dss-chain 1 {numbers[2]} {numbers[3]}"
+    (other / chain_of(second)).write_text("\n".join(text))
+    shutil.copy(folder / second, other)
+    started(pool, "late", other)
+    judge.mark_all()
+
+
 CASES = {
     "files written": with_pool(written),
     "files of an idle pool": with_pool(idle),
@@ -435,4 +577,8 @@ CASES = {
     "files on a full disk": with_pool(full_disk),
     "files of a killed process": with_pool(killed),
     "files of a silent log": with_pool(silent_log),
+    "files by an instance": with_pool(by_instance),
+    "files without etcd": with_pool(without_etcd),
+    "files refused by an instance": with_pool(refused_by_instance),
+    "files of another name or content": with_pool(of_another_file),
 }

@@ -70,8 +70,9 @@ def bad_chains(text):
     lines = digests.splitlines(keepends=True)
     assert re.fullmatch(r"([0-9a-f]{64}\n)+", digests) and lines[0] == f"{64 * '0'}\n" and len(lines) > 2, text
     last = len(lines) - 1
-    assert first == f"dss-chain 1 0 {last}", first
-    heads = "", "dss-chain 1 0", f"dss-chain 2 0 {last}", f"dss-chain 1 1 {last + 1}", f"dss-chain 1 0 {last + 1}", f"dss-chain 1 0 {last - 1}"
+    own = re.fullmatch(rf"dss-chain 2 0 {last} (\d+ [0-9a-f]{{64}})", first)[1]
+    numbers = "0", f"1 {last + 1}", f"0 {last + 1}", f"0 {last - 1}"
+    heads = "", f"dss-chain 2 0 {last}", f"dss-chain 3 0 {last} {own}", f"{first}0", *(f"dss-chain 2 {it} {own}" for it in numbers)
     yield from ("", first, f"{first}\n", f"{text[:-2]}\n", f"{text}\n", f"{text}{lines[-1]}")
     yield from (f"{it}\n{digests}" for it in heads)
     # a copy that was cut

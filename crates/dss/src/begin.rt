@@ -1,6 +1,7 @@
 //! The command `begin`: copies a database, which becomes the first file of a pool.
 use crate::backup::backup;
 use crate::cause::Cause;
+use crate::file_digest::{digest_of, number_of};
 use crate::live::check;
 use crate::pool_files::{FileName, PoolFiles, print_name};
 use crate::pool_log::settings_of;
@@ -9,34 +10,9 @@ use dss_args::begin_args::BeginArgs;
 use dss_command::backup_fault::BackupFault;
 use dss_command::fault::Fault;
 use dss_command::pool_fault::PoolFault;
-use sha2::{Digest, Sha256};
 use sqlite::Start;
-use std::fs::File;
-use std::io;
-use std::io::{Read, Write};
+use std::io::Write;
 use token_conf::token_table::TokenTable;
-
-// The bytes of a chunk.
-const CHUNK: usize = 65_536;
-
-// Returns the first 8 bytes of the SHA-256 digest of a file (FIPS 180-4), big-endian.
-fn number_of(rt: &HostRuntime, path: &str) -> io::Result<u64> {
-    let mut file = File::open(rt, path)?;
-    let mut chunk = vec![in rt.alloc(); 0_u8; CHUNK]?;
-    let mut hasher = Sha256::new();
-    for _ in 0..u64::MAX {
-        let length = file.read(&mut chunk)?;
-        if length == 0 {
-            break;
-        }
-        hasher.update(&chunk[..length]);
-    }
-    let digest = hasher.finalize();
-    match digest.first_chunk::<8>() {
-        Some(first) => Ok(u64::from_be_bytes(*first)),
-        None => unreachable!(),
-    }
-}
 
 // Makes the next database of the directory: a checked copy of a database that no process has open.
 fn copy<F: Start>(
@@ -72,8 +48,8 @@ fn put_first(
     let Ok(next) = files.next() else {
         return Err(Fault::Memory);
     };
-    let beginning = match number_of(rt, next.as_str()) {
-        Ok(number) => number,
+    let beginning = match digest_of(rt, next.as_str()) {
+        Ok(digest) => number_of(&digest),
         Err(error) => return Err(files.fault(&error, cause)),
     };
     let name = FileName {

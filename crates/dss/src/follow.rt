@@ -1,7 +1,7 @@
 //! The command `follow`: does the acts of a pool's log over a copy of the newest file, which
 //! becomes the next file.
 use crate::cause::Cause;
-use crate::chain_file::{chain_of, write_chain};
+use crate::chain_file::{OwnFile, chain_of, write_chain};
 use crate::etcd_io::EtcdIo;
 use crate::etcd_waiting::EtcdWaiting;
 use crate::new_database::make_database;
@@ -54,6 +54,7 @@ fn follow_behind<F: Start>(
     rt: &HostRuntime,
     files: PoolFiles<'_>,
     newest: Option<FileName>,
+    own_file: Option<OwnFile>,
     start: F,
     salt: Salt,
     log: EtcdLog,
@@ -63,7 +64,7 @@ fn follow_behind<F: Start>(
         return Err(Fault::Memory);
     };
     match newest {
-        Some(newest) => files.copy(newest, cause)?,
+        Some(newest) => files.copy(newest, own_file, cause)?,
         None => make_database(rt, path.as_str())?,
     }
     make_calls(rt, path.as_str(), start, salt, log, cause)
@@ -111,16 +112,17 @@ pub(crate) fn follow<F: Start, W: Write, E: Write>(
     let beginning = beginning_of(newest);
     let settings = settings_of(rt, &tokens, beginning)?;
     check_settings(newest, settings)?;
+    let found = chain_of(rt, Some(given.files), newest, cause)?;
     let log_args = LogArgs {
         endpoints: given.endpoints.as_slice(),
         name: given.name,
         etcd_user: given.etcd_user,
-        chain: chain_of(rt, Some(given.files), newest, cause)?,
+        chain: found.chain,
         file: newest,
         agreed: settings,
     };
     let log = open_log(rt, log_args, cause)?;
-    let log = match follow_behind(rt, files, newest, start, salt, log, cause) {
+    let log = match follow_behind(rt, files, newest, found.own_file, start, salt, log, cause) {
         Ok(log) => log,
         Err(fault) => {
             let _ = files.clear();

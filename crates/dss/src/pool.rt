@@ -1,10 +1,11 @@
 //! The command `serve --pool`: an instance of a pool whose log is in etcd.
 use crate::cause::Cause;
-use crate::chain_file::chain_of;
+use crate::chain_file::{OwnFile, chain_of, check_content};
 use crate::clock::SystemClock;
 use crate::etcd_io::EtcdIo;
 use crate::log_file::SystemLog;
 use crate::pool_file_check::check_file;
+use crate::pool_file_maker::PoolFileMaker;
 use crate::pool_files::{FileName, PoolFiles, beginning_of};
 use crate::pool_log::{LogArgs, check_settings, new_poll, open_log, settings_of, with_loss};
 use crate::serving::{admin_listener, clients_of, explaining, log_of, served_tokens};
@@ -60,6 +61,7 @@ fn newest_file<'a>(
 fn airspace_of<F: Start>(
     rt: &HostRuntime,
     file: Option<StartFile<'_>>,
+    own_file: Option<OwnFile>,
     start: F,
     cause: &mut Cause,
 ) -> Result<MemorySpace, Fault> {
@@ -70,6 +72,7 @@ fn airspace_of<F: Start>(
         return Err(Fault::Memory);
     };
     check_file(rt, path.as_str(), cause)?;
+    check_content(rt, path.as_str(), name, own_file, cause)?;
     match load(rt, path.as_str(), start) {
         Ok((space, loaded)) => {
             drop(loaded);
@@ -95,6 +98,9 @@ struct Beginning<'a> {
     poll: Poll,
     registry: Registry,
     space: MemorySpace,
+    // The number of the own settings, and that of the airspace at the beginning of the log.
+    agreed: u64,
+    beginning: u64,
 }
 
 // Opens the log of an instance, and loads the newest file of its directory.
@@ -110,27 +116,42 @@ fn begin<'a, F: Start>(
         Some(found) => Some(found.name),
         None => None,
     };
-    let agreed = settings_of(rt, tokens, beginning_of(newest))?;
+    let beginning = beginning_of(newest);
+    let agreed = settings_of(rt, tokens, beginning)?;
     check_settings(newest, agreed)?;
+    let found = chain_of(rt, given.files, newest, cause)?;
     let log_args = LogArgs {
         endpoints: given.endpoints.as_slice(),
         name: given.name,
         etcd_user: given.etcd_user,
-        chain: chain_of(rt, given.files, newest, cause)?,
+        chain: found.chain,
         file: newest,
         agreed,
     };
     let log = open_log(rt, log_args, cause)?;
     let access_log = log_of(rt, given.access_log, cause)?;
     let (poll, registry) = new_poll(rt)?;
-    let space = airspace_of(rt, file, start, cause)?;
+    let space = airspace_of(rt, file, found.own_file, start, cause)?;
     Ok(Beginning {
         log,
         access_log,
         poll,
         registry,
         space,
+        agreed,
+        beginning,
     })
+}
+
+// Returns the maker of files of an instance, if a directory is given.
+fn files_of<'a>(
+    rt: &'a HostRuntime,
+    folder: Option<&'a str>,
+    agreed: u64,
+    beginning: u64,
+) -> Option<PoolFileMaker<'a>> {
+    let files = PoolFiles::new(rt, folder?);
+    Some(PoolFileMaker::new(rt, files, agreed, beginning))
 }
 
 // Answers clients with an instance, until it ends.
@@ -149,6 +170,8 @@ fn serve_from<E: Write>(
         poll,
         registry,
         space,
+        agreed,
+        beginning,
     } = begun;
     let instance = new_instance(rt.alloc(), log, space, tokens, given.retention)?;
     let clients = clients_of(rt, given.max_connections);
@@ -178,6 +201,7 @@ fn serve_from<E: Write>(
         TokenWatch::new(TokenFile::named(rt, given.tokens), text),
         &mut SystemClock::new(rt),
         &mut sockets,
+        files_of(rt, given.files, agreed, beginning),
         access_log,
         error,
     );

@@ -4,6 +4,7 @@
 //! database its place in the log.
 use crate::backup::copy_file;
 use crate::cause::Cause;
+use crate::chain_file::{OwnFile, check_content};
 use crate::pool_file_check::check_file;
 use crate::private::NO_OTHERS;
 use dss_command::fault::{Fault, io_fault};
@@ -300,10 +301,10 @@ impl<'a> PoolFiles<'a> {
         self.remove_database(next.as_str())
     }
 
-    // Locks the directory, and removes what a process left that was stopped. Returns the file that
-    // has the lock, and the name of the newest file. Returns `None` if another process has locked
-    // the directory.
-    fn lock_and_clear(&self) -> io::Result<Option<(File, Option<FileName>)>> {
+    /// Locks the directory, and removes what a process left that was stopped. Returns the file that
+    /// has the lock, and the name of the newest file. Returns `None` if another process has locked
+    /// the directory.
+    pub(crate) fn lock_and_clear(&self) -> io::Result<Option<(File, Option<FileName>)>> {
         let Some(lock) = self.try_lock(LOCK)? else {
             return Ok(None);
         };
@@ -324,12 +325,18 @@ impl<'a> PoolFiles<'a> {
     }
 
     /// Makes a copy of the file of that name, which is not complete yet. The file must have an
-    /// airspace.
-    pub(crate) fn copy(&self, name: FileName, cause: &mut Cause) -> Result<(), Fault> {
+    /// airspace, and be the one that its chain names.
+    pub(crate) fn copy(
+        &self,
+        name: FileName,
+        own_file: Option<OwnFile>,
+        cause: &mut Cause,
+    ) -> Result<(), Fault> {
         let (Ok(from), Ok(to)) = (self.path_of(name), self.next()) else {
             return Err(Fault::Memory);
         };
         check_file(self.rt, from.as_str(), cause)?;
+        check_content(self.rt, from.as_str(), name, own_file, cause)?;
         match copy_file(self.rt, from.as_str(), to.as_str()) {
             Err(Fault::Copy(_)) => Err(Fault::Pool(PoolFault::Files)),
             done => done,
