@@ -68,11 +68,7 @@ fn store_sub<S: Alter>(alloc: Global, tx: &mut Transaction<'_, S>, sub: &Sub) ->
 }
 
 /// Stores a subscription. It keeps the number of the one with its id, if there is one.
-pub fn put_sub<S: Alter>(
-    alloc: Global,
-    tx: &mut Transaction<'_, S>,
-    sub: &Sub,
-) -> Result<(), Error>
+pub fn put_sub<S: Alter>(alloc: Global, tx: &mut Transaction<'_, S>, sub: &Sub) -> Result<(), Error>
     ensures same_reference { SameConnection tx.old tx.new }
     ensures changes { Within S.Store tx.old tx.new
         (Runs (λ _. MakesChange (PutSub sub.now) [])) result }
