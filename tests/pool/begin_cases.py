@@ -312,7 +312,8 @@ def other_salt(pool):
 
 
 def marked(pool):
-    """`mark` and `compact` keep the whole log while an organization needs the file of `begin`."""
+    """`mark` and `compact` keep the whole log while an organization needs the file of `begin`. After a compaction up to the head, `mark`
+    has its instance write a file, and goes on from it."""
     room, folder, first_only = pathlib.Path(pool.room), folder_of(pool), folder_of(pool, "first-only")
     database, file = room / "one.db", room / "root.user"
     single = Single(room, database, TOKENS)
@@ -328,15 +329,18 @@ def marked(pool):
     (room / "bin" / "etcdctl").write_text(f'#!/bin/sh\nexec /usr/bin/etcdctl {" ".join(PATIENT)} "$@"\n')
     (room / "bin" / "etcdctl").chmod(0o755)
 
+    def runs(script):
+        words = [TOP / "deploy" / "pool" / script, "a0"]
+        return subprocess.run(words, env=given, stdin=subprocess.DEVNULL, capture_output=True, text=True, timeout=4 * LIMIT)
+
     def run(script):
         """Runs a script of deploy/pool. Returns what it printed."""
-        words = [TOP / "deploy" / "pool" / script, "a0"]
-        done = subprocess.run(words, env=given, stdin=subprocess.DEVNULL, capture_output=True, text=True, timeout=4 * LIMIT)
+        done = runs(script)
         assert done.returncode == 0, (script, done)
         return done.stdout
 
-    def add(name, where):
-        door = pool.add(name, TOKENS, options=("--etcd-user", file, "--files", where))
+    def add(name, where, *options):
+        door = pool.add(name, TOKENS, options=("--etcd-user", file, "--files", where, *options))
         pool.ready([door])
         return door
     mark = lambda: pool.cluster.control("--user", "root:r", "get", "mark/a0", "--print-value-only").split()[:1]
@@ -355,8 +359,19 @@ def marked(pool):
     assert names(folder) == [second, third] and mark() == [f"{int(second[:20])}"], (names(folder), mark())
     assert run("compact") == f"compact: the log begins behind revision {int(second[:20])}\n"
     ends_with(pool, "--etcd-user", file, "--files", first_only, lines=COMPACTED)
-    late = add("late", folder)
+    given["ADMIN"] = f"127.0.0.1:{free_port()}"
+    late = add("late", folder, "--admin-port", given["ADMIN"].split(":")[1])
     assert [answer(late, get(it))[0] for it in (30, 31, 32)] == [200] * 3
+    create(late, put(33))
+    head = re.search(r'"Revision" : (\d+)', pool.cluster.control("--user", "root:r", "get", "in/", "-w", "fields"))[1]
+    pool.cluster.control("--user", "root:r", "compaction", head)
+    failed = runs("mark")
+    newest = names(folder)[-1]
+    said = f"dss follow failed; the instance at {given['ADMIN']} has written a file (made: {(folder / newest).stat().st_size} bytes)"
+    assert (failed.returncode, failed.stderr.splitlines()[-1]) == (1, f"mark: {said}"), failed
+    assert newest > third and run("mark") >= f"{newest}\n"
+    door = add("last", folder)
+    assert [answer(door, get(it))[0] for it in (30, 31, 32, 33)] == [200] * 4
 
 
 CASES = {
