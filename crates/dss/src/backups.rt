@@ -18,16 +18,16 @@ fn progress_of(ended: Option<BackupResult>) -> Progress {
     }
 }
 
-impl<'a, B> MakeBackups<B> for PortBackups<'a> {
+impl<'a> MakeBackups<()> for PortBackups<'a> {
     fn route(&self) -> AdminRoute {
         AdminRoute::Backup
     }
 
-    fn begin(&mut self, _backend: &B, name: &str) -> Progress {
+    fn begin(&mut self, _backend: &(), name: &str) -> Progress {
         progress_of(self.folder.begin(name))
     }
 
-    fn go_on(&mut self, _backend: &B) -> Progress {
+    fn go_on(&mut self, _backend: &()) -> Progress {
         progress_of(self.folder.step())
     }
 

@@ -17,6 +17,7 @@ ghost use Rattle.dss_database.specs.Files.{PurgesFiles, PurgesPartly, UpgradesFi
 ghost use Rattle.dss_command.specs.Purging.{PurgesSpace};
 
 use crate::failure::Failure;
+use crate::file_backups::for_any_backend;
 use crate::with_mirror::with_mirror;
 use database_backend::database::Database;
 use dss_command::clients::{ServeConfig, serve_port};
@@ -273,7 +274,7 @@ fn served_with_mirror<
     A: Alter + Drop,
     M: Moments,
     N: Listen + Drop,
-    B: MakeBackups<Database<QuotaSpace<Mirrored<SqlSpace<A>>>>> + Drop,
+    B: MakeBackups<()> + Drop,
     L: LogFile + Drop,
     T: TokenSource + Drop,
     E: Write,
@@ -305,7 +306,16 @@ fn served_with_mirror<
     let grouped = with_mirror(alloc, space, loaded, &mut tally);
     let bounded = QuotaSpace::new(grouped, tally);
     let (done, served) = serve_port(
-        alloc, bounded, salt, given, watch, moments, sockets, backups, log, error,
+        alloc,
+        bounded,
+        salt,
+        given,
+        watch,
+        moments,
+        sockets,
+        for_any_backend(backups),
+        log,
+        error,
     );
     let inside = served.into_inner();
     (done, inside.into_store())
@@ -321,7 +331,7 @@ pub fn serve<
     F: Start,
     M: Moments,
     N: Listen + Drop,
-    B: MakeBackups<Database<QuotaSpace<Mirrored<SqlSpace<FileStore<FileFrom<F>>>>>>> + Drop,
+    B: MakeBackups<()> + Drop,
     L: LogFile + Drop,
     T: TokenSource + Drop,
     E: Write,

@@ -3,6 +3,7 @@
 
 pub mod copies;
 pub mod failure;
+mod file_backups;
 pub mod files;
 pub mod laws;
 pub mod pool_files;
