@@ -1,8 +1,9 @@
 //! The log of a simulation.
-use crate::shared::Shared;
+use crate::shared::{Reached, Shared};
 use server_base::phase::Phase;
 use server_base::server_log::{AbortedConnection, LoggedRequest, ServerLog, TokenReloadFault};
 use std::alloc::Global;
+use std::time::Duration;
 use wire_http::StreamFault;
 
 /// An answered request.
@@ -17,6 +18,17 @@ pub(crate) struct Answered {
     pub(crate) table: usize,
     /// True if the operator had requested the stop.
     pub(crate) is_stopping: bool,
+    /// What was reached, and when the service began with the request.
+    pub(crate) reached: Reached,
+    pub(crate) received: u64,
+    /// The size of its response in bytes.
+    pub(crate) size: usize,
+    /// How many entries of the log of a pool were taken, and whether the log was lost.
+    pub(crate) given: usize,
+    pub(crate) is_lost: bool,
+    /// The index of the first entry that was taken after the stop, if the request came before it. Else
+    /// the greatest number.
+    pub(crate) first_after_stop: usize,
 }
 
 /// A connection that was aborted.
@@ -41,6 +53,17 @@ pub(crate) struct Journal<'a> {
 // Returns the index of a connection, given its number.
 fn index_of(number: u64) -> usize {
     number.saturating_sub(1) as usize
+}
+
+// Returns so many nanoseconds before a time. Without a number, returns the time.
+fn before(time: u64, took: Option<Duration>) -> u64 {
+    let Some(took) = took else {
+        return time;
+    };
+    match u64::try_from(took.as_nanos()) {
+        Ok(nanos) => time.saturating_sub(nanos),
+        Err(_) => 0,
+    }
 }
 
 impl<'a> Journal<'a> {
@@ -71,6 +94,7 @@ impl<'a> ServerLog for Journal<'a> {
 
     fn request_answered(&mut self, request: &LoggedRequest<'_>) {
         let connection = index_of(request.connection);
+        let received = before(self.shared.now(), request.took);
         self.shared.count_answer(connection);
         let answered = Answered {
             connection,
@@ -78,6 +102,12 @@ impl<'a> ServerLog for Journal<'a> {
             moment: self.shared.wall(),
             table: self.shared.table(),
             is_stopping: self.shared.is_stopping(),
+            reached: self.shared.reached(),
+            received,
+            size: request.size,
+            given: self.shared.given(),
+            is_lost: self.shared.is_lost(),
+            first_after_stop: self.shared.first_after_stop(received),
         };
         if self.answers.push(answered).is_err() {
             self.is_lossy = true;

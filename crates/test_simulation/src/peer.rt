@@ -1,6 +1,7 @@
 //! A simulated client.
 ghost use Rattle.std.specs.Prelude.{◌≤◌, length, IfSome};
 
+use crate::shared::Reached;
 use std::alloc::Global;
 
 /// How a client behaves.
@@ -62,8 +63,8 @@ pub(crate) struct Peer {
     pub(crate) blocked_at: u64,
     pub(crate) ended_at: u64,
     pub(crate) shut_at: u64,
-    /// How many requests of all clients had been answered when each of its requests was read.
-    pub(crate) ready: Vec<u64>,
+    /// What was reached when each of its requests was read.
+    pub(crate) ready: Vec<Reached>,
 }
 
 impl Peer {
@@ -161,23 +162,22 @@ impl Peer {
             && !self.is_refused
     }
 
-    /// Records that the service has read `count` more bytes at that time, when so many requests of
-    /// all clients were answered.
-    pub(crate) fn note_read(&mut self, count: usize, now: u64, total: u64) {
+    /// Records that the service has read `count` more bytes when this was reached.
+    pub(crate) fn note_read(&mut self, count: usize, reached: Reached) {
         let is_first = self.used <= self.whole();
         self.read = self.read.saturating_add(count);
         if self.is_shut || count == 0 {
             return;
         }
         if is_first {
-            self.begun_at = now;
+            self.begun_at = reached.now;
         }
         self.used = self.read;
-        self.note_whole(now, total);
+        self.note_whole(reached);
     }
 
     // Records which more requests were read whole.
-    fn note_whole(&mut self, now: u64, total: u64) {
+    fn note_whole(&mut self, reached: Reached) {
         for index in self.ready.len()..self.ends.len() {
             let Some(end) = self.ends.get(index) else {
                 return;
@@ -186,14 +186,14 @@ impl Peer {
                 return;
             }
             if *end < self.used {
-                self.begun_at = now;
+                self.begun_at = reached.now;
             }
-            let _ = self.ready.push(total);
+            let _ = self.ready.push(reached);
         }
     }
 
     /// Copies the bytes that arrived into a chunk. Returns how many.
-    pub(crate) fn give(&mut self, chunk: &mut [u8], now: u64, total: u64) -> usize
+    pub(crate) fn give(&mut self, chunk: &mut [u8], reached: Reached) -> usize
         ensures { result ≤ length chunk.new }
     {
         let count = self.arrived.saturating_sub(self.read).min(chunk.len());
@@ -204,7 +204,7 @@ impl Peer {
                 *place = *byte;
             }
         }
-        self.note_read(count, now, total);
+        self.note_read(count, reached);
         count
     }
 

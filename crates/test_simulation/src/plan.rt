@@ -13,10 +13,19 @@ const FLOODS: usize = 4;
 
 const FLOOD: usize = 40;
 
+// How many clients of one USS there are in some schedules of a pool: more than the requests of one USS
+// that wait for the log at once.
+const CROWD: usize = 40;
+
+// The most waits after which a client resets its connection in some schedules of a pool.
+const HASTE: u64 = 12;
+
 /// A drawn schedule.
 #[derive(Drop)]
 pub(crate) struct Plan {
     pub(crate) peers: Vec<Peer>,
+    /// How many of the first clients are of one USS and many.
+    pub(crate) crowd: usize,
     pub(crate) course: Course,
     pub(crate) limits: Limits,
     pub(crate) explaining: Explaining,
@@ -26,8 +35,11 @@ pub(crate) struct Plan {
     pub(crate) store_faults: u64,
 }
 
-// Returns a percentage: 0 in most cases.
-fn percentage(draws: &mut Draws, often: u64, most: u64) -> u64 {
+// How many numbers of changes a client has.
+const MARKS: u64 = 1_000;
+
+/// Returns a percentage: 0 in most cases.
+pub(crate) fn percentage(draws: &mut Draws, often: u64, most: u64) -> u64 {
     if draws.chance(often) {
         draws.below(most)
     } else {
@@ -93,12 +105,13 @@ fn peer_of(alloc: Global, script: Script, manner: Manner) -> Peer {
     Peer::new(alloc, bytes, ends, is_last, manner)
 }
 
-// Returns a drawn client.
+// Returns a drawn client. Its changes have numbers from `mark` on.
 fn draw_peer(
     alloc: Global,
     salt: &Salt,
     draws: &mut Draws,
     faults: u64,
+    mark: u64,
 ) -> Result<Peer, AllocError> {
     let token = draws.below(4) as usize;
     let count = draws.up_to(6);
@@ -107,6 +120,7 @@ fn draw_peer(
         salt,
         draws: draws.split(),
         token,
+        mark,
         script: Script::new(alloc),
     };
     writer.put_all(count)?;
@@ -126,6 +140,7 @@ fn draw_flood(alloc: Global, salt: &Salt, draws: &mut Draws) -> Result<Peer, All
         salt,
         draws: draws.split(),
         token: 0,
+        mark: 0,
         script: Script::new(alloc),
     };
     writer.put_reads(FLOOD)?;
@@ -180,18 +195,30 @@ fn limits(draws: &mut Draws, count: usize, course: Course) -> Limits {
     }
 }
 
-// Draws a schedule in which one USS sends many requests at once, and others a few.
-fn draw_flooded_plan(alloc: Global, salt: &Salt, draws: &mut Draws) -> Result<Plan, AllocError> {
-    let mut peers = Vec::new(alloc);
-    for _ in 0..FLOODS {
-        peers.push(draw_flood(alloc, salt, draws)?)?;
+// Adds so many drawn clients. Their changes have numbers from `mark` on.
+fn draw_peers(
+    alloc: Global,
+    salt: &Salt,
+    draws: &mut Draws,
+    count: usize,
+    faults: u64,
+    mark: u64,
+    peers: &mut Vec<Peer>,
+) -> Result<(), AllocError> {
+    for index in 0..count {
+        let first = mark.saturating_add((index as u64).saturating_mul(MARKS));
+        peers.push(draw_peer(alloc, salt, draws, faults, first)?)?;
     }
-    for _ in 0..draws.up_to(4) {
-        peers.push(draw_peer(alloc, salt, draws, 0)?)?;
-    }
+    Ok(())
+}
+
+// Returns a schedule of these clients in which nothing fails. The first `crowd` of them are of one USS
+// and many.
+fn undisturbed(draws: &mut Draws, peers: Vec<Peer>, crowd: usize) -> Plan {
     let count = peers.len();
-    Ok(Plan {
+    Plan {
         peers,
+        crowd,
         course: flooded_course(draws),
         limits: Limits {
             count: Some(count as u64),
@@ -202,20 +229,124 @@ fn draw_flooded_plan(alloc: Global, salt: &Salt, draws: &mut Draws) -> Result<Pl
         reloads: 0,
         clock_faults: 0,
         store_faults: 0,
-    })
+    }
+}
+
+// Draws a schedule in which one USS sends many requests at once, and others a few.
+fn draw_flooded_plan(
+    alloc: Global,
+    salt: &Salt,
+    draws: &mut Draws,
+    mark: u64,
+) -> Result<Plan, AllocError> {
+    let mut peers = Vec::new(alloc);
+    for _ in 0..FLOODS {
+        peers.push(draw_flood(alloc, salt, draws)?)?;
+    }
+    let others = draws.up_to(4);
+    draw_peers(alloc, salt, draws, others, 0, mark, &mut peers)?;
+    Ok(undisturbed(draws, peers, 0))
+}
+
+// Draws a client of the first USS with one or two requests.
+fn draw_one_of_many(
+    alloc: Global,
+    salt: &Salt,
+    draws: &mut Draws,
+    mark: u64,
+) -> Result<Peer, AllocError> {
+    let count = draws.up_to(2);
+    let mut writer = Writer {
+        alloc,
+        salt,
+        draws: draws.split(),
+        token: 0,
+        mark,
+        script: Script::new(alloc),
+    };
+    writer.put_all(count)?;
+    let manner = faithful(draws);
+    Ok(peer_of(alloc, writer.into_script(), manner))
+}
+
+/// Draws a schedule in which many clients of one USS send requests, and others a few. The changes in
+/// it have numbers from `mark` on.
+pub(crate) fn draw_crowded_plan(
+    alloc: Global,
+    salt: &Salt,
+    draws: &mut Draws,
+    mark: u64,
+) -> Result<Plan, AllocError> {
+    let mut peers = Vec::new(alloc);
+    for index in 0..CROWD {
+        let first = mark.saturating_add((index as u64).saturating_mul(MARKS));
+        peers.push(draw_one_of_many(alloc, salt, draws, first)?)?;
+    }
+    let first = mark.saturating_add((CROWD as u64).saturating_mul(MARKS));
+    let others = draws.up_to(4);
+    draw_peers(alloc, salt, draws, others, 0, first, &mut peers)?;
+    Ok(undisturbed(draws, peers, CROWD))
+}
+
+// Draws a client that sends a change, and soon resets its connection.
+fn draw_hasty(
+    alloc: Global,
+    salt: &Salt,
+    draws: &mut Draws,
+    mark: u64,
+) -> Result<Peer, AllocError> {
+    let token = draws.below(4) as usize;
+    let mut writer = Writer {
+        alloc,
+        salt,
+        draws: draws.split(),
+        token,
+        mark,
+        script: Script::new(alloc),
+    };
+    writer.put_change()?;
+    let mut manner = faithful(draws);
+    manner.piece = usize::MAX;
+    manner.resets = draws.below(HASTE);
+    Ok(peer_of(alloc, writer.into_script(), manner))
+}
+
+/// Draws a schedule in which clients reset their connections while their changes wait for the log. One
+/// more client stays, so that the instance takes these changes. The changes have numbers from `mark`
+/// on.
+pub(crate) fn draw_hasty_plan(
+    alloc: Global,
+    salt: &Salt,
+    draws: &mut Draws,
+    mark: u64,
+) -> Result<Plan, AllocError> {
+    let mut peers = Vec::new(alloc);
+    let mut first = mark;
+    for _ in 0..draws.up_to(6) {
+        peers.push(draw_hasty(alloc, salt, draws, first)?)?;
+        first = first.saturating_add(MARKS);
+    }
+    let mut last = draw_peer(alloc, salt, draws, 0, first)?;
+    last.manner.ends = false;
+    peers.push(last)?;
+    Ok(undisturbed(draws, peers, 0))
 }
 
 // Draws any other schedule.
-fn draw_other_plan(alloc: Global, salt: &Salt, draws: &mut Draws) -> Result<Plan, AllocError> {
+fn draw_other_plan(
+    alloc: Global,
+    salt: &Salt,
+    draws: &mut Draws,
+    mark: u64,
+) -> Result<Plan, AllocError> {
     let count = draws.up_to(8);
     let faults = percentage(draws, 60, 70);
     let mut peers = Vec::new(alloc);
-    for _ in 0..count {
-        peers.push(draw_peer(alloc, salt, draws, faults)?)?;
-    }
+    draw_peers(alloc, salt, draws, count, faults, mark, &mut peers)?;
     let course = course(draws);
     Ok(Plan {
         peers,
+        crowd: 0,
         course,
         limits: limits(draws, count, course),
         explaining: if draws.chance(30) {
@@ -229,11 +360,16 @@ fn draw_other_plan(alloc: Global, salt: &Salt, draws: &mut Draws) -> Result<Plan
     })
 }
 
-/// Draws a schedule.
-pub(crate) fn draw_plan(alloc: Global, salt: &Salt, draws: &mut Draws) -> Result<Plan, AllocError> {
+/// Draws a schedule. The changes in it have numbers from `mark` on.
+pub(crate) fn draw_plan(
+    alloc: Global,
+    salt: &Salt,
+    draws: &mut Draws,
+    mark: u64,
+) -> Result<Plan, AllocError> {
     if draws.chance(6) {
-        draw_flooded_plan(alloc, salt, draws)
+        draw_flooded_plan(alloc, salt, draws, mark)
     } else {
-        draw_other_plan(alloc, salt, draws)
+        draw_other_plan(alloc, salt, draws, mark)
     }
 }

@@ -17,7 +17,8 @@ use wire_route::routes::Routes;
 pub(crate) struct Reference<'a> {
     alloc: Global,
     routes: &'a Routes,
-    tables: Vec<TokenTable>,
+    /// The token tables.
+    pub(crate) tables: Vec<TokenTable>,
     salt: Salt,
     explaining: Explaining,
     service: Service<MemorySpace>,

@@ -10,8 +10,22 @@ const ID: &str = "00000000-0000-4000-8000-00000000000";
 
 const ZERO: &str = "00000000-0000-4000-8000-000000000000";
 
+/// The path of the interface.
+pub(crate) const ROOT: &str = "/dss/v1/";
+
+// The number of bits of a mark.
+const MARK_BITS: u64 = 20;
+
 /// The tokens that clients send. The last one is unknown.
 const TOKENS: [&str; 5] = ["tok-a", "tok-b", "tok-c", "tok-v", "tok-x"];
+
+/// A drawn request. Its path goes on behind that of the interface.
+#[derive(Debug, Drop)]
+pub(crate) struct Drawn {
+    pub(crate) method: &'static str,
+    pub(crate) path: String,
+    pub(crate) body: Option<String>,
+}
 
 /// The bytes that a client sends, and where each of its requests ends there.
 #[derive(Drop)]
@@ -30,11 +44,13 @@ pub(crate) struct Writer<'a> {
     pub(crate) draws: Draws,
     /// The index of the token that it sends mostly.
     pub(crate) token: usize,
+    /// The number of its next change. No two changes of a simulation have one.
+    pub(crate) mark: u64,
     pub(crate) script: Script,
 }
 
-// Returns the token with that index.
-fn token_at(index: usize) -> &'static str {
+/// Returns the token with that index.
+pub(crate) fn token_at(index: usize) -> &'static str {
     match TOKENS.get(index) {
         Some(token) => *token,
         None => "tok-x",
@@ -67,6 +83,7 @@ impl<'a> Writer<'a> {
             salt: _,
             draws: _,
             token: _,
+            mark: _,
             script,
         } = self;
         script
@@ -103,11 +120,38 @@ impl<'a> Writer<'a> {
         String::from_str(self.alloc, ovn.text())
     }
 
+    // Appends the mark of a change as space, so that no other change has the same body.
+    fn put_mark(&mut self, body: &mut String) -> Result<(), AllocError> {
+        let mark = self.mark;
+        self.mark = mark.wrapping_add(1);
+        for place in 0..MARK_BITS {
+            let bit = if (mark >> place) % 2 == 0 { " " } else { "\t" };
+            body.push_str(bit)?;
+        }
+        Ok(())
+    }
+
+    // Returns a change with this body.
+    fn change(
+        &mut self,
+        method: &'static str,
+        path: String,
+        body: String,
+    ) -> Result<Drawn, AllocError> {
+        let mut body = body;
+        self.put_mark(&mut body)?;
+        Ok(Drawn {
+            method,
+            path,
+            body: Some(body),
+        })
+    }
+
     // Appends a request without a body.
     fn put_plain(&mut self, method: &str, path: &str) -> Result<(), AllocError> {
         let token = self.token();
         let text = format!(in self.alloc;
-            "{method} /dss/v1/{path} HTTP/1.1\r\nAuthorization: Bearer {token}\r\n\r\n"
+            "{method} {ROOT}{path} HTTP/1.1\r\nAuthorization: Bearer {token}\r\n\r\n"
         )?;
         self.script.put(text.as_str())
     }
@@ -117,9 +161,18 @@ impl<'a> Writer<'a> {
         let token = self.token();
         let size = body.len();
         let text = format!(in self.alloc;
-            "{method} /dss/v1/{path} HTTP/1.1\r\nAuthorization: Bearer {token}\r\nContent-Length: {size}\r\n\r\n{body}"
+            "{method} {ROOT}{path} HTTP/1.1\r\nAuthorization: Bearer {token}\r\nContent-Length: {size}\r\n\r\n{body}"
         )?;
         self.script.put(text.as_str())
+    }
+
+    // Appends a request.
+    fn put_request(&mut self, drawn: Drawn) -> Result<(), AllocError> {
+        let Drawn { method, path, body } = drawn;
+        match body {
+            Some(body) => self.put_body(method, path.as_str(), body.as_str()),
+            None => self.put_plain(method, path.as_str()),
+        }
     }
 
     // Returns the path of an intent, with a version in some cases.
@@ -141,8 +194,8 @@ impl<'a> Writer<'a> {
         }
     }
 
-    // Appends a put of an entity.
-    fn put_entity(&mut self) -> Result<(), AllocError> {
+    // Returns a put of an entity.
+    fn entity(&mut self) -> Result<Drawn, AllocError> {
         let kind = self.kind();
         let versioned = self.draws.chance(30);
         let path = self.path(kind, versioned)?;
@@ -157,18 +210,18 @@ impl<'a> Writer<'a> {
         let body = format!(in self.alloc;
             "{{\"extents\": [{{\"cells\": [{cells}], \"altitude_lower\": 0, \"altitude_upper\": 500, \"time_start\": {begin}, \"time_end\": {end}}}], \"uss_base_url\": \"https://u.example\", \"state\": \"{state}\", \"key\": [], \"subscription_id\": \"{ZERO}\"}}"
         )?;
-        self.put_body("PUT", path.as_str(), body.as_str())
+        self.change("PUT", path, body)
     }
 
-    // Appends a put of a subscription.
-    fn put_subscription(&mut self) -> Result<(), AllocError> {
+    // Returns a put of a subscription.
+    fn subscription(&mut self) -> Result<Drawn, AllocError> {
         let path = self.path("subscriptions", false)?;
         let cells = self.cells();
         let end = START.saturating_add(self.draws.below(900));
         let body = format!(in self.alloc;
             "{{\"extents\": {{\"cells\": [{cells}], \"altitude_lower\": 0, \"altitude_upper\": 900, \"time_start\": {START}, \"time_end\": {end}}}, \"uss_base_url\": \"https://s.example\", \"notify_for_operational_intents\": true, \"notify_for_constraints\": false}}"
         )?;
-        self.put_body("PUT", path.as_str(), body.as_str())
+        self.change("PUT", path, body)
     }
 
     // Appends a query, with a large body in some cases.
@@ -188,21 +241,40 @@ impl<'a> Writer<'a> {
         self.put_body("POST", path.as_str(), body.as_str())
     }
 
-    // Appends the setting of an availability.
-    fn put_availability(&mut self) -> Result<(), AllocError> {
+    // Returns the setting of an availability.
+    fn availability(&mut self) -> Result<Drawn, AllocError> {
         let body = if self.draws.chance(50) {
             "{\"availability\": \"Down\", \"old_version\": \"\"}"
         } else {
             "{\"availability\": \"Normal\", \"old_version\": \"\"}"
         };
-        self.put_body("PUT", "uss_availability/uss-a", body)
+        let path = String::from_str(self.alloc, "uss_availability/uss-a")?;
+        let body = String::from_str(self.alloc, body)?;
+        self.change("PUT", path, body)
     }
 
-    // Appends a deletion.
-    fn put_deletion(&mut self) -> Result<(), AllocError> {
+    // Returns a deletion. Its body has no meaning.
+    fn deletion(&mut self) -> Result<Drawn, AllocError> {
         let kind = self.kind();
         let path = self.path(kind, true)?;
-        self.put_plain("DELETE", path.as_str())
+        let body = String::new(self.alloc);
+        self.change("DELETE", path, body)
+    }
+
+    /// Returns a drawn change.
+    pub(crate) fn draw_change(&mut self) -> Result<Drawn, AllocError> {
+        match self.draws.below(12) {
+            0 | 1 => self.availability(),
+            2 | 3 | 4 => self.subscription(),
+            5 | 6 => self.deletion(),
+            _ => self.entity(),
+        }
+    }
+
+    /// Appends a drawn change.
+    pub(crate) fn put_change(&mut self) -> Result<(), AllocError> {
+        let drawn = self.draw_change()?;
+        self.put_request(drawn)
     }
 
     // Appends a read.
@@ -231,12 +303,9 @@ impl<'a> Writer<'a> {
         match self.draws.below(20) {
             0 => self.put_plain("GET", "nowhere"),
             1 => self.put_plain("GET", "uss_availability/uss-a"),
-            2 | 3 => self.put_availability(),
-            4 | 5 | 6 => self.put_subscription(),
-            7 | 8 => self.put_deletion(),
-            9 | 10 | 11 => self.put_read(),
-            12 | 13 | 14 => self.put_query(),
-            _ => self.put_entity(),
+            2 | 3 | 4 => self.put_read(),
+            5 | 6 | 7 => self.put_query(),
+            _ => self.put_change(),
         }
     }
 

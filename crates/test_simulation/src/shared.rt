@@ -9,6 +9,18 @@ pub(crate) const START: u64 = 5_000;
 /// A second in nanoseconds.
 pub(crate) const SECOND: u64 = 1_000_000_000;
 
+// How often another token table can become active.
+const MOST_LOADS: usize = 1_000;
+
+/// What a simulation has reached: its time, how many requests were answered, and how many entries the
+/// log of a pool has.
+#[derive(Clone, Copy, Debug)]
+pub(crate) struct Reached {
+    pub(crate) now: u64,
+    pub(crate) total: u64,
+    pub(crate) stored: usize,
+}
+
 /// The clock of a simulation, and what its sockets, its log and its token file note for each other.
 #[derive(Drop)]
 pub(crate) struct Shared {
@@ -19,8 +31,20 @@ pub(crate) struct Shared {
     wall: Cell<u64>,
     // The index of the token table that is active.
     table: Cell<usize>,
-    // True once the operator has requested the stop.
+    // How often another token table became active, and for each time twice the time of the clock, and
+    // one more if it was the second table.
+    load_count: Cell<usize>,
+    loads: Vec<Cell<u64>>,
+    // True once the operator has requested the stop, when, and how many entries of the log of a pool the
+    // instance had taken then.
     stopping: Cell<bool>,
+    stopped_at: Cell<u64>,
+    given_at_stop: Cell<usize>,
+    // How many entries the log of a pool has, how many of them the instance took, and whether the log
+    // is lost.
+    stored: Cell<usize>,
+    given: Cell<usize>,
+    lost: Cell<bool>,
     // How many requests were answered: of all clients, and of each connection.
     total: Cell<u64>,
     answered: Vec<Cell<u64>>,
@@ -53,7 +77,14 @@ impl Shared {
             step: Cell::new(1_000),
             wall: Cell::new(START),
             table: Cell::new(0),
+            load_count: Cell::new(0),
+            loads: zeros(alloc, MOST_LOADS)?,
             stopping: Cell::new(false),
+            stopped_at: Cell::new(u64::MAX),
+            given_at_stop: Cell::new(usize::MAX),
+            stored: Cell::new(0),
+            given: Cell::new(0),
+            lost: Cell::new(false),
             total: Cell::new(0),
             answered: zeros(alloc, clients)?,
             closed: zeros(alloc, clients)?,
@@ -94,6 +125,29 @@ impl Shared {
     /// Makes another token table active.
     pub(crate) fn load(&self, table: usize) {
         self.table.set(table);
+        let count = self.load_count.get();
+        if let Some(cell) = self.loads.get(count) {
+            let twice = self.now.get().saturating_mul(2);
+            cell.set(twice.saturating_add(table as u64));
+            self.load_count.set(count.saturating_add(1));
+        }
+    }
+
+    /// Returns true if another token table can become active.
+    pub(crate) fn can_load(&self) -> bool {
+        self.load_count.get() < MOST_LOADS
+    }
+
+    /// Returns the index of the token table that was active at a time.
+    pub(crate) fn table_at(&self, time: u64) -> usize {
+        let mut table = 0;
+        for index in 0..self.load_count.get() {
+            let load = number_at(self.loads.as_slice(), index);
+            if load / 2 <= time {
+                table = (load % 2) as usize;
+            }
+        }
+        table
     }
 
     /// Returns true if the operator has requested the stop.
@@ -104,11 +158,56 @@ impl Shared {
     /// Records that the operator has requested the stop.
     pub(crate) fn stop(&self) {
         self.stopping.set(true);
+        self.stopped_at.set(self.now.get());
+        self.given_at_stop.set(self.given.get());
     }
 
-    /// Returns how many requests were answered.
-    pub(crate) fn total(&self) -> u64 {
-        self.total.get()
+    /// Returns the index of the first entry that the instance took after the stop. Returns the greatest
+    /// number if there was no stop, or if it came before a request that was received at this time.
+    pub(crate) fn first_after_stop(&self, received: u64) -> usize {
+        if self.was_stopping(received) {
+            return usize::MAX;
+        }
+        self.given_at_stop.get()
+    }
+
+    /// Returns true if the operator had requested the stop before a time.
+    pub(crate) fn was_stopping(&self, time: u64) -> bool {
+        self.stopped_at.get() < time
+    }
+
+    /// Returns what was reached.
+    pub(crate) fn reached(&self) -> Reached {
+        Reached {
+            now: self.now.get(),
+            total: self.total.get(),
+            stored: self.stored.get(),
+        }
+    }
+
+    /// Records how many entries the log of a pool has.
+    pub(crate) fn store(&self, count: usize) {
+        self.stored.set(count);
+    }
+
+    /// Returns how many entries of the log the instance took, counted from the first one of all.
+    pub(crate) fn given(&self) -> usize {
+        self.given.get()
+    }
+
+    /// Records how many entries of the log the instance took.
+    pub(crate) fn give(&self, count: usize) {
+        self.given.set(count);
+    }
+
+    /// Returns true if the log of the pool is lost.
+    pub(crate) fn is_lost(&self) -> bool {
+        self.lost.get()
+    }
+
+    /// Records that the log of the pool is lost.
+    pub(crate) fn lose(&self) {
+        self.lost.set(true);
     }
 
     /// Counts an answered request of a connection, whose index counts from 0.

@@ -18,6 +18,7 @@ use admin_http::web_page::OwnHosts;
 use database_backend::database::Database;
 use entity_core::salt::Salt;
 use server::serve::serve as serve_clients;
+use server_backend::backend::Backend;
 use server_base::backups::NoBackups;
 use server_watch::clock_watch::ClockWatch;
 use server_watch::token_watch::TokenWatch;
@@ -98,11 +99,12 @@ fn failing<S: ApplyBatch + ToMemory + Drop>(
     with_mirror(alloc, FailingStore::new(space, draws, percent))
 }
 
-// Serves the clients of a plan.
-fn serve<'a, S: PurgeEnded + SnapshotSource + Drop>(
+/// Serves the clients of a plan by a backend, which purges what ended `keep` seconds ago.
+pub(crate) fn serve<'a, B: Backend>(
     setting: &Setting,
     plan: &Plan,
-    backend: &mut Database<S>,
+    keep: Option<u64>,
+    backend: &mut B,
     watch: TokenWatch<SimTokens<'a>>,
     clock: &mut SimClock<'a>,
     sockets: &mut SimSockets<'a>,
@@ -118,7 +120,8 @@ fn serve<'a, S: PurgeEnded + SnapshotSource + Drop>(
         }),
     };
     let backups: Option<NoBackups> = None;
-    let known = ClockWatch::new(None, None, operated.is_some());
+    let is_watched = keep.is_some() || operated.is_some();
+    let known = ClockWatch::new(keep, None, is_watched);
     serve_clients(
         setting.alloc,
         &setting.routes,
@@ -137,8 +140,8 @@ fn serve<'a, S: PurgeEnded + SnapshotSource + Drop>(
     )
 }
 
-// Takes the clients out of a plan.
-fn sockets_of<'a>(
+/// Takes the clients out of a plan.
+pub(crate) fn sockets_of<'a>(
     alloc: Global,
     plan: &mut Plan,
     shared: &'a Shared,
@@ -187,6 +190,7 @@ fn run_plan<S: PurgeEnded + SnapshotSource + CountsFailures + Drop>(
     let ended = serve(
         setting,
         &plan,
+        None,
         &mut backend,
         watch,
         &mut clock,
@@ -228,7 +232,7 @@ fn run_over<S: ApplyBatch + ToMemory + Purge + Drop>(
 /// Runs the simulation of that seed.
 pub(crate) fn simulate(setting: &Setting, seed: u64) -> Result<Facts, Failure> {
     let mut draws = Draws::new(seed);
-    let Ok(plan) = draw_plan(setting.alloc, &setting.salt, &mut draws) else {
+    let Ok(plan) = draw_plan(setting.alloc, &setting.salt, &mut draws, 0) else {
         return Err(Failure::of(Flaw::Memory));
     };
     let Ok(store) = SqlSpace::create(setting.alloc) else {

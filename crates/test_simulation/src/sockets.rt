@@ -403,14 +403,14 @@ impl<'a> SimSockets<'a> {
         ensures bound { ReadsAtMost result chunk.new }
         ensures events { self.new.events ≡ self.old.events }
     {
-        let (now, total) = (self.shared.now(), self.shared.total());
+        let reached = self.shared.reached();
         let Some(peer) = self.peers.get_mut(name) else {
             return Err(reset());
         };
         if peer.is_reset {
             return Err(reset());
         }
-        let count = peer.give(chunk, now, total);
+        let count = peer.give(chunk, reached);
         if count == 0 && !peer.has_ended {
             return Err(would_block());
         }

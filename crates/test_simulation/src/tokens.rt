@@ -65,7 +65,7 @@ pub(crate) struct SimTokens<'a> {
 impl<'a> SimTokens<'a> {
     // Returns the text of the file as it is now. Records which table becomes active.
     fn text(&mut self) -> io::Result<&'static str> {
-        if !self.draws.chance(self.percent) {
+        if !self.draws.chance(self.percent) || !self.shared.can_load() {
             return Ok(text_at(self.shared.table()));
         }
         match self.draws.below(6) {

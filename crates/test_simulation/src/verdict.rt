@@ -11,7 +11,8 @@ use entity_core::entity::Entity;
 use entity_core::nature::Kind;
 use service_calls::service::Service;
 use space_core::space::Space;
-use wire_http::StreamFault;
+use std::alloc::Global;
+use wire_http::{Connection, StreamFault};
 
 // The longest time that a client has to close, in nanoseconds: the service reads up to 64 chunks of
 // what it still sends, and waits 200 ms for each.
@@ -47,6 +48,13 @@ pub(crate) enum Flaw {
     Unfair,
     /// The history has not what the clients sent and took.
     History,
+    /// An instance of a pool gave a response too late, answered a reading without an entry that was
+    /// stored before it, gave status 503 without a reason, or offered something else than its
+    /// clients asked for.
+    Slow,
+    Old,
+    Refused,
+    Offer,
 }
 
 impl Flaw {
@@ -65,21 +73,37 @@ impl Flaw {
             Flaw::Late => "a client was closed after its time limit",
             Flaw::Unfair => "a request waited for too many others",
             Flaw::History => "the history differs from what the clients did",
+            Flaw::Slow => "a response came after its time limit",
+            Flaw::Old => "a reading was answered without an entry that was stored before it",
+            Flaw::Refused => "a request got status 503 without a reason",
+            Flaw::Offer => "an offer is not what the clients asked for",
         }
     }
 }
 
+/// What a client took, and what it should have.
+#[derive(Debug, Drop)]
+pub(crate) struct Texts {
+    pub(crate) taken: Vec<u8>,
+    pub(crate) expected: Vec<u8>,
+}
+
 /// A failed simulation: what went wrong, and with which client if it is known.
-#[derive(Clone, Copy, Debug)]
+#[derive(Debug, Drop)]
 pub(crate) struct Failure {
     pub(crate) flaw: Flaw,
     pub(crate) client: Option<Summary>,
+    pub(crate) texts: Option<Texts>,
 }
 
 impl Failure {
     /// Creates a failure that concerns no client.
     pub(crate) fn of(flaw: Flaw) -> Failure {
-        Failure { flaw, client: None }
+        Failure {
+            flaw,
+            client: None,
+            texts: None,
+        }
     }
 }
 
@@ -157,8 +181,8 @@ pub(crate) struct Facts {
     pub(crate) waits: u64,
 }
 
-// Returns an error unless the condition holds.
-fn check(holds: bool, flaw: Flaw) -> Result<(), Flaw> {
+/// Returns an error unless the condition holds.
+pub(crate) fn check(holds: bool, flaw: Flaw) -> Result<(), Flaw> {
     if holds { Ok(()) } else { Err(flaw) }
 }
 
@@ -208,8 +232,8 @@ fn faults_in(journal: &Journal<'_>) -> usize {
     count
 }
 
-// Returns true if the two lists have the same entities, at the same serials.
-fn are_same(one: &[Entity], other: &[Entity]) -> bool {
+/// Returns true if the two lists have the same entities, at the same serials.
+pub(crate) fn are_same(one: &[Entity], other: &[Entity]) -> bool {
     one.len() == other.len()
         && one.iter().zip(other).all(|(e, f)| e.id == f.id
             && e.serial == f.serial
@@ -388,13 +412,14 @@ fn is_in_history(peer: &Peer, name: usize, events: &[Noted]) -> bool {
     progress.accepted == accepted && progress.read == peer.read && progress.sent == peer.taken.len()
 }
 
-// Checks one client.
+// Checks one client. `is_cut` is true if the service ended before its time.
 fn check_peer(
     plan: &Plan,
     shared: &Shared,
     sockets: &SimSockets<'_>,
     journal: &Journal<'_>,
-    reference: &Reference<'_>,
+    connections: &[Connection],
+    is_cut: bool,
     name: usize,
     peer: &Peer,
 ) -> Result<(), Flaw> {
@@ -404,13 +429,16 @@ fn check_peer(
     )?;
     let is_stopped = plan.course.operator != Operator::Absent;
     let Some(connection) = peer.connection else {
-        return check(is_stopped, Flaw::Unanswered);
+        return check(is_stopped || is_cut, Flaw::Unanswered);
     };
-    let Some(made) = reference.connections.get(name) else {
+    let Some(made) = connections.get(name) else {
         return Err(Flaw::Extra);
     };
     let faulty = has_clock_fault(journal, connection);
     let expected = made.output();
+    if is_cut {
+        return check(begins_with(expected, peer.taken.as_slice()), Flaw::Bytes);
+    }
     let answers = shared.answers_of(connection);
     check_bytes(peer, expected, answers, is_stopped, faulty)?;
     let closed = shared.closed_at(name);
@@ -423,23 +451,43 @@ fn check_peer(
     check_times(peer, closed, expected.len(), answers, faulty)
 }
 
-// Checks all clients.
-fn check_peers(
+// Returns copies of what a client took and should have.
+fn texts_of(alloc: Global, taken: &[u8], expected: &[u8]) -> Option<Texts> {
+    Some(Texts {
+        taken: Vec::from_slice(alloc, taken).ok()?,
+        expected: Vec::from_slice(alloc, expected).ok()?,
+    })
+}
+
+/// Checks all clients. `is_cut` is true if the service ended before its time.
+pub(crate) fn check_peers(
     plan: &Plan,
     shared: &Shared,
     sockets: &SimSockets<'_>,
     journal: &Journal<'_>,
-    reference: &Reference<'_>,
+    connections: &[Connection],
+    is_cut: bool,
 ) -> Result<(), Failure> {
     for (name, peer) in sockets.peers.iter().enumerate() {
-        if let Err(flaw) = check_peer(plan, shared, sockets, journal, reference, name, peer) {
-            let expected = match reference.connections.get(name) {
-                Some(connection) => connection.output().len(),
-                None => 0,
+        let checked = check_peer(
+            plan,
+            shared,
+            sockets,
+            journal,
+            connections,
+            is_cut,
+            name,
+            peer,
+        );
+        if let Err(flaw) = checked {
+            let expected: &[u8] = match connections.get(name) {
+                Some(connection) => connection.output(),
+                None => &[],
             };
             return Err(Failure {
                 flaw,
-                client: Some(summarize(peer, shared, name, expected)),
+                client: Some(summarize(peer, shared, name, expected.len())),
+                texts: texts_of(sockets.alloc, peer.taken.as_slice(), expected),
             });
         }
     }
@@ -449,7 +497,7 @@ fn check_peers(
 // Returns for how many others the request at that place of the log waited.
 fn waited(peer: &Peer, nth: usize, place: u64, last: u64) -> u64 {
     match peer.ready.get(nth) {
-        Some(ready) => place.saturating_sub((*ready).max(last)),
+        Some(ready) => place.saturating_sub(ready.total.max(last)),
         None => 0,
     }
 }
@@ -546,7 +594,8 @@ pub(crate) fn judge<S: Space + CountsFailures + Drop>(
     if let Err(flaw) = check_begin(&mut reference, sockets, journal, has_ended) {
         return Err(Failure::of(flaw));
     }
-    check_peers(plan, shared, sockets, journal, &reference)?;
+    let connections = reference.connections.as_slice();
+    check_peers(plan, shared, sockets, journal, connections, false)?;
     match check_rest(service, &mut reference, sockets, journal) {
         Ok(facts) => Ok(facts),
         Err(flaw) => Err(Failure::of(flaw)),
