@@ -40,7 +40,7 @@ enum Making {
     Chains(FileName, String),
     // To give it its name.
     Names(FileName),
-    // Nothing. The file has so many bytes.
+    // Nothing. The file has this size in bytes.
     Nothing(u64),
 }
 

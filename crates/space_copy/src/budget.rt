@@ -5,8 +5,9 @@ const LOOKS: usize = 4_096;
 
 const ROWS: usize = 64;
 
-// After so many rounds in which the airspace changed, a step compares all items, and after so many
-// it also writes all that differ. So the copy ends, however fast the airspace changes.
+// The number of rounds with a change of the airspace after which a step compares all items, and
+// that after which it also writes all that differ. So the copy ends, however fast the airspace
+// changes.
 const ROUNDS_OF_LOOKS: u32 = 3;
 
 const ROUNDS_OF_ROWS: u32 = 8;
@@ -19,7 +20,7 @@ pub(crate) struct Budget {
 }
 
 impl Budget {
-    /// Returns the budget of a step after so many rounds in which the airspace changed.
+    /// Returns the budget of a step after `rounds` rounds with a change of the airspace.
     pub(crate) fn after(rounds: u32) -> Budget {
         Budget {
             looks: if rounds < ROUNDS_OF_LOOKS {
