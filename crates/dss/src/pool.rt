@@ -155,9 +155,9 @@ fn files_of<'a>(
 }
 
 // Answers clients with an instance, until it ends.
-fn serve_from<E: Write>(
-    rt: &HostRuntime,
-    given: &PoolArgs<'_>,
+fn serve_from<'a, E: Write>(
+    rt: &'a HostRuntime,
+    given: &'a PoolArgs<'_>,
     text: String,
     tokens: &TokenTable,
     begun: Beginning<'_>,
