@@ -44,7 +44,7 @@ OTHERS = set(
     set_fixed_level set_max_cells GetCovering getCovering Covering region
     ToToken toToken s2-geometry-library-java github.com/golang/geo/s2 outline_polygon outline_circle
     off_nominal_volumes operational_intent_id constraint_id /uss/v1/operational_intents /uss/v1/constraints /uss/v1/reports
-    new_subscription 61 Start IsClosed open_from open_files Wary strace defrag ModRevision /health /metrics /airspace /backup /purge/resume /stop 8078""".split()
+    new_subscription 61 Start IsClosed open_from open_files Wary strace defrag ModRevision /health /metrics /airspace /backup /file /purge/resume /stop 8078""".split()
 )
 
 
