@@ -216,7 +216,7 @@ def of_web_pages():
             ("a script", [*form, "X-Dss-Admin: 1", "Origin: https://dss.example"], WEB_PAGE),
             ("a script at a name of its own", ["Host: dss.example", "X-Dss-Admin: 1"], OTHER_HOST),
         ):
-            for path in "/stop", "/backup?name=a", "/health":
+            for path in "/stop", "/backup?name=a", "/file", "/health":
                 table.append((f"{name}, {path}", asks("POST", path, fields, confirmed=False), said(403, wanted)))
         found = []
         for name, sent, wanted in table:
