@@ -399,10 +399,7 @@ impl<'a> PoolReference<'a> {
         let Some(name) = self.reference.name_of(answered.connection) else {
             return Err(Flaw::Extra);
         };
-        let Some(connection) = self.reference.connections.get_mut(name) else {
-            return Err(Flaw::Extra);
-        };
-        let Some(tokens) = self.reference.tables.get(table) else {
+        let Some((connection, tokens)) = self.reference.connection_and_table(name, table) else {
             return Err(Flaw::Extra);
         };
         if is_limited {

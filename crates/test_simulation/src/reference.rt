@@ -89,6 +89,17 @@ impl<'a> Reference<'a> {
         })
     }
 
+    /// Returns the connection of that name, and a token table.
+    pub(crate) fn connection_and_table(
+        &mut self,
+        name: usize,
+        table: usize,
+    ) -> Option<(&mut Connection, &TokenTable)> {
+        let connection = self.connections.get_mut(name)?;
+        let tokens = self.tables.get(table)?;
+        Some((connection, tokens))
+    }
+
     // Takes in an event of the sockets.
     fn take(&mut self, event: &Noted) -> Option<()> {
         match event {
