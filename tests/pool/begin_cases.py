@@ -14,7 +14,7 @@ import tables
 import wire
 from cases import SETTINGS, TOKENS, Judge, get, intent_body, put, with_pool
 from doors import LIMIT, Exchange, Pool, Single, answer, begin, create, until
-from file_cases import BUSY, COMPACTED, NAME, NO_FILE, UNUSABLE, Killer, folder_of, followed, limited, names, same_pages
+from file_cases import BUSY, COMPACTED, NAME, NO_CHAIN, NO_FILE, OTHER, UNUSABLE, Killer, folder_of, followed, limited, names, same_pages
 from ports import free_port
 from program import TOP
 from real_etcd import PATIENT, Cluster
@@ -109,6 +109,13 @@ def with_database(pool):
     folders = three(pool, files / first)
     for door in pool.doors:
         assert [answer(door, it) for it in (get(1), ("GET", WATCHED, "Bearer tok-b", None))] == wanted, door.name
+    # a first file with another byte
+    changed = folder_of(pool, "changed")
+    content = bytearray((files / first).read_bytes())
+    content[-1] ^= 1
+    (changed / first).write_bytes(content)
+    status, lines = pool.fails("i9", TOKENS, options=("--files", changed))
+    assert (status, lines[-2:]) == (1, [NO_CHAIN, f"dss: cause: {changed / first}: {OTHER}"]), (status, lines)
     # a change notifies the subscription, with its next index
     until(lambda: ask(pool.doors[0], *put(2)), "the change is not made")
     judge.calls(300)

@@ -525,10 +525,22 @@ def refused_by_instance(pool):
         pool.ready([door])
     write_file(port, folder)
     judge.mark_all()
+    judge.calls(50)
+    with concurrent.futures.ThreadPoolExecutor(1) as threads:
+        asked = threads.submit(admin, port, "/file", "POST")
+        time.sleep(0.01)
+        assert admin(port, "/stop", "POST")[0] == 200
+        with contextlib.suppress(OSError, http.client.HTTPException):
+            asked.result()
+    assert door.end()[0] == 0, door.lines
+    assert not (folder / "next.db").exists() and not (folder / "next.chain").exists()
+    door.start()
+    pool.ready([door])
+    judge.mark_all()
 
 
 def of_another_file(pool):
-    """A file whose name or content is not what its chain says is refused, and so is a changed first file."""
+    """A file whose name or content is not what its chain says is refused. A chain of an earlier release says nothing of them."""
     judge, folder, other = Judge(pool, 67), folder_of(pool), folder_of(pool, "other")
     judge.calls(30)
     first = followed(pool, folder)
