@@ -26,7 +26,7 @@ use Rattle.service_step.specs.Admitted.{IsAdmitted}
 use Rattle.service_step.specs.Looks.{LooksUp, Prepares, changed_by}
 use Rattle.service_calls.specs.Decision.{Allows, BreaksNoStanding, Decides}
 use Rattle.service_step.specs.Reply.{is_stopped}
-use Rattle.service_calls.specs.Service.{Answers, AnswersTo, MayFail, reply_of}
+use Rattle.service_calls.specs.Service.{AllowsTo, Answers, AnswersTo, MayFail, reply_of}
 use Rattle.space_core.specs.Calls.{ForEachHeld}
 
 pub step_denied : (salt : List ℕ) (a : Airspace) (t : ℕ) (c : Call) (p : Rule) (m : Missing) → first_broken a t c ≡ Some p → m ≡ missing_views a c p → step salt a t c ≡ (a, Denied p m)
@@ -71,6 +71,16 @@ module _ {S : Type 0} (g : Ghosts S) (q : Admitted) where
   denied_answers old new p m looks = record {
     step = λ s a h. let f = looks.found s a h.held in (step_denied salt a t c p m f.0 f.1, same_content g old new a (looks.stays s) (looks.no_other s) h);
     fails = λ s a h. tt;
+    fixed = looks.fixed;
+    sound = looks.sound;
+    whole = looks.whole;
+    breaks = looks.told.1;
+  }
+
+  pub allowed_looks : (old new : S) (facts : OwnedFacts) → LooksUp g old new (Ok (Allowed facts)) (Decides q) → AllowsTo g q old new
+  allowed_looks old new facts looks = record {
+    breaks_none = λ s a h. (looks.found s a h).0;
+    same = λ s a h. same_content g old new a (looks.stays s) (looks.no_other s) h;
     fixed = looks.fixed;
     sound = looks.sound;
     whole = looks.whole;

@@ -1,5 +1,5 @@
 -- Lemmas: the space after a purge chunk.
-use Rattle.std.specs.Prelude.{◌≡◌, ℕ, Bool, List, Result, Ok, Err, refl}
+use Rattle.std.specs.Prelude.{ℕ, Bool, List, Ok, Err, refl}
 use Rattle.std.proofs.Common.{inl, inr, subst, sym}
 use Rattle.entity_core.specs.Airspace.{Airspace}
 use Rattle.entity_purge.specs.declared.purge_item.PurgeItem.{PurgeItem}

@@ -1,5 +1,5 @@
 -- Lemmas: the durable airspace after segments and batches from the empty airspace.
-use Rattle.std.specs.Prelude.{◌≡◌, ℕ, ◌≤◌, Bool, true, false, cond, T, List, [], ◌∷◌, Option, Some, None, refl}
+use Rattle.std.specs.Prelude.{◌≡◌, ℕ, ◌≤◌, true, false, cond, T, List, [], ◌∷◌, Option, Some, refl}
 use Rattle.std.proofs.Common.{sym, ap, ◌∙◌, subst}
 use Rattle.std.proofs.lemmas.Cmp.{tied_itself}
 use Rattle.std.specs.declared.cmp.Ordering.{Ordering}
@@ -7,10 +7,9 @@ use Rattle.std.specs.declared.cmp.Ordering.TheVariants.{Less, Equal}
 use Rattle.std.specs.Ordering.{eq_by_cmp, is_eq, is_lt}
 use Rattle.std.specs.Cmp.{Equal-is, IsTotalOrder}
 use Rattle.std.specs.List.{AllByRecursion}
-use Rattle.std.specs.FinMap.{entries, entries_sorted, find, get, get-entries}
+use Rattle.std.specs.FinMap.{entries, entries_sorted, find, get-entries}
 use Rattle.std.specs.FinMap.Entries.{below_all, is_sorted}
 use Rattle.entity_core.specs.Airspace.{Airspace, EntityKey, empty_at, key_cmp}
-use Rattle.entity_core.specs.declared.entity.Entity.{Entity}
 use Rattle.entity_core.proofs.Entries.{first, less, second}
 use Rattle.entity_core.proofs.Keys.{key_total}
 use Rattle.entity_purge.specs.Purge.{IsPartlyPurged}

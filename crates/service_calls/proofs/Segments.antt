@@ -1,5 +1,5 @@
 -- Lemmas: the delivered replies and the durable airspace over batches with purges between them.
-use Rattle.std.specs.Prelude.{◌≡◌, ◌||◌, ◌↔◌, ℕ, Bool, true, false, All, List, [], ◌∷◌, ◌++◌, Result, Ok, Err, refl}
+use Rattle.std.specs.Prelude.{◌≡◌, ◌||◌, ℕ, Bool, true, false, All, List, [], ◌∷◌, ◌++◌, Result, Ok, Err, refl}
 use Rattle.std.proofs.Common.{sym, ap, ◌∙◌, subst}
 use Rattle.std.proofs.lemmas.Bool.{false≢true}
 use Rattle.std.proofs.lemmas.List.Elements.{All-append, All-head, All-tail}
@@ -16,7 +16,7 @@ use Rattle.service_step.specs.declared.reply.Reply.TheVariants.{Stopped}
 use Rattle.service_calls.specs.declared.service.Service.{Service}
 use Rattle.service_calls.specs.Held.{is_shut, salt_of, space_of}
 use Rattle.service_calls.specs.Run.{TimedCall, answered_calls, has_stopped, replies_of, delivered_replies}
-use Rattle.service_calls.specs.Batches.{IfStopped, IsCommitted, CallRecord, CalledInOrder, MadeBatches, MayHavePersisted, Batch, RunsInBatches, StayStoppedIn, all_timed, all_delivered, replies_delivered, uncommitted}
+use Rattle.service_calls.specs.Batches.{IfStopped, CallRecord, CalledInOrder, MadeBatches, MayHavePersisted, Batch, RunsInBatches, StayStoppedIn, all_timed, all_delivered, replies_delivered, uncommitted}
 use Rattle.service_calls.specs.Purged.{AllStopped, AreTold, AreDeliveredAndDurable, AreDeliveredPurged, AskedInSegments, IsPurge, LeavesPartly, MadeSegments, MayHavePersistedPurged, RunsPurged, Segment, airspace_after_batches, all_delivered_in}
 use Rattle.service_calls.proofs.InBatches.{Follows, Lawful, calls, calm_batches, follows_open, follows_batches, follows_these, held_quiet, sound_batches}
 use Rattle.service_calls.proofs.Joined.{stops_then}

@@ -1,9 +1,9 @@
 -- Possible replies of a service to a list of calls.
-use Rattle.std.specs.Prelude.{◌≡◌, ℕ, Bool, true, false, List, [], ◌∷◌, ◌⊎◌, ◌||◌, All, IfSome, IsNone, find, length}
+use Rattle.std.specs.Prelude.{◌≡◌, ℕ, Bool, true, false, List, [], ◌∷◌, ◌⊎◌, ◌||◌, All, IfSome, IsNone, None, find, length}
 use Rattle.entity_core.specs.Airspace.{Airspace}
 use Rattle.policy_core.specs.declared.call.Call.{Call}
 use Rattle.policy_core.specs.Missing.{nothing_missing}
-use Rattle.policy_core.specs.Policy.{breaks, early_rules}
+use Rattle.policy_core.specs.Policy.{breaks, early_rules, first_broken}
 use Rattle.service_calls.specs.declared.service.Service.{Service}
 use Rattle.service_calls.specs.Held.{space_of, salt_of, is_shut, Stays}
 use Rattle.service_step.specs.Reply.{is_stopped}
@@ -34,6 +34,19 @@ pub record IsReplyTo {S : Type 0} (g : Ghosts S) (old new : Service S) (moment :
       → IsNone (find (breaks a now call) early_rules) → reply ≡ Stopped
   pub answers : is_shut old ≡ false
       → Answers g (salt_of old) moment call (space_of old) (space_of new) reply
+
+-- Holds if the service evaluated a call without making it, and it breaks no rule. The airspace stays
+-- as it is.
+pub record IsAllowed {S : Type 0} (g : Ghosts S) (old new : Service S) (moment : ℕ) (call : Call)
+    : Type 0 where
+  pub stays : Stays g old new
+  pub goes : is_shut old ≡ false
+  pub goes_on : is_shut new ≡ false
+  pub breaks_none : g.is_sound (space_of new) → (a : Airspace) → g.holds (space_of old) a
+      → first_broken a moment call ≡ None
+  pub same : g.is_sound (space_of new) → (a : Airspace) → IsContent g.holds (space_of old) a
+      → IsContent g.holds (space_of new) a
+  pub breaks : g.is_broken (space_of new) ≡ g.is_broken (space_of old)
 
 -- Holds if the service received these calls in order, each once, and these are the replies.
 abbrev pub AskedInOrder : {S : Type 0} → Ghosts S → Service S → List TimedCall → List Reply → Service S

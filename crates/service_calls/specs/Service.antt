@@ -11,6 +11,7 @@ use Rattle.policy_core.specs.Policy.{breaks, early_rules, standing_rules}
 use Rattle.space_core.specs.declared.space.SpaceFault.TheVariants.{Unchanged, Broken}
 use Rattle.service_step.specs.declared.call_fault.CallFault.{CallFault}
 use Rattle.service_step.specs.declared.call_fault.CallFault.TheVariants.{NoMemory, Space}
+use Rattle.service_step.specs.Admitted.{BreaksNone}
 use Rattle.service_step.specs.Reply.{is_stopped}
 use Rattle.service_step.specs.Step.{step}
 
@@ -60,3 +61,20 @@ pub record Answers {S : Type 0} (g : Ghosts S) (salt : List ℕ) (now : ℕ) (c 
 abbrev pub AnswersTo : {S : Type 0} → Ghosts S → Admitted → S → S → Reply → Type 0
 AnswersTo g admitted old new reply =
     Answers g admitted.salt.now admitted.moment admitted.call.now old new reply
+
+-- Holds if the reply is not `Done`.
+abbrev pub IsNotDone : Reply → Type 0
+IsNotDone (Done answer) = ⊥
+IsNotDone (Denied r m) = Unit {0}
+IsNotDone Fault = Unit {0}
+IsNotDone Stopped = Unit {0}
+
+-- Holds if the call breaks no rule in an airspace that the space held, and the space has the same
+-- content as before.
+pub record AllowsTo {S : Type 0} (g : Ghosts S) (admitted : Admitted) (old new : S) : Type 0 where
+  pub breaks_none : g.is_sound new → (a : Airspace) → g.holds old a → BreaksNone admitted a
+  pub same : g.is_sound new → (a : Airspace) → IsContent g.holds old a → IsContent g.holds new a
+  pub fixed : g.fixed new ≡ g.fixed old
+  pub sound : g.is_sound new → g.is_sound old
+  pub whole : g.is_sound new → g.is_whole old → g.is_whole new
+  pub breaks : g.is_broken new ≡ g.is_broken old

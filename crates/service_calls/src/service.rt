@@ -1,5 +1,5 @@
 //! The service over a space.
-ghost use Rattle.std.specs.Prelude.{◌≡◌, ◌<◌, ℕ, Some, IfOk, OnErr, true, false};
+ghost use Rattle.std.specs.Prelude.{◌≡◌, ◌<◌, ℕ, Some, IfOk, IfSome, MatchOption, OnErr, true, false};
 ghost use Rattle.std.specs.Borrow.{Lends, sem};
 ghost use Rattle.entity_core.specs.Airspace.{Airspace};
 ghost use Rattle.entity_purge.specs.PurgeItem.{IsPurgedAlready};
@@ -9,8 +9,8 @@ ghost use Rattle.service_calls.specs.contracts.service.Service.{the_row};
 ghost use Rattle.service_step.specs.Admitted.{IsAdmitted};
 ghost use Rattle.service_step.specs.Looks.{IsReady};
 ghost use Rattle.service_calls.specs.Decision.{Allows, Decides};
-ghost use Rattle.service_calls.specs.Service.{AnswersTo, reply_of};
-ghost use Rattle.service_calls.specs.Run.{Answered, IsReplyTo};
+ghost use Rattle.service_calls.specs.Service.{AllowsTo, AnswersTo, IsNotDone, reply_of};
+ghost use Rattle.service_calls.specs.Run.{Answered, IsAllowed, IsReplyTo};
 ghost use Rattle.service_calls.specs.FromEmpty.{RunIsAware, RunIsCounted, RunIsNumbered};
 ghost use Rattle.service_calls.specs.Stale.{RefusesStale};
 ghost use Rattle.service_calls.specs.Held.{space_of, salt_of, is_shut, with_space};
@@ -54,6 +54,22 @@ fn answer_admitted<S: Space>(space: &mut S, alloc: Global, admitted: &Admitted<'
         Ok(Decision::Refused(broken, missing)) => Reply::Denied(broken, missing),
         Ok(Decision::Allowed(facts)) => answer_allowed(space, alloc, admitted, &facts),
         Err(halt) => reply_to_fault(halt),
+    }
+}
+
+// Returns the reply to a call that breaks no stateless rule, or `None` if it breaks no rule. Does not
+// make the call.
+fn deny_admitted<S: Space>(space: &mut S, alloc: Global, admitted: &Admitted<'_>) -> Option<Reply>
+    requires { IsAdmitted admitted.now }
+    ensures answers { MatchOption result (AllowsTo S.Space admitted.now space.old space.new)
+        (λ reply. AnswersTo S.Space admitted.now space.old space.new reply) }
+    ensures unmade { IfSome result IsNotDone }
+    ensures broken { S.is_broken space.old ≡ true → result ≡ Some Reply.Stopped }
+{
+    match decide(space, alloc, admitted) {
+        Ok(Decision::Refused(broken, missing)) => Some(Reply::Denied(broken, missing)),
+        Ok(Decision::Allowed(_)) => None,
+        Err(halt) => Some(reply_to_fault(halt)),
     }
 }
 
@@ -208,6 +224,33 @@ impl<S: Space + Drop> Service<S> {
         let reply = answer_admitted(&mut self.space, alloc, &admitted);
         self.stopped = reply.is_stopped();
         reply
+    }
+
+    /// Replies to a call as `call` does, unless it breaks no rule. Returns `None` then, and does not
+    /// make the call.
+    pub fn deny(&mut self, alloc: Global, now: u64, call: &Call) -> Option<Reply>
+        ensures reply { MatchOption result (IsAllowed S.Space self.old self.new now call.now)
+            (λ reply. IsReplyTo S.Space self.old self.new now call.now reply) }
+        ensures unmade { IfSome result IsNotDone }
+    {
+        if self.stopped {
+            return Some(Reply::Stopped);
+        }
+        if let Some(broken) = early(call) {
+            return Some(Reply::Denied(broken, Missing::empty(alloc)));
+        }
+        let Some(caller) = &call.caller else {
+            unreachable!();
+        };
+        let admitted = Admitted {
+            salt: &self.salt,
+            moment: now,
+            call,
+            caller,
+        };
+        let reply = deny_admitted(&mut self.space, alloc, &admitted)?;
+        self.stopped = reply.is_stopped();
+        Some(reply)
     }
 
     /// Replies to calls in order, each at its time.
