@@ -23,7 +23,8 @@ use Rattle.server_backend.specs.declared.outcome.Outcome.TheVariants as outcomes
 use Rattle.pool_backend.specs.Own.{DoesOwn, GivesAmong, MayGive, failure_of, outcome_of, reason_of}
 use Rattle.pool_backend.specs.Pool.{AnswersAs, AreGivenIn, DoesBy, DoesFor, ForgetsAs, IsFailure, IsGivenIn, IsSame, MayDo, failure_for, instance_of, outcomes_of, retention_of}
 use Rattle.pool_backend.specs.declared.pool.PoolInstance.{PoolInstance}
-use Rattle.pool_backend.proofs.Did.{did_none, did_then}
+use Rattle.pool_instance.proofs.Looked.{did_then}
+use Rattle.pool_backend.proofs.Did.{did_none}
 use Rattle.pool_backend.proofs.Own.{own_failed, own_nothing}
 
 -- ---- outcomes
@@ -231,7 +232,14 @@ module _ {L I S : Type 0} (gl : logs.Ghosts L) (gs : spaces.Ghosts S) where
   answers_some moment ticket (Failed id) x z h left =
       inr (refl, record { did = subst (λ (v : ℕ). Did gl gs (instance_of x) (Drops v ∷ []) (instance_of z)) h.0 h.1.0; left = left })
 
-  -- The instance ended, and the reading failed.
+  -- The request waits on.
+  pub released : (moment ticket : ℕ) (x z : PoolInstance L I S) → AnsweredAs gl gs moment ticket (instance_of x) (instance_of z) (Ok None) → outcomes_of z ≡ outcomes_of x → DoesFor gl gs [] x z
+  released moment ticket x z h left = elim h [
+    | inl same ↦ record { did = subst (λ (i : Instance L S). Did gl gs (instance_of x) [] i) (sym same.0) (did_none gl gs (instance_of x)); left = left }
+    | inr free ↦ record { did = free.did; left = left }
+  ]
+
+  -- The instance ended, and the request failed.
   pub answers_none : (ticket : ℕ) (reason : Unavailable) (x y z : PoolInstance L I S) → Did gl gs (instance_of x) [] (instance_of y) → outcomes_of y ≡ outcomes_of x → DoesFor gl gs (failure_for reason ticket ∷ []) y z
       → DoesFor gl gs (failure_for reason ticket ∷ []) x z
   answers_none ticket reason x y z did left h = record {

@@ -15,7 +15,8 @@ use Rattle.pool_instance.specs.declared.instance.Instance.{Instance}
 use Rattle.pool_instance.specs.declared.waiting.Held.{Held}
 use Rattle.pool_backend.specs.Own.{DoesOwn}
 use Rattle.pool_backend.specs.Pool.{IsActAt, MayDo}
-use Rattle.pool_backend.proofs.Did.{did_none, did_then}
+use Rattle.pool_instance.proofs.Looked.{did_then}
+use Rattle.pool_backend.proofs.Did.{did_none}
 
 -- The calls of some requests, at a time.
 all_at : (retention : Option ℕ) (held : Bool) (moment : ℕ) (hs : List Held) → All (IsActAt retention held moment) (map (λ (h : Held). Makes (moment, call_of h.request)) hs)

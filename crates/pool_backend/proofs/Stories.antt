@@ -21,7 +21,8 @@ use Rattle.server_backend.specs.declared.outcome.Received.TheVariants as came
 use Rattle.pool_backend.specs.Pool.{AnswersAs, AreGivenIn, DoesBy, IsFailure, IsGivenIn, IsSame, MayDo, StepsAs, failure_for, instance_of, outcomes_of, retention_of, tickets_of}
 use Rattle.pool_backend.specs.Served.{AreKnown, AreOf, AreParts, EventsAreThePools, IsKnown, OutcomesAreGiven, ServesOn, Story, events_in}
 use Rattle.pool_backend.specs.declared.pool.PoolInstance.{PoolInstance}
-use Rattle.pool_backend.proofs.Did.{did_none, did_then}
+use Rattle.pool_instance.proofs.Looked.{did_then}
+use Rattle.pool_backend.proofs.Did.{did_none}
 use Rattle.pool_backend.proofs.Does.{are_given_left, are_given_right, for_same, given_append}
 
 parts_with : (r s : Option ℕ) (events : List BackendEvent) (parts : List (List InstanceEvent)) → r ≡ s → AreParts r events parts → AreParts s events parts
@@ -135,7 +136,7 @@ module _ {L I S : Type 0} (gl : logs.Ghosts L) (gs : spaces.Ghosts S) where
         left = λ before was. are_given_left before [] (outcomes_of x') (All-tail (each before) (ticket, outcome) (outcomes_of x') (split before was));
       }
   part_of x GivesNone x' h = record { these = []; are_of = refl; did = (for_same gl gs x x' h.1).did; known = λ before was. tt; left = λ before was. same_left x x' [] before h.1.outcomes was }
-  part_of x (Announces ticket) x' h = record { these = []; are_of = refl; did = (for_same gl gs x x' h.0).did; known = λ before was. tt; left = λ before was. same_left x x' [] before h.0.outcomes was }
+  part_of x (Announces ticket) x' h = record { these = []; are_of = refl; did = h.0.did; known = λ before was. tt; left = λ before was. same_left x x' [] before h.0.left was }
   part_of x (AnswersLate moment ticket outcome) x' h = of_answer moment ticket outcome x x' h
   part_of x (Forgets ticket) x' h = record {
     these = h.events;

@@ -114,7 +114,7 @@ module _ {L I S : Type 0} (gl : logs.Ghosts L) (gs : spaces.Ghosts S) where
       (may_no_receipt (retention_of old) moment held) old new h
   steps_have_numbers old (Gives ticket outcome) new h = same_of old new h.0
   steps_have_numbers old GivesNone new h = same_of old new h.1.instance
-  steps_have_numbers old (Announces ticket) new h = same_of old new h.0.instance
+  steps_have_numbers old (Announces ticket) new h = same_by old new [] refl h.0
   steps_have_numbers old (AnswersLate moment ticket outcome) new h =
       same_answered moment ticket outcome old new h
   steps_have_numbers old (Forgets ticket) new h =

@@ -140,8 +140,9 @@ module _ {L I S : Type 0} (gl : logs.Ghosts L) (gs : spaces.Ghosts S) where
       × DoesFor (Receives ticket call ∷ []) x x'
   ReceivesAs moment call (came.Refused reason) x x' = DoesFor [] x x'
 
-  -- Holds if a reading was answered so: at this time after some entries, or by `Fault` after a fault
-  -- of the service, or not, since the instance ended. It was never offered.
+  -- Holds if a request that waited for the end of the log was answered so: at this time after some
+  -- entries, or by `Fault` after a fault of the service, or not, since the instance ended. It was never
+  -- offered.
   abbrev pub AnswersAs : (moment ticket : ℕ) → Outcome → PoolInstance L I S → PoolInstance L I S
       → Type 0
   AnswersAs moment ticket outcomes.Stands x x' = ⊥
@@ -166,7 +167,7 @@ module _ {L I S : Type 0} (gl : logs.Ghosts L) (gs : spaces.Ghosts S) where
   StepsAs x (Gives ticket outcome) x' = (instance_of x' ≡ instance_of x)
       × (outcomes_of x ≡ (ticket, outcome) ∷ outcomes_of x')
   StepsAs x GivesNone x' = (outcomes_of x ≡ []) × IsSame x x'
-  StepsAs x (Announces ticket) x' = IsSame x x' × IfSome ticket (IsDue x)
+  StepsAs x (Announces ticket) x' = DoesFor [] x x' × IfSome ticket (IsDue x)
   StepsAs x (AnswersLate moment ticket outcome) x' = AnswersAs moment ticket outcome x x'
   StepsAs x (Forgets ticket) x' = ForgetsAs ticket x x'
   StepsAs x Stops x' = DoesBy IsFailure x x'

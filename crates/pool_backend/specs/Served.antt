@@ -33,8 +33,8 @@ AreOfReceipt moment call (came.Drafted ticket reply) events = ⊥
 AreOfReceipt moment call (came.Waits ticket) events = events ≡ Receives ticket call ∷ []
 AreOfReceipt moment call (came.Refused reason) events = events ≡ []
 
--- Holds if these are the events of the instance for a reading that was answered: its call was made
--- at its time. A reading without a reply was never offered.
+-- Holds if these are the events of the instance for a request that was answered after the end of the
+-- log: its call was made at its time. One without a reply was never offered.
 abbrev pub AreOfAnswer : (moment ticket : ℕ) → Outcome → List InstanceEvent → Type 0
 AreOfAnswer moment ticket outcomes.Stands events = ⊥
 AreOfAnswer moment ticket (outcomes.Replied reply) events =

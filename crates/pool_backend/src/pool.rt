@@ -170,7 +170,8 @@ fn reason_of(is_assigned: bool, unanswered: Unanswered) -> Unavailable
     }
 }
 
-// Returns the outcome of a reading. After a fault of the service its reply is `Fault`.
+// Returns the outcome of a request that waited for the end of the log. After a fault of the service
+// its reply is `Fault`.
 fn outcome_of(outcome: ReadingOutcome) -> Outcome
     ensures { result ≡ outcome_of outcome }
 {
@@ -189,7 +190,7 @@ pub struct PoolInstance<L: Log, I, S: Space> {
     routes: Routes,
     timeouts: Timeouts,
     waiting: WaitingList,
-    // The index from which readings are looked through for those that can be answered.
+    // The index from which requests are looked through for those that can be answered.
     looked: usize,
     // True if a request may wait whose USS was not looked up in the supplier list yet.
     is_unchecked: bool,
@@ -275,14 +276,20 @@ impl<L: Log + Drop, I: LogIo<L> + Drop, S: PurgeEnded + SnapshotSource + Drop> P
     }
 
     // Gives a request to the instance, where it waits.
-    fn queue(&mut self, request: PoolRequest, uss: Option<UssId>, now: Duration) -> Received
+    fn queue(
+        &mut self,
+        alloc: Global,
+        moment: u64,
+        request: PoolRequest,
+        uss: Option<UssId>,
+        now: Duration,
+    ) -> Received
         requires early { (a : Airspace) (time : ℕ)
             → find (breaks a time (call_of request)) early_rules ≡ None }
         requires room { HasRoom self.old.waiting }
-        ensures { (moment : ℕ)
-            → ReceivesAs L.Log S.Space moment (call_of request) result self.old self.new }
+        ensures { ReceivesAs L.Log S.Space moment (call_of request) result self.old self.new }
     {
-        match self.instance.queue(request) {
+        match self.instance.queue(alloc, moment, request) {
             Ok(ticket) => {
                 self.waiting.push(ticket, uss, now);
                 let is_read = self.instance.log().is_read();
@@ -297,14 +304,14 @@ impl<L: Log + Drop, I: LogIo<L> + Drop, S: PurgeEnded + SnapshotSource + Drop> P
     fn admit(
         &mut self,
         alloc: Global,
+        moment: u64,
         now: Duration,
         request: Request<'_>,
     ) -> Result<Received, AllocError>
         requires made { IsRequestFor request }
         requires early { (a : Airspace) (time : ℕ)
             → find (breaks a time request.call.now) early_rules ≡ None }
-        ensures { (moment : ℕ) → Admits L.Log S.Space moment request.entry.call.now result
-            self.old self.new }
+        ensures { Admits L.Log S.Space moment request.entry.call.now result self.old self.new }
     {
         if !self.is_assigned(request.call) {
             self.note_refused(request.call, now);
@@ -315,7 +322,7 @@ impl<L: Log + Drop, I: LogIo<L> + Drop, S: PurgeEnded + SnapshotSource + Drop> P
         }
         let uss = uss_of(request.call)?;
         match request_of(alloc, &self.routes, request) {
-            Ok(made) => Ok(self.queue(made, uss, now)),
+            Ok(made) => Ok(self.queue(alloc, moment, made, uss, now)),
             Err(RequestFault::NoMemory) => Err(AllocError),
             Err(RequestFault::TooLong) => Ok(Received::Refused(Unavailable::Unreachable)),
         }
@@ -427,9 +434,10 @@ impl<L: Log + Drop, I: LogIo<L> + Drop, S: PurgeEnded + SnapshotSource + Drop> P
         }
     }
 
-    // Answers a reading that can be answered now.
-    fn answer_reading(&mut self, alloc: Global, moment: u64, ticket: u64) -> Option<Outcome>
-        ensures { MatchOption result (self.new ≡ self.old)
+    // Answers a request that waited for the end of the log and can be answered now. Returns `None` if
+    // it cannot, or if it waits for the next batch from now on.
+    fn answer_waiting(&mut self, alloc: Global, moment: u64, ticket: u64) -> Option<Outcome>
+        ensures { MatchOption result (DoesFor L.Log S.Space [] self.old self.new)
             (λ outcome. AnswersAs L.Log S.Space moment ticket outcome self.old self.new) }
     {
         if self.instance.is_ended() {
@@ -558,7 +566,7 @@ impl<L: Log + Drop, I: LogIo<L> + Drop, S: PurgeEnded + SnapshotSource + Drop> B
     ) -> Result<Received, AllocError> {
         match self.instance.deny(alloc, moment, request.call) {
             Ok(Some(reply)) => Ok(Received::Answered(reply)),
-            Ok(None) => self.admit(alloc, now, request),
+            Ok(None) => self.admit(alloc, moment, now, request),
             Err(_) => Ok(Received::Refused(Unavailable::Unreachable)),
         }
     }
@@ -615,7 +623,7 @@ impl<L: Log + Drop, I: LogIo<L> + Drop, S: PurgeEnded + SnapshotSource + Drop> B
         if !self.waiting.has(ticket) {
             return None;
         }
-        let Some(outcome) = self.answer_reading(alloc, moment, ticket) else {
+        let Some(outcome) = self.answer_waiting(alloc, moment, ticket) else {
             return None;
         };
         let _ = self.waiting.remove(ticket);

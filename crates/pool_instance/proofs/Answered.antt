@@ -1,4 +1,4 @@
--- Lemmas: a reading that was answered, or not.
+-- Lemmas: a request that waited for the end of the log and was answered, or not.
 use Rattle.std.proofs.Common.{◌≡◌, ◌==◌, ◌&&◌, ℕ, Bool, true, false, List, [], ◌∷◌, ◌++◌, Option, Some, Ok, get_or, refl, sym, ap, subst, ◌∙◌, arith}
 use Rattle.std.specs.Prelude.{Contains}
 use Rattle.std.specs.List.{flat_map, remove}
@@ -16,6 +16,7 @@ use Rattle.pool_core.specs.declared.log.Log as logs
 use Rattle.pool_core.proofs.Lists.{contains_at, contains_same}
 use Rattle.pool_instance.specs.Does.{HasOutcome, StoppedSo}
 use Rattle.pool_instance.specs.Effects.{with_end}
+use Rattle.pool_instance.specs.Evaluate.{ChangesNothing}
 use Rattle.pool_instance.specs.Parts.{count_taken, heard_in, ids_of, is_due, is_due_as, is_ended, log_of, number_of, readings_in, retention_in, sent_in, unsent_ids, unsent_in}
 use Rattle.pool_instance.specs.Request.{call_of}
 use Rattle.pool_instance.specs.declared.fault.InstanceFault.TheVariants.{Ended}
@@ -74,7 +75,7 @@ module _ {L S : Type 0} (gl : logs.Ghosts L) (gs : spaces.Ghosts S) where
       )
 
   module _ (old new : Instance L S) (now : ℕ) (i : ℕ) (reply : Reply) (f : Found (is_due (count_taken old)) (readings_in old) i) (going : is_ended old ≡ false)
-      (asked : IsReplyTo gs old.service new.service now (call_of f.one.held.request) reply) (log : log_of new ≡ log_of old) (less : readings_in new ≡ remove (readings_in old) i) (same_hs : unsent_in new ≡ unsent_in old)
+      (asked : IsReplyTo gs old.service new.service now (call_of f.one.held.request) reply) (plain : ChangesNothing (call_of f.one.held.request) reply) (log : log_of new ≡ log_of old) (less : readings_in new ≡ remove (readings_in old) i) (same_hs : unsent_in new ≡ unsent_in old)
       (same : new.in_flight ≡ old.in_flight) (taken : count_taken new ≡ count_taken old) (n : new.received ≡ old.received) (ended : is_ended new ≡ is_ended old) (goes : is_stopped reply ≡ false)
       (retained : retention_in new ≡ retention_in old) (heard : heard_in new ≡ heard_in old) where
     removed : readings_in new ≡ f.split.front ++ f.split.back
@@ -82,7 +83,7 @@ module _ {L S : Type 0} (gl : logs.Ghosts L) (gs : spaces.Ghosts S) where
 
     pub answered_fault : reply ≡ Fault → HasOutcome gl gs now old new (Failed f.one.held.id)
     answered_fault is = (
-      did_fail gl gs old new now f.split.front f.one f.split.back reply going f.split.split asked log removed same_hs same taken n ended goes retained heard,
+      did_fail gl gs old new now f.split.front f.one f.split.back reply going f.split.split asked plain log removed same_hs same taken n ended goes retained heard,
       (
         f.one,
         contains_same (readings_in old) (f.split.front ++ f.one ∷ f.split.back) f.one f.split.split (contains_at f.split.front f.one f.split.back),
@@ -94,5 +95,5 @@ module _ {L S : Type 0} (gl : logs.Ghosts L) (gs : spaces.Ghosts S) where
     pub answered_reply : IsDoneOrDenied reply → HasOutcome gl gs now old new (Replied f.one.held.id reply)
     answered_reply final = (
       call_of f.one.held.request,
-      did_answer gl gs old new now f.split.front f.one f.split.back reply going f.split.split asked log removed same_hs same taken n ended goes retained heard f.passes final,
+      did_answer gl gs old new now f.split.front f.one f.split.back reply going f.split.split asked plain log removed same_hs same taken n ended goes retained heard f.passes final,
     )

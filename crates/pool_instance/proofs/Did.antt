@@ -19,7 +19,6 @@ use Rattle.service_calls.specs.declared.service.Service.{Service}
 use Rattle.pool_core.specs.Events.{Answers, AsksForEnd, AtOnce, Drops, Fails, InstanceEvent, LearnsEnd, Receives, batches_offered, log_events}
 use Rattle.pool_core.specs.Log.{AsksEnd, Continues, LogEvent, TellsEnd}
 use Rattle.pool_core.specs.Serves.{AllMayFollow, IsOpen, ids_offered, times}
-use Rattle.pool_core.specs.Unlogged.{reads}
 use Rattle.pool_core.specs.declared.log.Log as logs
 use Rattle.pool_core.proofs.Lists.{contains_at, contains_same}
 use Rattle.pool_core.proofs.Unlogged.{early_anywhere}
@@ -126,12 +125,12 @@ module _ {L S : Type 0} (gl : logs.Ghosts L) (gs : spaces.Ghosts S) where
       omega (arith, more, ids_times k rs (hs ++ x ∷ []) slots, ids_times k rs hs slots)
 
   reading_next : (events : List InstanceEvent) (rs : List Reading) (hs : List Held) (slots : List (Option ℕ)) (n : ℕ) (call : Call) (r : Reading) → AreRequests events rs hs slots n
-      → r.held.id ≡ n → call_of r.held.request ≡ call → r.stage ≡ Fresh → reads call.op ≡ true → AreRequests (events ++ Receives n call ∷ []) (rs ++ r ∷ []) hs slots (suc n)
-  reading_next events rs hs slots n call r all id asks stage reading =
+      → r.held.id ≡ n → call_of r.held.request ≡ call → r.stage ≡ Fresh → AreRequests (events ++ Receives n call ∷ []) (rs ++ r ∷ []) hs slots (suc n)
+  reading_next events rs hs slots n call r all id asks stage =
       requests_next events rs hs slots n all call (rs ++ r ∷ []) hs slots
       (λ x h. elim (Contains-push_cases rs r x h) [
         | inl old ↦ inl old
-        | inr new ↦ inr (subst (λ (v : Reading). IsNext events rs hs slots n all call v.held × (reads call.op ≡ true) × (v.stage ≡ Fresh)) new (record { id = id; asks = asks }, reading, stage))
+        | inr new ↦ inr (subst (λ (v : Reading). IsNext events rs hs slots n all call v.held × (v.stage ≡ Fresh)) new (record { id = id; asks = asks }, stage))
       ])
       (λ x h. inl h)
       (λ k. added_readings rs hs slots r k ∙ ap (λ v. times k (ids_of rs hs slots) + times k (v ∷ [])) id)
@@ -155,8 +154,8 @@ module _ {L S : Type 0} (gl : logs.Ghosts L) (gs : spaces.Ghosts S) where
   receipt_quiet me n call = record { given = refl; offered = refl }
 
   pub did_receive_reading : (old new : Instance L S) (call : Call) (r : Reading) → Kept old new [] → new.in_flight ≡ old.in_flight → readings_in new ≡ readings_in old ++ r ∷ [] → unsent_in new ≡ unsent_in old → new.received ≡ suc old.received
-      → r.held.id ≡ old.received → call_of r.held.request ≡ call → r.stage ≡ Fresh → reads call.op ≡ true → Did gl gs old (Receives old.received call ∷ []) new
-  did_receive_reading old new call r k flight rs hs n id asks stage reading =
+      → r.held.id ≡ old.received → call_of r.held.request ≡ call → r.stage ≡ Fresh → Did gl gs old (Receives old.received call ∷ []) new
+  did_receive_reading old new call r k flight rs hs n id asks stage =
       let more = Receives old.received call ∷ [] in
       did_kept old new more k (receipt_quiet (gl.writer (log_of old)) old.received call) (omega (arith, n))
       (λ events h. subst (λ v. IsInFlight (gl.writer (log_of old)) events v) (sym flight) h)
@@ -164,7 +163,7 @@ module _ {L S : Type 0} (gl : logs.Ghosts L) (gs : spaces.Ghosts S) where
       (λ events all.
       requests_same (events ++ more) (events ++ more) (readings_in old ++ r ∷ []) (readings_in new) (unsent_in old) (unsent_in new) (sent_in old) (sent_in new) (suc old.received) new.received
       refl rs hs (ap (λ v. sent_by v) flight) n
-      (reading_next events (readings_in old) (unsent_in old) (sent_in old) old.received call r all id asks stage reading))
+      (reading_next events (readings_in old) (unsent_in old) (sent_in old) old.received call r all id asks stage))
 
   pub did_receive_change : (old new : Instance L S) (call : Call) (x : Held) → Kept old new [] → new.in_flight ≡ old.in_flight → readings_in new ≡ readings_in old → unsent_in new ≡ unsent_in old ++ x ∷ [] → new.received ≡ suc old.received
       → x.id ≡ old.received → call_of x.request ≡ call → Did gl gs old (Receives old.received call ∷ []) new

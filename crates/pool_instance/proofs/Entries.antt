@@ -1,5 +1,5 @@
 -- Lemmas: a batch or a purge that is offered, an entry that is taken, and a reading that is answered.
-use Rattle.std.proofs.Common.{◌≡◌, ◌==◌, ℕ, ◌+◌, Bool, true, false, List, [], ◌∷◌, ◌++◌, length, map, Option, Some, None, refl, sym, ap, subst, ◌∙◌, arith, append_assoc, length-append}
+use Rattle.std.proofs.Common.{◌≡◌, ◌==◌, ℕ, ◌+◌, Bool, true, false, List, [], ◌∷◌, ◌++◌, length, map, Option, Some, None, refl, sym, ap, subst, ◌∙◌, arith, append_assoc, length-append, inl, inr}
 use Rattle.std.specs.Prelude.{All, count_by}
 use Rattle.std.specs.declared.vec.Vec.{Vec}
 use Rattle.std.proofs.lemmas.Bool.Decides.{nat_tests}
@@ -20,7 +20,6 @@ use Rattle.service_calls.specs.Service.{Leaves}
 use Rattle.pool_core.specs.Events.{AfterFirst, Answers, Drops, Gets, InstanceEvent, Offers, batches_offered, entries_given}
 use Rattle.pool_core.specs.Log.{Continues, GivesEntry, LogEntry, TakesBatch}
 use Rattle.pool_core.specs.Serves.{AllMayFollow, AreOpen, ReachesEnd, airspace_at, acts_in, ended_in, ids_offered, offered_in}
-use Rattle.pool_core.specs.Unlogged.{reads}
 use Rattle.pool_core.specs.declared.log.Log as logs
 use Rattle.pool_core.proofs.Lists.{contains_at, contains_same}
 use Rattle.pool_core.proofs.Projections.{given_append, offered_append, same_number}
@@ -28,6 +27,7 @@ use Rattle.pool_core.proofs.Unlogged.{reading_unchanged}
 use Rattle.pool_entry.specs.Acts.{acts_of}
 use Rattle.pool_instance.specs.Does.{Did, in_place}
 use Rattle.pool_instance.specs.Effects.{MadeEntry, TellsOwn}
+use Rattle.pool_instance.specs.Evaluate.{ChangesNothing}
 use Rattle.pool_instance.specs.Lists.{AreReplies, told_of}
 use Rattle.pool_instance.specs.Parts.{count_taken, heard_in, is_due, is_due_by, is_ended, log_of, readings_in, retention_in, salt_in, sent_by, sent_in, space_in, unsent_in}
 use Rattle.pool_instance.specs.Purging.{IsHeard}
@@ -228,25 +228,27 @@ module _ {L S : Type 0} (gl : logs.Ghosts L) (gs : spaces.Ghosts S) where
       did_end gl gs old new (Gets entry ∷ []) stayed ended rs hs slots n same refl refl (λ start events. (tt, tt))
       (λ events all. none_ends events (Gets entry) (gets_no_receipt entry) refl (readings_in old) (unsent_in old) (sent_in old) old.received all refl)
 
-  -- ---- a reading
+  -- ---- a request that waits for the end of the log
 
   due_reaches : (events : List InstanceEvent) (id : ℕ) (call : Call) (count : ℕ) (s : Stage) → is_due_by count s ≡ true → IsAtStage events id call s → ReachesEnd events id call count
   due_reaches events id call count Fresh due h = absurd cc
   due_reaches events id call count (Asked q) due h = absurd cc
   due_reaches events id call count (Until end) due h = reaches_later events id call end count h (grind (arith, nat_tests, due))
 
-  -- The content of the space after a reading, and its reply.
-  reading_content : (salt : List ℕ) (a : Airspace) (now : ℕ) (call : Call) (reply : Reply) (new : S) → reads call.op ≡ true → Leaves gs salt a now call reply new → (reply ≡ Stopped → ⊥) → IsContent gs.holds new a
-  reading_content salt a now call (Done answer) new reading h goes = subst (λ (v : Airspace). IsContent gs.holds new v) (ap (λ (v : Airspace × Reply). v.0) (reading_unchanged salt a now call reading)) h.1
-  reading_content salt a now call (Denied r m) new reading h goes = h.1
-  reading_content salt a now call Fault new reading h goes = h
-  reading_content salt a now call Stopped new reading h goes = absurd (goes refl)
+  -- The content of the space after a call that changed nothing, and its reply.
+  plain_content : (salt : List ℕ) (a : Airspace) (now : ℕ) (call : Call) (reply : Reply) (new : S) → ChangesNothing call reply → Leaves gs salt a now call reply new → (reply ≡ Stopped → ⊥) → IsContent gs.holds new a
+  plain_content salt a now call (Done answer) new (inr none) h goes = absurd none
+  plain_content salt a now call (Done answer) new (inl reading) h goes = subst (λ (v : Airspace). IsContent gs.holds new v) (ap (λ (v : Airspace × Reply). v.0) (reading_unchanged salt a now call reading)) h.1
+  plain_content salt a now call (Denied r m) new plain h goes = h.1
+  plain_content salt a now call Fault new plain h goes = h
+  plain_content salt a now call Stopped new plain h goes = absurd (goes refl)
 
-  reading_policy : (salt : List ℕ) (a : Airspace) (now : ℕ) (call : Call) (reply : Reply) (new : S) → reads call.op ≡ true → Leaves gs salt a now call reply new → IsDoneOrDenied reply → step salt a now call ≡ (a, reply)
-  reading_policy salt a now call (Done answer) new reading h final = reading_unchanged salt a now call reading ∙ ap (λ (r : Reply). (a, r)) h.0
-  reading_policy salt a now call (Denied r m) new reading h final = h.0
-  reading_policy salt a now call Fault new reading h final = absurd final
-  reading_policy salt a now call Stopped new reading h final = absurd final
+  plain_policy : (salt : List ℕ) (a : Airspace) (now : ℕ) (call : Call) (reply : Reply) (new : S) → ChangesNothing call reply → Leaves gs salt a now call reply new → IsDoneOrDenied reply → step salt a now call ≡ (a, reply)
+  plain_policy salt a now call (Done answer) new (inr none) h final = absurd none
+  plain_policy salt a now call (Done answer) new (inl reading) h final = reading_unchanged salt a now call reading ∙ ap (λ (r : Reply). (a, r)) h.0
+  plain_policy salt a now call (Denied r m) new plain h final = h.0
+  plain_policy salt a now call Fault new plain h final = absurd final
+  plain_policy salt a now call Stopped new plain h final = absurd final
 
   reply_no_receipt : (id count now : ℕ) (call : Call) (reply : Reply) → IsNoReceipt (Answers id (AfterFirst count (now, call)) reply)
   reply_no_receipt id count now call reply k c h = cc
@@ -255,7 +257,7 @@ module _ {L S : Type 0} (gl : logs.Ghosts L) (gs : spaces.Ghosts S) where
   fail_no_receipt id k c h = cc
 
   module _ (old new : Instance L S) (now : ℕ) (front : List Reading) (r : Reading) (back : List Reading) (reply : Reply) (going : is_ended old ≡ false) (was : readings_in old ≡ front ++ r ∷ back)
-      (asked : IsReplyTo gs old.service new.service now (call_of r.held.request) reply) (log : log_of new ≡ log_of old) (less : readings_in new ≡ front ++ back) (same_hs : unsent_in new ≡ unsent_in old) (same : new.in_flight ≡ old.in_flight)
+      (asked : IsReplyTo gs old.service new.service now (call_of r.held.request) reply) (plain : ChangesNothing (call_of r.held.request) reply) (log : log_of new ≡ log_of old) (less : readings_in new ≡ front ++ back) (same_hs : unsent_in new ≡ unsent_in old) (same : new.in_flight ≡ old.in_flight)
       (taken : count_taken new ≡ count_taken old) (n : new.received ≡ old.received) (ended : is_ended new ≡ is_ended old) (goes : is_stopped reply ≡ false)
       (retained : retention_in new ≡ retention_in old) (heard : heard_in new ≡ heard_in old) where
     abbrev call : Call
@@ -279,14 +281,14 @@ module _ {L S : Type 0} (gl : logs.Ghosts L) (gs : spaces.Ghosts S) where
     reply_up : (start : Airspace) (events more : List InstanceEvent) → AreQuiet (gl.writer (log_of old)) more → IsUpToDate gl gs start events old → IsWaiting events r → IsUpToDate gl gs start (events ++ more) new
     reply_up start events more quiet up w =
         up_quiet gl gs start events more old new [] reply_stayed quiet up (asked.shuts up.goes ∙ goes) taken
-        (λ a sound h. reading_content (salt_in old) a now call reply (space_in new) w.reading ((asked.answers up.goes).step sound a h) not_stopped)
+        (λ a sound h. plain_content (salt_in old) a now call reply (space_in new) plain ((asked.answers up.goes).step sound a h) not_stopped)
         (subst (λ v. IsInFlight (gl.writer (log_of old)) events v) (sym same) up.flight)
 
     reply_requests : (events : List InstanceEvent) (e : InstanceEvent) → IsNoReceipt e → offered_in e ≡ [] → ended_in e ≡ r.held.id ∷ [] → AreRequests events (readings_in old) (unsent_in old) (sent_in old) old.received
         → AreRequests (events ++ e ∷ []) (readings_in new) (unsent_in new) (sent_in new) new.received
-    reply_requests events e plain none ends all =
+    reply_requests events e quiet none ends all =
         requests_same (events ++ e ∷ []) (events ++ e ∷ []) (front ++ back) (readings_in new) (unsent_in old) (unsent_in new) (sent_in old) (sent_in new) old.received new.received refl less same_hs (ap (λ v. sent_by v) same) n
-        (reading_ends events e plain none front r back (unsent_in old) (sent_in old) old.received (subst (λ (v : List Reading). AreRequests events v (unsent_in old) (sent_in old) old.received) was all) ends)
+        (reading_ends events e quiet none front r back (unsent_in old) (sent_in old) old.received (subst (λ (v : List Reading). AreRequests events v (unsent_in old) (sent_in old) old.received) was all) ends)
 
     -- The request failed.
     pub did_fail : Did gl gs old (Drops r.held.id ∷ []) new
@@ -315,7 +317,7 @@ module _ {L S : Type 0} (gl : logs.Ghosts L) (gs : spaces.Ghosts S) where
               let here : airspace_at acts_of (salt_in old) start (entries_given events) (count_taken old) ≡ airspace_of (salt_in old) start events =
               ap (λ (v : List LogEntry). airspace_by (salt_in old) start (acts_in acts_of v)) (take_all (count_taken old) (entries_given events) (omega (arith, up.taken))) in
               let a = airspace_of (salt_in old) start events in
-              let policy = reading_policy (salt_in old) a now call reply (space_in new) w.reading ((asked.answers up.goes).step sound a (up.held (reply_stayed.sound sound))) final in (
+              let policy = plain_policy (salt_in old) a now call reply (space_in new) plain ((asked.answers up.goes).step sound a (up.held (reply_stayed.sound sound))) final in (
                 (
                   w.held.opens,
                   record {

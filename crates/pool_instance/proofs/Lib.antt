@@ -15,6 +15,7 @@ pub mod Receive
 pub mod Fails
 pub mod Pairs
 pub mod Took
+pub mod Looked
 pub mod Answered
 pub mod Made
 pub mod Offered

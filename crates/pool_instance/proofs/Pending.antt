@@ -7,7 +7,6 @@ use Rattle.std.proofs.lemmas.List.Elements.{All-contains, Contains-append_cases,
 use Rattle.policy_core.specs.declared.call.Call.{Call}
 use Rattle.pool_core.specs.Events.{InstanceEvent, Receives}
 use Rattle.pool_core.specs.Serves.{IsOpen, ended_in, ids_ended, ids_offered, offered_in, times}
-use Rattle.pool_core.specs.Unlogged.{reads}
 use Rattle.pool_core.proofs.Lists.{contains_head, contains_none, contains_split}
 use Rattle.pool_instance.specs.Parts.{ids_of, number_of, unsent_ids}
 use Rattle.pool_instance.specs.Request.{call_of}
@@ -146,7 +145,6 @@ module _ (events : List InstanceEvent) (rs : List Reading) (hs : List Held) (slo
         let old : IsHeld events r.held = subst (λ (v : Held). IsHeld events v) (sym f.2) w.held in
         record {
           held = held_then r.held old (reading_unsent r h);
-          reading = ap (λ (v : Held). reads (call_of v.request).op) f.2 ∙ w.reading;
           stage = subst (λ (v : Held). IsAtStage (events ++ e ∷ []) v.id (call_of v.request) r.stage) (sym f.2) (f.3 w);
         }
 
@@ -194,7 +192,7 @@ module _ (events : List InstanceEvent) (rs : List Reading) (hs : List Held) (slo
     pub asks : call_of h.request ≡ call
 
   module _ (call : Call) (rs' : List Reading) (hs' : List Held) (slots' : List (Option ℕ))
-      (from_readings : (r : Reading) → Contains rs' r → Contains rs r ⊎ (IsNext call r.held × (reads call.op ≡ true) × (r.stage ≡ Fresh)))
+      (from_readings : (r : Reading) → Contains rs' r → Contains rs r ⊎ (IsNext call r.held × (r.stage ≡ Fresh)))
       (from_held : (h : Held) → Contains hs' h → Contains hs h ⊎ IsNext call h)
       (ids : (k : ℕ) → times k (ids_of rs' hs' slots') ≡ times k (ids_of rs hs slots) + times k (n ∷ [])) where
     abbrev after : List InstanceEvent
@@ -218,7 +216,6 @@ module _ (events : List InstanceEvent) (rs : List Reading) (hs : List Held) (slo
     old_waiting : (r : Reading) → IsWaiting events r → IsWaiting after r
     old_waiting r w = record {
       held = old_held r.held w.held;
-      reading = w.reading;
       stage = stage_more events (Receives n call ∷ []) r.held.id (call_of r.held.request) r.stage w.stage;
     }
 
@@ -227,8 +224,7 @@ module _ (events : List InstanceEvent) (rs : List Reading) (hs : List Held) (slo
       | inl old ↦ old_waiting r (waiting_at r old)
       | inr new ↦ record {
         held = next_held r.held new.0;
-        reading = ap (λ (v : Call). reads v.op) new.0.asks ∙ new.1;
-        stage = subst (λ (s : Stage). IsAtStage after r.held.id (call_of r.held.request) s) (sym new.2) tt;
+        stage = subst (λ (s : Stage). IsAtStage after r.held.id (call_of r.held.request) s) (sym new.1) tt;
       }
     ]
 

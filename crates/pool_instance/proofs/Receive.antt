@@ -32,7 +32,7 @@ module _ {L S : Type 0} (gl : logs.Ghosts L) (gs : spaces.Ghosts S) where
         heard = r.heard;
       } in
       elim h.waits [
-        | inl a ↦ did_receive_reading gl gs old (record mid { received = n }) (call_of request) a.one k r.in_flight a.readings a.unsent next a.number (ap (λ (v : Request). call_of v) a.asks) a.stage a.reading
+        | inl a ↦ did_receive_reading gl gs old (record mid { received = n }) (call_of request) a.one k r.in_flight a.readings a.unsent next a.number (ap (λ (v : Request). call_of v) a.asks) a.stage
         | inr b ↦ did_receive_change gl gs old (record mid { received = n }) (call_of request) b.one k r.in_flight b.readings b.unsent next b.number (ap (λ (v : Request). call_of v) b.asks)
       ]
 

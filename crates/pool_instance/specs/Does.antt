@@ -5,7 +5,7 @@ use Rattle.entity_core.specs.Airspace.{Airspace}
 use Rattle.policy_core.specs.declared.call.Call.{Call}
 use Rattle.policy_core.specs.Policy.{breaks, early_rules}
 use Rattle.space_core.specs.declared.space.Space as spaces
-use Rattle.service_calls.specs.Run.{IsReplyTo}
+use Rattle.service_calls.specs.Run.{IsAllowed, IsReplyTo}
 use Rattle.service_step.specs.declared.reply.Reply.{Reply}
 use Rattle.service_step.specs.declared.reply.Reply.TheVariants as replies
 use Rattle.pool_core.specs.Acts.{Makes, Purges}
@@ -15,6 +15,7 @@ use Rattle.pool_core.specs.declared.log.Log as logs
 use Rattle.pool_entry.specs.Acts.{acts_of}
 use Rattle.pool_entry.specs.Spelling.{IsBatch}
 use Rattle.pool_entry.specs.declared.pool_call.PoolCall.{PoolCall}
+use Rattle.pool_instance.specs.Evaluate.{IsOffered}
 use Rattle.pool_instance.specs.Lists.{AreWritten}
 use Rattle.pool_instance.specs.Parts.{count_received, count_taken, heard_in, ids_in, ids_sent, ids_unsent, is_due, is_due_as, is_ended, is_fresh, log_of, purges_in, readings_in, retention_in, salt_in, sent_in, space_in, unsent_in}
 use Rattle.pool_instance.specs.Request.{call_of}
@@ -108,12 +109,14 @@ module _ {L S : Type 0} (gl : logs.Ghosts L) (gs : spaces.Ghosts S) where
       ∷ Answers (count_received old) (AtOnce (now, call)) reply ∷ []) new
   DeniedSo now call old new (Err fault) = StoppedSo old new fault
 
-  -- Holds if the instance received a request, which waits under the next number.
-  abbrev pub QueuedSo : (call : Call) → Instance L S → Instance L S → Result ℕ InstanceFault
-      → Type 0
-  QueuedSo call old new (Ok id) =
+  -- Holds if the instance received a request, which waits under the next number. It waits for the
+  -- next batch only if it is to be offered.
+  abbrev pub QueuedSo : (now : ℕ) → (call : Call) → Instance L S → Instance L S
+      → Result ℕ InstanceFault → Type 0
+  QueuedSo now call old new (Ok id) =
       (id ≡ count_received old) × Did old (Receives id call ∷ []) new
-  QueuedSo call old new (Err fault) = StoppedSo old new fault
+      × ((unsent_in new ≡ unsent_in old) ⊎ IsOffered gs old.service new.service now call)
+  QueuedSo now call old new (Err fault) = StoppedSo old new fault
 
   -- ---- ask and learn
 
@@ -190,7 +193,15 @@ module _ {L S : Type 0} (gl : logs.Ghosts L) (gs : spaces.Ghosts S) where
 
   -- ---- answer
 
-  -- Holds if a reading had this outcome at a time. It fails only if the service reports a fault.
+  -- Holds if a change that was denied when it came breaks no rule now, and waits for the next batch.
+  pub record IsReleased (now id : ℕ) (old new : Instance L S) : Type 0 where
+    pub did : Did old [] new
+    pub one : Held
+    pub number : one.id ≡ id
+    pub allowed : IsAllowed gs old.service new.service now (call_of one.request)
+    pub unsent : unsent_in new ≡ unsent_in old ++ one ∷ []
+
+  -- Holds if a request had this outcome at a time, and changed nothing. It fails only if the service reports a fault.
   abbrev pub HasOutcome : (now : ℕ) → Instance L S → Instance L S → Outcome → Type 0
   HasOutcome now old new (Replied id reply) = (call : Call)
       × Did old (Answers id (AfterFirst (count_taken old) (now, call)) reply ∷ []) new
@@ -198,12 +209,13 @@ module _ {L S : Type 0} (gl : logs.Ghosts L) (gs : spaces.Ghosts S) where
       × ((r : Reading) × Contains (readings_in old) r × (r.held.id ≡ id)
       × IsReplyTo gs old.service new.service now (call_of r.held.request) replies.Fault)
 
-  -- Holds if the instance answered the reading with this number, if its end is reached. If the
-  -- service stopped, the instance has ended, and the reading waits still.
+  -- Holds if the instance answered the request with this number, if its end is reached, or released
+  -- it. If the service stopped, the instance has ended, and the request waits still.
   abbrev pub AnsweredAs : (now id : ℕ) → Instance L S → Instance L S
       → Result (Option Outcome) InstanceFault → Type 0
-  AnsweredAs now id old new (Ok None) = (new ≡ old)
-      × All (λ r. is_due_as id (count_taken old) r ≡ false) (readings_in old)
+  AnsweredAs now id old new (Ok None) =
+      ((new ≡ old) × All (λ r. is_due_as id (count_taken old) r ≡ false) (readings_in old))
+      ⊎ IsReleased now id old new
   AnsweredAs now id old new (Ok (Some outcome)) = (number_in outcome ≡ id)
       × HasOutcome now old new outcome
   AnsweredAs now id old new (Err fault) = StoppedSo old new fault

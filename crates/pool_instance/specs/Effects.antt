@@ -8,7 +8,6 @@ use Rattle.service_calls.specs.Run.{TimedCall}
 use Rattle.pool_core.specs.Acts.{Act, Makes}
 use Rattle.pool_core.specs.Log.{LogEntry}
 use Rattle.pool_core.specs.Purging.{Keeps}
-use Rattle.pool_core.specs.Unlogged.{reads}
 use Rattle.pool_core.specs.declared.log.Log as logs
 use Rattle.pool_core.specs.declared.log.LogFault.{LogFault}
 use Rattle.pool_core.specs.declared.log.LogFault.TheVariants as faults
@@ -44,7 +43,7 @@ pub record KeepsRest {L S : Type 0} (old new : Instance L S) : Type 0 where
   pub retention : retention_in new ≡ retention_in old
   pub heard : heard_in new ≡ heard_in old
 
--- Holds if one more reading waits.
+-- Holds if one more request waits for the end of the log.
 pub record HoldsReading {L S : Type 0} (id : ℕ) (request : Request) (old new : Instance L S)
     : Type 0 where
   pub one : Reading
@@ -53,9 +52,8 @@ pub record HoldsReading {L S : Type 0} (id : ℕ) (request : Request) (old new :
   pub number : one.held.id ≡ id
   pub asks : one.held.request ≡ request
   pub stage : one.stage ≡ Fresh
-  pub reading : reads (call_of request).op ≡ true
 
--- Holds if one more change waits.
+-- Holds if one more change waits for the next batch.
 pub record HoldsChange {L S : Type 0} (id : ℕ) (request : Request) (old new : Instance L S)
     : Type 0 where
   pub one : Held

@@ -1,5 +1,5 @@
 -- The state of an instance after events.
-use Rattle.std.specs.Prelude.{◌≡◌, ◌==◌, ◌<◌, ◌≤◌, ℕ, true, false, List, [], ◌∷◌, ◌++◌, All, Contains, Option, Some, None, count_by, length}
+use Rattle.std.specs.Prelude.{◌≡◌, ◌==◌, ◌<◌, ◌≤◌, ℕ, false, List, [], ◌∷◌, ◌++◌, All, Contains, Option, Some, None, count_by, length}
 use Rattle.std.specs.declared.vec.Vec.{Vec}
 use Rattle.entity_core.specs.Airspace.{Airspace}
 use Rattle.policy_core.specs.declared.call.Call.{Call}
@@ -10,7 +10,6 @@ use Rattle.pool_core.specs.Acts.{airspace_by}
 use Rattle.pool_core.specs.Events.{AsksForEnd, Batch, InstanceEvent, Receives, batches_offered, entries_given, log_events}
 use Rattle.pool_core.specs.Log.{Continues, LogEvent}
 use Rattle.pool_core.specs.Serves.{IsOpen, ReachesEnd, ServesPool, acts_in, ids_ended, ids_offered, times}
-use Rattle.pool_core.specs.Unlogged.{reads}
 use Rattle.pool_core.specs.declared.log.Log as logs
 use Rattle.pool_entry.specs.Acts.{acts_of}
 use Rattle.pool_instance.specs.Parts.{count_taken, heard_in, ids_of, is_ended, log_of, readings_in, retention_in, salt_in, sent_in, space_in, unsent_in}
@@ -43,10 +42,9 @@ IsAtStage events id call Fresh = Unit {0}
 IsAtStage events id call (Asked question) = AskedSince events id call question
 IsAtStage events id call (Until count) = ReachesEnd events id call count
 
--- Holds if a reading waits for the end of the log.
+-- Holds if a request waits for the end of the log.
 pub record IsWaiting (events : List InstanceEvent) (r : Reading) : Type 0 where
   pub held : IsHeld events r.held
-  pub reading : reads (call_of r.held.request).op ≡ true
   pub stage : IsAtStage events r.held.id (call_of r.held.request) r.stage
 
 -- ---- the batch in flight

@@ -1,11 +1,12 @@
 //! One instance of a pool.
+use crate::evaluate::{reply_after_end, waits_for_end};
 use crate::fault::InstanceFault;
 use crate::outcome::{Outcome, Unanswered};
 use crate::purge_totals::PurgeTotals;
 use crate::request::Request;
 use crate::requests::{
     Draft, do_acts, first_batch, has_fresh, is_reading_due, note_end, note_question, pair,
-    place_of_change, place_of_due, place_of_reading, place_of_sent, reads,
+    place_of_change, place_of_due, place_of_reading, place_of_sent,
 };
 use crate::waiting::{Held, Reading, Stage};
 use policy_core::call::Call;
@@ -29,7 +30,8 @@ use wire_route::routes::Routes;
 pub struct Instance<L: Log, S: Space> {
     log: L,
     service: Service<S>,
-    // The readings, and the changes that were not offered, each in the order of their receipt.
+    // The requests that wait for the end of the log: readings, and changes that were denied when they
+    // came. And the changes that wait for the next batch.
     readings: Vec<Reading>,
     unsent: Vec<Held>,
     // The requests of the batch in flight. One that failed meanwhile has no number.
@@ -49,7 +51,7 @@ pub struct Instance<L: Log, S: Space> {
 const PURGE_STEP: u64 = 60;
 
 impl<L: Log + Drop, S: PurgeEnded + Drop> Instance<L, S> {
-    ghost use Rattle.std.specs.Prelude.{◌≡◌, ◌≤◌, ◌+◌, ◌↔◌, ℕ, [], false, Contains, IfNone, IfSome, IsTrue, MatchResult, None, OnErr, Some, find};
+    ghost use Rattle.std.specs.Prelude.{◌≡◌, ◌≤◌, ◌+◌, ◌↔◌, ℕ, [], false, true, Contains, IfNone, IfSome, IsTrue, MatchResult, None, OnErr, Some, find};
     ghost use Rattle.entity_core.specs.Airspace.{Airspace};
     ghost use Rattle.space_core.specs.Space.{IsContent};
     ghost use Rattle.service_calls.specs.Held.{is_shut, salt_of, space_of};
@@ -60,7 +62,7 @@ impl<L: Log + Drop, S: PurgeEnded + Drop> Instance<L, S> {
     ghost use Rattle.pool_core.specs.Log.{entry_of};
     ghost use Rattle.pool_instance.specs.Effects.{FailsLog, Forgets, Holds, HoldsNoMore};
     ghost use Rattle.pool_instance.specs.Effects.{MakesEntry, with_end};
-    ghost use Rattle.pool_instance.specs.Parts.{IsDueAt, count_taken, heard_in, ids_sent, is_ended, purges_in, readings_in, retention_in, salt_in, space_in};
+    ghost use Rattle.pool_instance.specs.Parts.{IsDueAt, count_taken, heard_in, ids_sent, is_ended, purges_in, readings_in, retention_in, salt_in, space_in, unsent_in};
     ghost use Rattle.pool_instance.specs.Request.{call_of};
     ghost use Rattle.pool_instance.specs.State.{IsAfter};
 
@@ -133,7 +135,7 @@ impl<L: Log + Drop, S: PurgeEnded + Drop> Instance<L, S> {
         self.heard
     }
 
-    /// Returns how many readings and changes wait, and how many requests are in flight.
+    /// Returns how many requests wait or are in flight.
     pub fn waiting(&self) -> usize {
         let in_flight = match &self.in_flight {
             Some(sent) => sent.len(),
@@ -205,11 +207,12 @@ impl<L: Log + Drop, S: PurgeEnded + Drop> Instance<L, S> {
         Ok(Some(Reply::Denied(rule, Missing::empty(alloc))))
     }
 
-    /// Receives a request that breaks none of P1 to P6, and returns its number. It waits: a reading
-    /// for the end of the log, any other request for the next batch.
-    pub fn queue(&mut self, request: Request) -> Result<u64, InstanceFault>
+    /// Receives a request that breaks none of P1 to P6, at a time (Unix seconds), and returns its
+    /// number. It waits: a reading, or a change that is denied now, for the end of the log, any other
+    /// change for the next batch.
+    pub fn queue(&mut self, alloc: Global, now: u64, request: Request) -> Result<u64, InstanceFault>
         requires { (a : Airspace) (now : ℕ) → find (breaks a now (call_of request)) early_rules ≡ None }
-        ensures { QueuedSo L.Log S.Space (call_of request) self.old self.new result }
+        ensures { QueuedSo L.Log S.Space now (call_of request) self.old self.new result }
     {
         if self.ended {
             return Err(InstanceFault::Ended);
@@ -218,22 +221,26 @@ impl<L: Log + Drop, S: PurgeEnded + Drop> Instance<L, S> {
         let Some(next) = id.checked_add(1) else {
             return Err(self.end());
         };
-        if self.hold(id, request).is_err() {
+        let Some(waits) = waits_for_end(&mut self.service, alloc, now, request.call()) else {
+            return Err(self.end());
+        };
+        if self.hold(id, request, waits).is_err() {
             return Err(InstanceFault::NoMemory);
         }
         self.received = next;
         Ok(id)
     }
 
-    // Adds a request that waits. It breaks no stateless rule.
-    fn hold(&mut self, id: u64, request: Request) -> Result<(), AllocError>
+    // Adds a request that waits for the end of the log, or for the next batch. It breaks no stateless
+    // rule.
+    fn hold(&mut self, id: u64, request: Request, waits_for_end: bool) -> Result<(), AllocError>
         requires { (a : Airspace) (now : ℕ) → find (breaks a now (call_of request)) early_rules ≡ None }
-        ensures { MatchResult result (λ _. Holds id request self.old self.new)
+        ensures held { MatchResult result (λ _. Holds id request self.old self.new)
             (λ _. HoldsNoMore self.old self.new) }
+        ensures unsent { waits_for_end ≡ true → unsent_in self.new ≡ unsent_in self.old }
     {
-        let is_reading = reads(&request.call().op);
         let held = Held { id, request };
-        if is_reading {
+        if waits_for_end {
             let stage = Stage::Fresh;
             self.readings.push(Reading { held, stage })?;
         } else {
@@ -242,8 +249,8 @@ impl<L: Log + Drop, S: PurgeEnded + Drop> Instance<L, S> {
         Ok(())
     }
 
-    /// Asks for the end of the log, if a reading has come since the last question. Returns true if
-    /// it asked.
+    /// Asks for the end of the log, if a request has come since the last question that waits for it.
+    /// Returns true if it asked.
     pub fn ask(&mut self) -> Result<bool, InstanceFault>
         ensures { AskedSo L.Log S.Space self.old self.new result }
     {
@@ -411,8 +418,8 @@ impl<L: Log + Drop, S: PurgeEnded + Drop> Instance<L, S> {
         Some(told)
     }
 
-    /// Returns the index and the number of the first reading from this index on whose end was
-    /// reached, if there is one.
+    /// Returns the index and the number of the first request from this index on that waits for an end
+    /// that was reached, if there is one.
     pub fn next_due(&self, index: usize) -> Option<(usize, u64)>
         ensures { IfSome result (λ due.
             IsDueAt (count_taken self.now) (readings_in self.now) due.0 due.1) }
@@ -426,9 +433,10 @@ impl<L: Log + Drop, S: PurgeEnded + Drop> Instance<L, S> {
         None
     }
 
-    /// Answers the reading with this number at a time (Unix seconds). Returns `None` if no such
-    /// reading waits, or if its end was not reached. If the service stops, the instance ends, and the
-    /// reading waits still.
+    /// Answers the request with this number, which waits for the end of the log, at a time (Unix
+    /// seconds). Returns `None` if no such request waits, or if its end was not reached. Also returns
+    /// `None` for a change that breaks no rule any more: it waits for the next batch from now on. If
+    /// the service stops, the instance ends, and the request waits still.
     pub fn answer_as(
         &mut self,
         alloc: Global,
@@ -443,9 +451,14 @@ impl<L: Log + Drop, S: PurgeEnded + Drop> Instance<L, S> {
         let Some(index) = place_of_due(self.readings.as_slice(), id, self.taken) else {
             return Ok(None);
         };
-        let reply = self
-            .service
-            .call(alloc, now, self.readings[index].held.request.call());
+        let call = self.readings[index].held.request.call();
+        let Some(reply) = reply_after_end(&mut self.service, alloc, now, call) else {
+            if self.unsent.reserve(1).is_err() {
+                return Err(InstanceFault::NoMemory);
+            }
+            self.unsent.push_reserved(self.readings.remove(index).held);
+            return Ok(None);
+        };
         if reply.is_stopped() {
             return Err(self.end());
         }

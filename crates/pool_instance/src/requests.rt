@@ -40,7 +40,7 @@ pub(crate) fn reads(op: &Operation) -> bool
     )
 }
 
-/// Returns true if no question is for some reading.
+/// Returns true if no question is for some request that waits for the end of the log.
 pub(crate) fn has_fresh(readings: &[Reading]) -> bool
     ensures { result ≡ false → All (λ r. is_fresh r ≡ false) readings.now }
 {
@@ -61,7 +61,7 @@ fn asked_stage(question: u64, stage: Stage) -> Stage
     }
 }
 
-/// Notes that a question is for all readings that no question was for.
+/// Notes that a question is for all requests that no question was for.
 pub(crate) fn note_question(readings: &mut [Reading], question: u64)
     ensures { readings.new ≡ map (asked question) readings.old }
 {
@@ -97,14 +97,14 @@ fn is_due(stage: Stage, taken: u64) -> bool
     }
 }
 
-/// Returns the index of the reading with this number, if its end was reached.
+/// Returns the index of the request with this number, if its end was reached.
 pub(crate) fn place_of_due(readings: &[Reading], id: u64, taken: u64) -> Option<usize>
     ensures { result ≡ position (is_due_as id taken) readings.now }
 {
     readings.iter().position(|reading| reading.held.id == id && is_due(reading.stage, taken))
 }
 
-/// Returns true if the reading waits for an end that was reached.
+/// Returns true if the request waits for an end that was reached.
 pub(crate) fn is_reading_due(reading: &Reading, taken: u64) -> bool
     ensures { result ≡ is_due taken reading.now }
 {

@@ -13,7 +13,7 @@ pub(crate) struct Held {
     ghost early: { (a : Airspace) (now : ℕ) → find (breaks a now request.call) early_rules ≡ None },
 }
 
-/// What a reading waits for.
+/// What a request that waits for the end of the log waits for.
 #[derive(Clone, Copy, Debug, PartialEq, Eq)]
 pub(crate) enum Stage {
     /// The next question for the end of the log.
@@ -24,7 +24,7 @@ pub(crate) enum Stage {
     Until(u64),
 }
 
-/// A reading that waits for the end of the log.
+/// A request that waits for the end of the log: a reading, or a change that was denied when it came.
 #[derive(Debug, Drop)]
 pub(crate) struct Reading {
     pub held: Held,

@@ -1,5 +1,5 @@
 //! The trait of backends.
-ghost use Rattle.std.specs.Prelude.{◌≡◌, ℕ, Bool, MatchOption, MatchResult};
+ghost use Rattle.std.specs.Prelude.{◌≡◌, ℕ, Bool, None, MatchOption, MatchResult};
 ghost use Rattle.server_backend.specs.BackendEvent.{Advances, Announces, Answers, BackendEvent, Forgets, Gives, GivesNone, HasNumber, LeavesFewer, Receives, Settles, Stops};
 ghost use Rattle.server_backend.specs.Request.{IsRequestFor};
 
@@ -95,9 +95,9 @@ pub trait Backend {
         ensures { steps self.old (Announces result) self.new };
 
     /// Answers a request that can be answered now, at a time of the clock. Returns `None` if it
-    /// cannot.
+    /// cannot, or not any more: then it waits on, and no request was announced.
     fn answer(&mut self, alloc: Global, moment: u64, ticket: u64) -> Option<Outcome>
-        ensures { MatchOption result (self.new ≡ self.old)
+        ensures { MatchOption result (steps self.old (Announces None) self.new)
             (λ outcome. steps self.old (Answers moment ticket outcome) self.new) };
 
     /// Forgets a request whose client is gone. It need not have an outcome any more.

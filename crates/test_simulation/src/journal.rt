@@ -55,7 +55,7 @@ fn index_of(number: u64) -> usize {
     number.saturating_sub(1) as usize
 }
 
-// Returns so many nanoseconds before a time. Without a number, returns the time.
+// Returns the time that is `took` before `time`, or `time` without `took`.
 fn before(time: u64, took: Option<Duration>) -> u64 {
     let Some(took) = took else {
         return time;

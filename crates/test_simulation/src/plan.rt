@@ -178,7 +178,7 @@ fn flooded_course(draws: &mut Draws) -> Course {
     }
 }
 
-// Returns the limits for so many clients.
+// Returns the limits for `count` clients.
 fn limits(draws: &mut Draws, count: usize, course: Course) -> Limits {
     Limits {
         count: if course.operator == Operator::Absent {
@@ -195,7 +195,7 @@ fn limits(draws: &mut Draws, count: usize, course: Course) -> Limits {
     }
 }
 
-// Adds so many drawn clients. Their changes have numbers from `mark` on.
+// Adds `count` drawn clients. Their changes have numbers from `mark` on.
 fn draw_peers(
     alloc: Global,
     salt: &Salt,

@@ -43,29 +43,30 @@ pub(crate) struct Offered {
     pub(crate) stores: Option<u64>,
 }
 
-// A question for the end: its number, when the entries are counted, when their number is told, and that
-// number.
+// A question for the end of the log.
 #[derive(Clone, Copy, Debug)]
 struct Question {
     number: u64,
+    // When the entries are counted, and when the instance gets their number.
     counted: u64,
-    told: u64,
+    answered: u64,
     count: Option<u64>,
 }
 
 /// How the log behaves.
 #[derive(Clone, Copy, Debug)]
 pub(crate) struct LogCourse {
-    /// The most nanoseconds until an offer is stored, until an entry arrives, and until an end is told.
+    /// The maximum times, in nanoseconds, until an offer is stored, an entry arrives, and a question is
+    /// answered.
     pub(crate) stores: u64,
     pub(crate) arrives: u64,
-    pub(crate) tells: u64,
+    pub(crate) answers: u64,
     /// How often of a hundred times one of these takes seconds.
     pub(crate) slow: u64,
     /// How often of a hundred times an offer is never stored, a question is never answered, and a call
     /// finds no memory.
     pub(crate) unmade: u64,
-    pub(crate) untold: u64,
+    pub(crate) unanswered: u64,
     pub(crate) memory: u64,
     /// When the log is lost, if it is, and whether it is lost after an offer that is never stored.
     pub(crate) lost_at: Option<u64>,
@@ -106,7 +107,7 @@ pub(crate) struct SimLog<'a> {
 }
 
 impl<'a> LogState<'a> {
-    // Draws how long something takes that takes at most so many nanoseconds unless it is slow.
+    // Draws a time of at most `most` nanoseconds, or a longer one if the log is slow.
     fn delay(&mut self, most: u64) -> u64 {
         if self.draws.chance(self.course.slow) {
             self.draws.below(SLOW)
@@ -214,7 +215,7 @@ impl<'a> LogState<'a> {
         }
         for question in &self.questions {
             let next = match question.count {
-                Some(_) => question.told,
+                Some(_) => question.answered,
                 None => question.counted,
             };
             least = earlier(least, Some(next));
@@ -302,18 +303,18 @@ impl<'a> LogState<'a> {
         }
         let number = self.asked;
         self.asked = number.wrapping_add(1);
-        if self.draws.chance(self.course.untold) {
+        if self.draws.chance(self.course.unanswered) {
             return Ok(number);
         }
         let counted = self
             .shared
             .now()
-            .saturating_add(self.delay(self.course.tells));
-        let told = counted.saturating_add(self.delay(self.course.tells));
+            .saturating_add(self.delay(self.course.answers));
+        let answered = counted.saturating_add(self.delay(self.course.answers));
         let question = Question {
             number,
             counted,
-            told,
+            answered,
             count: None,
         };
         match self.questions.push(question) {
@@ -325,7 +326,8 @@ impl<'a> LogState<'a> {
     // Returns the place of a question whose answer has come.
     fn place_of_answer(&self) -> Option<usize> {
         let now = self.shared.now();
-        self.questions.iter().position(|question| question.count.is_some() && question.told <= now)
+        self.questions.iter().position(|question| question.count.is_some()
+            && question.answered <= now)
     }
 
     // Returns the next answer, if one has come.

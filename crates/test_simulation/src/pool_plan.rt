@@ -96,10 +96,10 @@ pub(crate) fn draw_log(draws: &mut Draws, now: u64, pool: PoolPlan) -> LogCourse
     LogCourse {
         stores: most(draws),
         arrives: most(draws),
-        tells: most(draws),
+        answers: most(draws),
         slow: percentage(draws, 30, 6),
         unmade: percentage(draws, 30, 15),
-        untold: percentage(draws, 30, 15),
+        unanswered: percentage(draws, 30, 15),
         memory: percentage(draws, 20, 10),
         lost_at: if draws.chance(15) {
             Some(now.saturating_add(draws.below(20 * SECOND)))

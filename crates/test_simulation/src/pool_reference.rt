@@ -268,8 +268,20 @@ impl<'a> CallList<'a> {
         Ok(Response::Unavailable(reason))
     }
 
-    // Returns what the response to a request says. Its changes stand at their places in the log, and a
-    // reading behind all entries that the instance took.
+    // Returns the reply to a request that was not offered, behind all entries that the instance took. A
+    // change must be denied there.
+    fn reply_after(&mut self, call: &Call, moment: u64) -> Result<Reply, Flaw> {
+        if reads(&call.op) {
+            return Ok(self.service.call(self.alloc, moment, call));
+        }
+        match self.service.deny(self.alloc, moment, call) {
+            Some(reply) => Ok(reply),
+            None => Err(Flaw::Extra),
+        }
+    }
+
+    // Returns what the response to a request says. A change that was offered stands at its place in the
+    // log, any other request behind all entries that the instance took.
     fn response(
         &mut self,
         log: &LogState<'_>,
@@ -293,14 +305,10 @@ impl<'a> CallList<'a> {
         if answered.status == 503 || answered.status == 500 {
             return self.refusal(log, call, parts, closes, answered, asked);
         }
-        if !reads(&call.op) {
-            return Err(Flaw::Extra);
-        }
         if answered.given < asked.stored {
             return Err(Flaw::Old);
         }
-        let reply = self.service.call(self.alloc, answered.moment, call);
-        Ok(Response::Reply(reply))
+        Ok(Response::Reply(self.reply_after(call, answered.moment)?))
     }
 
     // Makes the next response of a connection. Returns what its request asked for.

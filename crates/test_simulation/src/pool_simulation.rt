@@ -116,7 +116,7 @@ fn place_of_file(draws: &mut Draws, entries: &[Stored]) -> usize {
     draws.below(count.saturating_add(1)) as usize
 }
 
-// Returns the plain policy of a process with that number and so many clients.
+// Returns the plain policy of the process `number`, which has `clients` clients.
 fn reference_of<'a>(
     setting: &'a Setting,
     clients: usize,

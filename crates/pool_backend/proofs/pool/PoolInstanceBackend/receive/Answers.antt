@@ -18,7 +18,7 @@ admit-requires-clause-early g c =
 pub returns-in-Ok-None : goal.returns-in-Ok-None
 returns-in-Ok-None g c =
     let q = subst (λ (v : Result (Option Reply) InstanceFault). DeniedSo g.L.Log g.S.Space c.args.moment c.args.request.call.now c.args.self.now.instance c.deny.new.self v) (c.in-Ok-None.is ∙ ap Ok c.in-Ok-None.field-0-is) c.deny.ensures in
-    subst (λ v. Admits g.L.Log g.S.Space c.args.moment c.args.request.call.now c.admit.result (record c.args.self.now { instance = v }) c.admit.new.self) q.0 (c.admit.ensures c.args.moment)
+    subst (λ v. Admits g.L.Log g.S.Space c.args.moment c.args.request.call.now c.admit.result (record c.args.self.now { instance = v }) c.admit.new.self) q.0 c.admit.ensures
 
 pub returns-in-Err : goal.returns-in-Err
 returns-in-Err g c =

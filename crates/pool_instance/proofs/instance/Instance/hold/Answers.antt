@@ -1,10 +1,8 @@
-use Rattle.std.proofs.Common.{refl, sym, ap, ◌∙◌, inl, inr}
-use Rattle.policy_core.specs.declared.call.Call.{Call}
-use Rattle.pool_core.specs.Unlogged.{reads}
+use Rattle.std.proofs.Common.{refl, inl, inr}
 use Rattle.pool_instance.proofs.instance.Instance.hold.Goals as goal
 
-pub returns-in_ok-push : goal.returns-in_ok-push
-returns-in_ok-push g c = record {
+pub returns-in_ok-push-clause-held : goal.returns-in_ok-push-clause-held
+returns-in_ok-push-clause-held g c = record {
   rest = record { service = refl; log = refl; in_flight = refl; taken = refl; received = refl; ended = refl; retention = refl; heard = refl };
   waits = inl (record {
     one = _;
@@ -13,12 +11,11 @@ returns-in_ok-push g c = record {
     number = refl;
     asks = refl;
     stage = refl;
-    reading = ap (λ (v : Call). reads v.op) (sym c.call.ensures) ∙ sym c.reads-is_reading.ensures ∙ c.if-is_reading.true;
   });
 }
 
-pub returns-in_ok-push-2 : goal.returns-in_ok-push-2
-returns-in_ok-push-2 g c = record {
+pub returns-in_ok-push-2-clause-held : goal.returns-in_ok-push-2-clause-held
+returns-in_ok-push-2-clause-held g c = record {
   rest = record { service = refl; log = refl; in_flight = refl; taken = refl; received = refl; ended = refl; retention = refl; heard = refl };
   waits = inr (record {
     one = _;

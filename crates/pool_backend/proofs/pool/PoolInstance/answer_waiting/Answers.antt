@@ -4,8 +4,8 @@ use Rattle.pool_instance.specs.declared.fault.InstanceFault.{InstanceFault}
 use Rattle.pool_instance.specs.declared.outcome.Outcome.{Outcome}
 use Rattle.pool_backend.specs.Pool.{AnswersAs}
 use Rattle.pool_backend.proofs.Did.{did_stopped}
-use Rattle.pool_backend.proofs.Does.{answers_none, answers_some}
-use Rattle.pool_backend.proofs.pool.PoolInstance.answer_reading.Goals as goal
+use Rattle.pool_backend.proofs.Does.{answers_none, answers_some, for_same, released}
+use Rattle.pool_backend.proofs.pool.PoolInstance.answer_waiting.Goals as goal
 
 pub returns-in-Ok-Some : goal.returns-in-Ok-Some
 returns-in-Ok-Some g c =
@@ -19,7 +19,11 @@ pub returns-in-Ok-None : goal.returns-in-Ok-None
 returns-in-Ok-None g c =
     let x = c.args.self.now in
     let q = subst (λ (v : Result (Option Outcome) InstanceFault). AnsweredAs g.L.Log g.S.Space c.args.moment c.args.ticket x.instance c.answer_as.new.self v) (c.in-Ok-None.is ∙ ap Ok c.in-Ok-None.field-0-is) c.answer_as.ensures in
-    ap (λ v. record x { instance = v }) q.0
+    let z = record x { instance = c.answer_as.new.self } in
+    released g.L.Log g.S.Space c.args.moment c.args.ticket x z q refl
+
+pub returns-then-is_ended : goal.returns-then-is_ended
+returns-then-is_ended g c = for_same g.L.Log g.S.Space c.args.self.now c.args.self.now (record { instance = refl; outcomes = refl })
 
 pub give_up-requires : goal.give_up-requires
 give_up-requires g c =
