@@ -9,48 +9,21 @@ pub(crate) type FileDigest = [u8; 32];
 // The bytes of a chunk.
 const CHUNK: usize = 65_536;
 
-/// The digest of a file, of which some bytes were read.
-#[derive(Drop)]
-pub(crate) struct Digesting {
-    file: File,
-    hasher: Sha256,
-    chunk: Vec<u8>,
-}
-
-impl Digesting {
-    /// Opens the file of that name.
-    pub(crate) fn open(rt: &HostRuntime, path: &str) -> io::Result<Digesting> {
-        Ok(Digesting {
-            file: File::open(rt, path)?,
-            hasher: Sha256::new(),
-            chunk: vec![in rt.alloc(); 0_u8; CHUNK]?,
-        })
-    }
-
-    /// Reads a chunk. Returns true at the end of the file.
-    pub(crate) fn step(&mut self) -> io::Result<bool> {
-        let length = self.file.read(&mut self.chunk)?.min(CHUNK);
-        if let Some(read) = self.chunk.get(..length) {
-            self.hasher.update(read);
-        }
-        Ok(length == 0)
-    }
-
-    /// Returns the digest of the bytes that were read.
-    pub(crate) fn finish(self) -> FileDigest {
-        self.hasher.finalize()
-    }
-}
-
 /// Returns the digest of the file of that name.
 pub(crate) fn digest_of(rt: &HostRuntime, path: &str) -> io::Result<FileDigest> {
-    let mut digesting = Digesting::open(rt, path)?;
+    let mut file = File::open(rt, path)?;
+    let mut hasher = Sha256::new();
+    let mut chunk = vec![in rt.alloc(); 0_u8; CHUNK]?;
     for _ in 0..u64::MAX {
-        if digesting.step()? {
+        let length = file.read(&mut chunk)?.min(CHUNK);
+        if length == 0 {
             break;
         }
+        if let Some(read) = chunk.get(..length) {
+            hasher.update(read);
+        }
     }
-    Ok(digesting.finish())
+    Ok(hasher.finalize())
 }
 
 /// Returns the first 8 bytes of a digest, big-endian.

@@ -22,6 +22,8 @@ mod log_file;
 mod loopback;
 mod machine;
 mod new_database;
+mod next_file;
+mod patience;
 mod pool;
 mod pool_file_check;
 mod pool_file_maker;

@@ -4,13 +4,14 @@
 use crate::copying::{folder_of, is_free};
 use crate::private::{DATABASE, make_empty};
 use dss_command::fault::Fault;
+use std::alloc::{AllocError, Global};
 use std::fs::{File, OpenOptions};
 use std::io::{ErrorKind, Write};
 use std::os::unix::fs::OpenOptionsExt;
 use std::{fs, io};
 
 // The bytes of a page.
-const PAGE: u64 = 1_024;
+const PAGE: usize = 1_024;
 
 // The beginning of a database with one page and no table ("Database File Format" of SQLite,
 // sections 1.3 and 1.6): the mark, the bytes of a page, a log in place of a journal, the count of
@@ -34,6 +35,13 @@ fn remove(rt: &HostRuntime, name: &str) -> io::Result<()> {
     }
 }
 
+/// Returns the content of a database without tables.
+pub(crate) fn empty_database(alloc: Global) -> Result<Vec<u8>, AllocError> {
+    let mut page = Vec::from_slice(alloc, BEGINNING)?;
+    page.resize(PAGE, 0)?;
+    Ok(page)
+}
+
 // Writes a database without tables to a new file of that name.
 fn write_database(rt: &HostRuntime, name: &str) -> io::Result<()> {
     let mut file: File = OpenOptions::new()
@@ -41,8 +49,7 @@ fn write_database(rt: &HostRuntime, name: &str) -> io::Result<()> {
         .create_new(true)
         .mode(DATABASE)
         .open(rt, name)?;
-    file.write_all(BEGINNING)?;
-    file.set_len(PAGE)?;
+    file.write_all(empty_database(rt.alloc())?.as_slice())?;
     file.sync_all()
 }
 

@@ -1,9 +1,11 @@
-//! The files that a running instance of a pool writes. Each is made in steps between rounds, and
-//! gets its name when it has the airspace of the instance and the system has stored it.
+//! The files that a running instance of a pool writes. Each is made in steps between rounds: first
+//! in memory, without a wait for the disk, and then in the directory. It gets its name when it has
+//! the airspace of the instance and the system has stored it.
 use crate::chain_file::ChainText;
 use crate::etcd_io::EtcdIo;
-use crate::file_digest::Digesting;
-use crate::new_database::make_database;
+use crate::new_database::empty_database;
+use crate::next_file::NextFile;
+use crate::patience::Patience;
 use crate::pool_files::{FileName, PoolFiles};
 use admin_http::admin_route::AdminRoute;
 use admin_http::backup::BackupResult;
@@ -12,34 +14,45 @@ use pool_etcd::etcd_log::EtcdLog;
 use server_backend::backend::Backend;
 use server_base::backups::{MakeBackups, Progress};
 use space_copy::airspace_copy::AirspaceCopy;
+use space_copy::memory_database::{MemoryDatabase, close_database, open_database};
+use space_copy::memory_file::MemoryFile;
 use space_memory::memory::MemorySpace;
 use space_sql::space::SqlSpace;
-use sqlite::{Connection, FileFrom, FileStore, Unknown};
+use sqlite::FileStore;
+use std::alloc::Global;
 use std::fs::{self, File};
 use std::io;
-
-// The number of chunks of a database that a step reads.
-const CHUNKS: usize = 8;
 
 // An instance whose log is in etcd.
 type EtcdInstance<'a> = PoolInstance<EtcdLog, EtcdIo<'a>, MemorySpace>;
 
-// A database in a file.
-type FileDatabase = Connection<FileStore<FileFrom<Unknown>>>;
+// A copy of the airspace to a database in memory.
+type MemoryCopy = AirspaceCopy<FileStore<MemoryFile>>;
+
+// The name of a file, and its chain.
+#[derive(Drop)]
+struct Identity {
+    name: FileName,
+    chain: ChainText,
+}
 
 // What is left to do for a file.
 #[derive(Drop)]
 enum Making {
     // To copy the airspace.
-    Copies(AirspaceCopy<FileStore<FileFrom<Unknown>>>),
-    // To close the database, which has the airspace of that name.
-    Closes(FileDatabase, FileName, ChainText),
-    // To compute the digest of its content.
-    Digests(Digesting, FileName, ChainText),
+    Copies(MemoryCopy, NextFile),
+    // To close the database, which has the airspace.
+    Closes(MemoryDatabase, NextFile, Identity),
+    // To write its content to the file.
+    Writes(MemoryFile, NextFile, Identity),
+    // To wait until the system has stored the file.
+    Stores(NextFile, Identity),
     // To write its chain.
     Chains(FileName, String),
     // To give it its name.
     Names(FileName),
+    // To remove older files.
+    Clears(FileName),
     // Nothing. The file has this size in bytes.
     Nothing(u64),
 }
@@ -55,6 +68,7 @@ pub(crate) struct PoolFileMaker<'a> {
     making: Option<Making>,
     // The lock of the directory, while a file is made.
     lock: Option<File>,
+    patience: Patience<'a>,
 }
 
 // Returns the result of a failed call of the system.
@@ -65,18 +79,46 @@ fn failed(error: io::Error) -> BackupResult {
     }
 }
 
-// Creates the tables of an empty airspace in a new file.
-fn new_copy(rt: &HostRuntime, path: &str) -> Result<Making, BackupResult> {
-    if make_database(rt, path).is_err() {
-        return Err(BackupResult::WriteFailed);
+// Creates the tables of an empty airspace in memory.
+fn new_copy(alloc: Global) -> Result<MemoryCopy, BackupResult> {
+    let Ok(content) = empty_database(alloc) else {
+        return Err(BackupResult::Memory);
+    };
+    let Ok(database) = open_database(alloc, content) else {
+        return Err(BackupResult::Memory);
+    };
+    match SqlSpace::adopt(alloc, database) {
+        Ok((space, _)) => Ok(AirspaceCopy::new(alloc, space.release())),
+        Err(_) => Err(BackupResult::Memory),
     }
-    match SqlSpace::open(rt, path, Unknown) {
-        Ok((space, _)) => Ok(Making::Copies(AirspaceCopy::new(rt.alloc(), space.release()))),
-        Err((_, remains)) => {
-            let _left = remains.close();
-            Err(BackupResult::WriteFailed)
-        }
+}
+
+// Closes the database.
+fn close(
+    database: MemoryDatabase,
+    next: NextFile,
+    identity: Identity,
+) -> Result<Making, BackupResult> {
+    match close_database(database) {
+        Ok(content) => Ok(Making::Writes(content, next, identity)),
+        Err(_) => Err(BackupResult::Memory),
     }
+}
+
+// Writes a chunk of the content.
+fn write(content: MemoryFile, mut next: NextFile, identity: Identity) -> io::Result<Making> {
+    Ok(if next.write(&content)? {
+        Making::Stores(next, identity)
+    } else {
+        Making::Writes(content, next, identity)
+    })
+}
+
+// Waits until the system has stored the file. Then the whole chain is known.
+fn store(alloc: Global, next: NextFile, identity: Identity) -> io::Result<Making> {
+    let Identity { name, chain } = identity;
+    let digest = next.finish()?;
+    Ok(Making::Chains(name, chain.with_file(alloc, name.revision, &digest)?))
 }
 
 impl<'a> PoolFileMaker<'a> {
@@ -94,6 +136,7 @@ impl<'a> PoolFileMaker<'a> {
             beginning,
             making: None,
             lock: None,
+            patience: Patience::new(rt),
         }
     }
 
@@ -104,84 +147,48 @@ impl<'a> PoolFileMaker<'a> {
             Ok(None) => return Err(BackupResult::Busy),
             Err(error) => return Err(failed(error)),
         }
-        let Ok(path) = self.files.next() else {
-            return Err(BackupResult::Memory);
-        };
-        self.making = Some(new_copy(self.rt, path.as_str())?);
+        let next = self.next_file().map_err(failed)?;
+        self.making = Some(Making::Copies(new_copy(self.rt.alloc())?, next));
         Ok(())
+    }
+
+    // Creates the file that is not complete yet.
+    fn next_file(&self) -> io::Result<NextFile> {
+        let path = self.files.next()?;
+        NextFile::create(self.rt, path.as_str())
     }
 
     // Makes a step of the copy. Once it has the airspace, its name and its chain are known. While
     // the log has given more than the instance has taken, the copy waits.
     fn copy<'b>(
         &self,
-        mut copy: AirspaceCopy<FileStore<FileFrom<Unknown>>>,
+        mut copy: MemoryCopy,
+        next: NextFile,
         backend: &EtcdInstance<'b>,
     ) -> Result<Making, BackupResult> {
         let log = backend.instance().log();
         let (revision, count) = log.position();
         if count != backend.instance().taken() {
-            return Ok(Making::Copies(copy));
+            return Ok(Making::Copies(copy, next));
         }
         let Ok(shown) = backend.snapshot() else {
             return Err(BackupResult::ReadFailed);
         };
         match copy.step(shown, count) {
             Ok(true) => {}
-            Ok(false) => return Ok(Making::Copies(copy)),
-            Err(_) => return Err(BackupResult::WriteFailed),
+            Ok(false) => return Ok(Making::Copies(copy, next)),
+            Err(_) => return Err(BackupResult::Memory),
         }
+        let Ok(chain) = ChainText::of(self.rt.alloc(), log.chain()) else {
+            return Err(BackupResult::Memory);
+        };
         let name = FileName {
             revision,
             settings: self.settings,
             beginning: self.beginning,
         };
-        match ChainText::of(self.rt.alloc(), log.chain()) {
-            Ok(chain) => Ok(Making::Closes(copy.into_connection(), name, chain)),
-            Err(_) => Err(BackupResult::Memory),
-        }
-    }
-
-    // Closes the database, and opens it to compute the digest of its content.
-    fn close(
-        &self,
-        database: FileDatabase,
-        name: FileName,
-        chain: ChainText,
-    ) -> Result<Making, BackupResult> {
-        if database.close().is_err() {
-            return Err(BackupResult::WriteFailed);
-        }
-        let Ok(path) = self.files.next() else {
-            return Err(BackupResult::Memory);
-        };
-        match Digesting::open(self.rt, path.as_str()) {
-            Ok(digesting) => Ok(Making::Digests(digesting, name, chain)),
-            Err(error) => Err(failed(error)),
-        }
-    }
-
-    // Reads some chunks of the database.
-    fn digest(
-        &self,
-        mut digesting: Digesting,
-        name: FileName,
-        chain: ChainText,
-    ) -> Result<Making, BackupResult> {
-        for _ in 0..CHUNKS {
-            match digesting.step() {
-                Ok(false) => {}
-                Ok(true) => {
-                    let digest = digesting.finish();
-                    return match chain.with_file(self.rt.alloc(), name.revision, &digest) {
-                        Ok(text) => Ok(Making::Chains(name, text)),
-                        Err(_) => Err(BackupResult::Memory),
-                    };
-                }
-                Err(error) => return Err(failed(error)),
-            }
-        }
-        Ok(Making::Digests(digesting, name, chain))
+        let identity = Identity { name, chain };
+        Ok(Making::Closes(copy.into_connection(), next, identity))
     }
 
     // Returns the size of the file of that name.
@@ -206,6 +213,11 @@ impl<'a> PoolFileMaker<'a> {
     // Gives the database its name.
     fn name(&self, name: FileName) -> io::Result<Making> {
         self.files.put(name)?;
+        Ok(Making::Clears(name))
+    }
+
+    // Removes older files.
+    fn clear(&self, name: FileName) -> io::Result<Making> {
         self.files.keep_two()?;
         Ok(Making::Nothing(self.size(name)?))
     }
@@ -213,11 +225,17 @@ impl<'a> PoolFileMaker<'a> {
     // Makes a step. Returns what is left to do.
     fn step<'b>(&self, making: Making, backend: &EtcdInstance<'b>) -> Result<Making, BackupResult> {
         match making {
-            Making::Copies(copy) => self.copy(copy, backend),
-            Making::Closes(database, name, chain) => self.close(database, name, chain),
-            Making::Digests(digesting, name, chain) => self.digest(digesting, name, chain),
-            Making::Chains(name, text) => { self.chain(name, text.as_str()).map_err(failed) }
+            Making::Copies(copy, next) => self.copy(copy, next, backend),
+            Making::Closes(database, next, identity) => close(database, next, identity),
+            Making::Writes(content, next, identity) => {
+                write(content, next, identity).map_err(failed)
+            }
+            Making::Stores(next, identity) => {
+                store(self.rt.alloc(), next, identity).map_err(failed)
+            }
+            Making::Chains(name, text) => self.chain(name, text.as_str()).map_err(failed),
             Making::Names(name) => self.name(name).map_err(failed),
+            Making::Clears(name) => self.clear(name).map_err(failed),
             Making::Nothing(size) => Ok(Making::Nothing(size)),
         }
     }
@@ -248,10 +266,15 @@ impl<'a, 'b> MakeBackups<EtcdInstance<'b>> for PoolFileMaker<'a> {
     }
 
     fn go_on(&mut self, backend: &EtcdInstance<'b>) -> Progress {
+        if backend.instance().waiting() != 0 && self.patience.lasts() {
+            return Progress::GoesOn;
+        }
         let Some(making) = self.making.take() else {
             return Progress::Ended(BackupResult::WriteFailed);
         };
-        match self.step(making, backend) {
+        let stepped = self.step(making, backend);
+        self.patience.note_step();
+        match stepped {
             Ok(Making::Nothing(size)) => {
                 self.end();
                 Progress::Ended(BackupResult::Made(size))

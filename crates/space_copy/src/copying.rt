@@ -52,6 +52,8 @@ pub(crate) struct Copying {
     stamp: u64,
     // The number of rounds during which the airspace changed.
     rounds: u32,
+    // The number of entities that the round has compared.
+    passed: usize,
 }
 
 // Returns the subscriptions from this one on that the tables do not have as they are, as far as the
@@ -219,6 +221,7 @@ impl Copying {
             phase: Phase::Subs(None),
             stamp: 0,
             rounds: 0,
+            passed: 0,
         }
     }
 
@@ -254,7 +257,14 @@ impl Copying {
         from: Option<(Kind, EntityId)>,
         budget: &mut Budget,
     ) -> Result<Phase, Error> {
+        if from.is_none() {
+            self.passed = 0;
+        }
+        let before = budget.looked();
         let (found, next) = other_entities(self.alloc, shown.entities, &self.stored, from, budget)?;
+        self.passed = self
+            .passed
+            .saturating_add(budget.looked().saturating_sub(before));
         for entity in &found {
             write_entity(
                 self.alloc,
@@ -308,9 +318,11 @@ impl Copying {
         })
     }
 
-    // Runs the current phase. Returns the next one, or `None` at the end of the round. An entity in
-    // the tables can reference a subscription that is gone only if the airspace has changed during
-    // the round. Then none is removed in this round.
+    // Runs the current phase. Returns the next one, or `None` at the end of the round.
+    //
+    // If the airspace has not changed during the round, the tables have all its items, and so they
+    // have others only if they have more. An entity in the tables can reference a subscription that
+    // is gone only if the airspace has changed. Then none is removed in this round.
     fn run_phase<S: Alter>(
         &mut self,
         tx: &mut Transaction<'_, S>,
@@ -321,7 +333,11 @@ impl Copying {
         match self.phase {
             Phase::Subs(from) => Ok(Some(self.put_subs(tx, shown, from, budget)?)),
             Phase::Entities(from) => Ok(Some(self.put_entities(tx, shown, from, budget)?)),
+            Phase::GoneEntities(_) if self.stored.entities.len() == self.passed => {
+                Ok(Some(Phase::GoneSubs(0)))
+            }
             Phase::GoneEntities(from) => Ok(Some(self.remove_entities(tx, shown, from, budget)?)),
+            Phase::GoneSubs(_) if self.stored.subs.len() == shown.subscriptions.len() => Ok(None),
             Phase::GoneSubs(from) if is_same => self.remove_subs(tx, shown, from, budget),
             Phase::GoneSubs(_) => Ok(None),
         }
