@@ -191,7 +191,7 @@ serve::serve
         "pool_backend::pool::admit": "Any other waits, unless it is refused",
         "outcomes::answer": "The response, or a connection that waits",
         "server::advance::advance": "The log, once in each round",
-        "pool_backend::pool::ask_and_offer": "Reads wait for a question, changes for a batch",
+        "pool_backend::pool::ask_and_offer": "What is denied, and reads, wait for a question",
         "pool_instance::instance::advance_log": "Bytes to etcd, and from it",
         "pool_instance::instance::learn": "The answer to a question",
         "pool_backend::pool::take_entries": "Entries: their calls, and the replies to the own ones",
