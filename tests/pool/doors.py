@@ -25,6 +25,10 @@ SOONEST = 1
 FAULT_OF_ETCD = re.compile(r"dss: etcd: [0-9.:]+: (time limit|watch behind|watch ended|status 5[0-9][0-9]); trying the next address\n")
 
 
+class Skipped(Exception):
+    """Says why a case cannot be tested here."""
+
+
 def lacking():
     """Returns why there is no program, or None. Without a name of one, ./dss finds or builds it."""
     if "TEST_POOL_DSS" in os.environ or "DSS_PROGRAM" in os.environ:
@@ -36,8 +40,9 @@ def lacking():
 class Door:
     """An instance, which listens on a port."""
 
-    def __init__(self, room, addresses, name, tokens, salt=wire.SALT, file=None, options=(), environment=None):
+    def __init__(self, room, addresses, name, tokens, salt=wire.SALT, file=None, options=(), environment=None, program=PROGRAM):
         self.addresses, self.name, self.options, self.port = addresses, name, options, free_port()
+        self.program = program
         self.environment = {**os.environ, **(environment or {})}
         self.file, self.lines = pathlib.Path(room) / f"{file or name}.toml", []
         self.file.write_text(wire.token_file(tokens, salt))
@@ -48,7 +53,7 @@ class Door:
         return ["--pool", self.addresses, "--as", self.name]
 
     def start(self):
-        words = [PROGRAM, "serve", "--tokens", self.file, *self.words(), "--port", self.port]
+        words = [self.program, "serve", "--tokens", self.file, *self.words(), "--port", self.port]
         words = [*map(str, words), *map(str, self.options)]
         self.process = subprocess.Popen(
             words, stdin=subprocess.DEVNULL, stdout=subprocess.DEVNULL, stderr=subprocess.PIPE, text=True, env=self.environment
@@ -225,11 +230,11 @@ class Pool:
         self.doors.append(door)
         raise AssertionError(f"{name} listens")
 
-    def start_follow(self, folder, tokens, salt=wire.SALT, name="a0", options=(), **more):
+    def start_follow(self, folder, tokens, salt=wire.SALT, name="a0", options=(), program=PROGRAM, **more):
         """Starts `dss follow`, which writes a file of the pool to a directory."""
         file = pathlib.Path(self.room) / f"{name}.toml"
         file.write_text(wire.token_file(tokens, salt))
-        words = [PROGRAM, "follow", "--tokens", file, "--pool", self.cluster.addresses(), "--as", name, "--files", folder, *options]
+        words = [program, "follow", "--tokens", file, "--pool", self.cluster.addresses(), "--as", name, "--files", folder, *options]
         pipes = {"stdin": subprocess.DEVNULL, "stdout": subprocess.PIPE, "stderr": subprocess.PIPE}
         return subprocess.Popen(list(map(str, words)), text=True, **pipes, **more)
 

@@ -1,0 +1,3 @@
+pub mod Blind
+pub mod RealTime
+pub mod Requests

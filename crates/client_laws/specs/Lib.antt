@@ -1,0 +1,3 @@
+pub mod Blind
+pub mod Executions
+pub mod RealTime

@@ -1,0 +1,36 @@
+//! Laws of what clients are sent. Each is the contract of a function that does nothing.
+ghost use Rattle.pool_laws.specs.Clients.{PoolServesEachClient};
+
+use pool_backend::pool::PoolInstance;
+use pool_core::log::Log;
+use pool_core::log_io::LogIo;
+use server_backend::backend::Backend;
+use server_clients::laws::{each_client_is_served, texts_are_of_replies};
+use server_watch::token_watch::TokenSource;
+use space_core::purge_ended::PurgeEnded;
+use space_snapshot::snapshot::SnapshotSource;
+use wire_http::Moments;
+
+/// States that one list of calls and purges explains what the clients of all instances of a pool are
+/// sent.
+///
+/// Each client is sent the texts of the responses to its requests, in order, each once. A text is
+/// that of the policy's reply at the place of the request in the list, or one of status 503. A
+/// response of which a byte was sent before another request was received, at whichever instances, is
+/// earlier in the list.
+///
+/// The instances can start from files. It assumes that the events are those at one log of entries,
+/// and nothing of instances that do not serve.
+pub fn pool_serves_each_client<
+    L: Log + Drop,
+    I: LogIo<L> + Drop,
+    S: PurgeEnded + SnapshotSource + Drop,
+    M: Moments,
+    T: TokenSource,
+>()
+    ensures { PoolServesEachClient I L.Log S.Space ⟦<PoolInstance<L, I, S> as Backend>⟧ M.Moments
+        T.TokenSource }
+{
+    each_client_is_served::<PoolInstance<L, I, S>, M, T>();
+    texts_are_of_replies::<PoolInstance<L, I, S>, M, T>();
+}

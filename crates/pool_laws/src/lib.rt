@@ -1,0 +1,4 @@
+//! Laws of a pool: what the clients of all its instances are sent.
+#![tactic(auto)]
+
+pub mod laws;
