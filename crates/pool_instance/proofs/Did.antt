@@ -1,5 +1,5 @@
 -- Lemmas: what the operations of an instance did.
-use Rattle.std.proofs.Common.{◌≡◌, ℕ, suc, ◌+◌, true, false, List, [], ◌∷◌, ◌++◌, map, Option, Some, None, refl, sym, ap, subst, ◌∙◌, arith, inl, inr, append_assoc}
+use Rattle.std.proofs.Common.{◌≡◌, ℕ, suc, ◌+◌, Bool, true, false, List, [], ◌∷◌, ◌++◌, map, Option, Some, None, refl, sym, ap, subst, ◌∙◌, arith, inl, inr, append_assoc}
 use Rattle.std.specs.Prelude.{Contains, find}
 use Rattle.std.specs.List.{flat_map}
 use Rattle.std.specs.declared.vec.Vec.{Vec}
@@ -241,17 +241,17 @@ module _ {L S : Type 0} (gl : logs.Ghosts L) (gs : spaces.Ghosts S) where
 
   -- ---- questions
 
-  pub did_ask : (old new : Instance L S) (q : ℕ) → Kept old new (AsksEnd q ∷ []) → new.in_flight ≡ old.in_flight → readings_in new ≡ map (asked q) (readings_in old) → unsent_in new ≡ unsent_in old → new.received ≡ old.received
+  pub did_ask : (f : Bool) (old new : Instance L S) (q : ℕ) → Kept old new (AsksEnd q ∷ []) → new.in_flight ≡ old.in_flight → readings_in new ≡ map (asked f q) (readings_in old) → unsent_in new ≡ unsent_in old → new.received ≡ old.received
       → Did gl gs old (AsksForEnd q ∷ []) new
-  did_ask old new q k flight rs hs n =
+  did_ask f old new q k flight rs hs n =
       let more = AsksForEnd q ∷ [] in
       did_kept old new more k (record { given = refl; offered = refl }) (omega (arith, n))
       (λ events h. subst (λ v. IsInFlight (gl.writer (log_of old)) events v) (sym flight) h)
       (λ start events all. (tt, tt))
       (λ events all.
-      requests_same (events ++ more) (events ++ more) (map (asked q) (readings_in old)) (readings_in new) (unsent_in old) (unsent_in new) (sent_in old) (sent_in new) old.received new.received
+      requests_same (events ++ more) (events ++ more) (map (asked f q) (readings_in old)) (readings_in new) (unsent_in old) (unsent_in new) (sent_in old) (sent_in new) old.received new.received
       refl rs hs (ap (λ v. sent_by v) flight) n
-      (asks_then events q (readings_in old) (unsent_in old) (sent_in old) old.received all))
+      (asks_then f events q (readings_in old) (unsent_in old) (sent_in old) old.received all))
 
   pub did_learn : (old new : Instance L S) (q count : ℕ) → Kept old new (TellsEnd q count ∷ []) → new.in_flight ≡ old.in_flight → readings_in new ≡ map (told q count) (readings_in old) → unsent_in new ≡ unsent_in old → new.received ≡ old.received
       → Did gl gs old (LearnsEnd q count ∷ []) new

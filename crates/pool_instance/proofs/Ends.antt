@@ -12,7 +12,7 @@ use Rattle.pool_core.specs.Serves.{AreOpen, IsOpen, ended_in, ids_offered, offer
 use Rattle.pool_core.proofs.Lists.{contains_at, contains_head, contains_same}
 use Rattle.pool_core.proofs.Projections.{same_number}
 use Rattle.pool_instance.specs.Lists.{asked, told}
-use Rattle.pool_instance.specs.Parts.{asked_stage, ids_of, is_number, number_of, stage_after, unsent_ids}
+use Rattle.pool_instance.specs.Parts.{ids_of, is_number, is_unasked, number_of, stage_after, unsent_ids}
 use Rattle.pool_instance.specs.Request.{call_of}
 use Rattle.pool_instance.specs.State.{AreRequests, IsAtStage, IsHeld, IsWaiting}
 use Rattle.pool_instance.specs.declared.waiting.Held.{Held}
@@ -112,15 +112,14 @@ asks_no_receipt q id call h = cc
 learns_no_receipt : (q count : ℕ) → IsNoReceipt (LearnsEnd q count)
 learns_no_receipt q count id call h = cc
 
-asked_at : (events : List InstanceEvent) (q id : ℕ) (call : Call) (s : Stage) → IsOpen events id call → IsAtStage events id call s → IsAtStage (events ++ AsksForEnd q ∷ []) id call (asked_stage q s)
-asked_at events q id call Fresh is h = asks_for events id call q is.received
-asked_at events q id call (Asked p) is h = stage_more events (AsksForEnd q ∷ []) id call (Asked p) h
-asked_at events q id call (Until count) is h = stage_more events (AsksForEnd q ∷ []) id call (Until count) h
+asked_at : (events : List InstanceEvent) (q id : ℕ) (call : Call) (asks : Bool) (s : Stage) → IsOpen events id call → IsAtStage events id call s → IsAtStage (events ++ AsksForEnd q ∷ []) id call (if asks then Asked q else s)
+asked_at events q id call true s is h = asks_for events id call q is.received
+asked_at events q id call false s is h = stage_more events (AsksForEnd q ∷ []) id call s h
 
-pub asks_then : (events : List InstanceEvent) (q : ℕ) (rs : List Reading) (hs : List Held) (slots : List (Option ℕ)) (n : ℕ) → AreRequests events rs hs slots n → AreRequests (events ++ AsksForEnd q ∷ []) (map (asked q) rs) hs slots n
-asks_then events q rs hs slots n all =
-    stages_then events (AsksForEnd q) (asks_no_receipt q) refl (asked q) (λ r. refl) rs hs slots n all refl
-    (λ r w. asked_at events q r.held.id (call_of r.held.request) r.stage w.held.opens w.stage)
+pub asks_then : (f : Bool) (events : List InstanceEvent) (q : ℕ) (rs : List Reading) (hs : List Held) (slots : List (Option ℕ)) (n : ℕ) → AreRequests events rs hs slots n → AreRequests (events ++ AsksForEnd q ∷ []) (map (asked f q) rs) hs slots n
+asks_then f events q rs hs slots n all =
+    stages_then events (AsksForEnd q) (asks_no_receipt q) refl (asked f q) (λ r. refl) rs hs slots n all refl
+    (λ r w. asked_at events q r.held.id (call_of r.held.request) (is_unasked f r) r.stage w.held.opens w.stage)
 
 learned_case : (events : List InstanceEvent) (q count p id : ℕ) (call : Call) → IsAtStage events id call (Asked p) → (b : Bool) → (q == p) ≡ b → IsAtStage (events ++ LearnsEnd q count ∷ []) id call (if b then Until count else Asked p)
 learned_case events q count p id call h true is =

@@ -1,16 +1,20 @@
 -- Lemmas: an operation that failed.
-use Rattle.std.proofs.Common.{◌≡◌, ℕ, true, false, List, map, refl, sym, subst, inl}
+use Rattle.std.proofs.Common.{◌≡◌, ◌||◌, get_or, ℕ, Bool, not, true, false, if◌then◌else◌, List, map, refl, sym, subst, inl}
 use Rattle.std.specs.Prelude.{All}
 use Rattle.std.proofs.lemmas.List.Elements.{All-map}
+use Rattle.policy_core.specs.declared.call.Call.{Call}
 use Rattle.space_core.specs.declared.space.Space as spaces
+use Rattle.pool_core.specs.Unlogged.{reads}
 use Rattle.pool_core.specs.declared.log.Log as logs
 use Rattle.pool_core.specs.declared.log.LogFault.{LogFault}
 use Rattle.pool_core.specs.declared.log.LogFault.TheVariants as faults
 use Rattle.pool_instance.specs.Does.{FailedSo, StoppedSo}
 use Rattle.pool_instance.specs.Effects.{FailsLog, with_end}
 use Rattle.pool_instance.specs.Lists.{asked}
-use Rattle.pool_instance.specs.Parts.{asked_stage, is_ended, is_fresh, is_fresh_by}
+use Rattle.pool_instance.specs.Parts.{is_ended, is_unasked, is_unasked_by}
+use Rattle.pool_instance.specs.Request.{call_of}
 use Rattle.pool_instance.specs.declared.fault.InstanceFault.{InstanceFault}
+use Rattle.pool_instance.specs.Request.{call_of}
 use Rattle.pool_instance.specs.declared.fault.InstanceFault.TheVariants.{Ended, NoMemory}
 use Rattle.pool_instance.specs.declared.instance.Instance.{Instance}
 use Rattle.pool_instance.specs.declared.waiting.Reading.{Reading}
@@ -18,18 +22,20 @@ use Rattle.pool_instance.specs.declared.waiting.Stage.{Stage}
 use Rattle.pool_instance.specs.declared.waiting.Stage.TheVariants.{Asked, Fresh, Until}
 use Rattle.pool_instance.proofs.After.{Alike, did_alike, did_nothing, ids_alike}
 
-stage_asked : (q : ℕ) (s : Stage) → is_fresh_by (asked_stage q s) ≡ false
-stage_asked q Fresh = refl
-stage_asked q (Asked p) = refl
-stage_asked q (Until n) = refl
+open_asked : (q : ℕ) (f : Bool) (call : Call) (may : Bool) → (not f || reads call.op) ≡ may → is_unasked_by f call (if may then Asked q else Fresh) ≡ false
+open_asked q f call true is = refl
+open_asked q f call false is = is
 
-pub not_fresh : (s : Stage) → (s ≡ Fresh → ⊥) → is_fresh_by s ≡ false
-not_fresh Fresh h = absurd (h refl)
-not_fresh (Asked p) h = refl
-not_fresh (Until n) h = refl
+stage_asked : (q : ℕ) (f : Bool) (call : Call) (s : Stage) → is_unasked_by f call (if is_unasked_by f call s then Asked q else s) ≡ false
+stage_asked q f call Fresh = open_asked q f call (not f || reads call.op) refl
+stage_asked q f call (Asked p) = refl
+stage_asked q f call (Until n) = refl
 
-pub none_fresh : (q : ℕ) (rs : List Reading) → All (λ r. is_fresh r ≡ false) (map (asked q) rs)
-none_fresh q rs = All-map (λ r. is_fresh r ≡ false) (asked q) rs (λ k d lt. stage_asked q _)
+asked_one : (q : ℕ) (f : Bool) (r : Reading) → is_unasked f (asked f q r) ≡ false
+asked_one q f r = stage_asked q f (call_of r.held.request) r.stage
+
+pub none_unasked : (f : Bool) (q : ℕ) (rs : List Reading) → All (λ r. is_unasked f r ≡ false) (map (asked f q) rs)
+none_unasked f q rs = All-map (λ r. is_unasked f r ≡ false) (asked f q) rs (λ k d lt. asked_one q f (get_or rs k d))
 
 module _ {L S : Type 0} (gl : logs.Ghosts L) (gs : spaces.Ghosts S) where
   pub alike_self : (x : Instance L S) → Alike gl gs x x

@@ -69,12 +69,12 @@ set_told question count xs ys i x s lt inv read is =
     ap (λ (v : Stage). record { held = (get_or ys i x).held; stage = v }) is ∙ ap (λ (v : Reading). told question count v) (sym read) in
     ap (λ (v : Reading). set ys i v) made ∙ map_over_more (told question count) xs ys i x lt inv read
 
-pub set_asked : (question : ℕ) (xs ys : List Reading) (i : ℕ) (x : Reading) (s : Stage) → i < length xs → ys ≡ map (asked question) (take i xs) ++ drop i xs → x ≡ get_or ys i x → s ≡ asked_stage question (get_or ys i x).stage
-    → set ys i (record { held = (get_or ys i x).held; stage = s }) ≡ map (asked question) (take (i + 1) xs) ++ drop (i + 1) xs
-set_asked question xs ys i x s lt inv read is =
-    let made : record { held = (get_or ys i x).held; stage = s } ≡ asked question x =
-    ap (λ (v : Stage). record { held = (get_or ys i x).held; stage = v }) is ∙ ap (λ (v : Reading). asked question v) (sym read) in
-    ap (λ (v : Reading). set ys i v) made ∙ map_over_more (asked question) xs ys i x lt inv read
+pub set_asked : (in_flight : Bool) (question : ℕ) (xs ys : List Reading) (i : ℕ) (x : Reading) (s : Stage) → i < length xs → ys ≡ map (asked in_flight question) (take i xs) ++ drop i xs → x ≡ get_or ys i x
+    → s ≡ asked_stage in_flight question (get_or ys i x) → set ys i (record { held = (get_or ys i x).held; stage = s }) ≡ map (asked in_flight question) (take (i + 1) xs) ++ drop (i + 1) xs
+set_asked in_flight question xs ys i x s lt inv read is =
+    let made : record { held = (get_or ys i x).held; stage = s } ≡ asked in_flight question x =
+    ap (λ (v : Stage). record { held = (get_or ys i x).held; stage = v }) is ∙ ap (λ (v : Reading). asked in_flight question v) (sym read) in
+    ap (λ (v : Reading). set ys i v) made ∙ map_over_more (asked in_flight question) xs ys i x lt inv read
 
 pub there_iff : (slots : List (Option ℕ)) (id : ℕ) (o : Option ℕ) → position (is_number id) slots ≡ o
     → (is_some o ≡ true → Contains (flat_map number_of slots) id) × (Contains (flat_map number_of slots) id → is_some o ≡ true)

@@ -1,5 +1,5 @@
 -- What the operations of an instance do: the events that each adds, and what it must answer.
-use Rattle.std.specs.Prelude.{◌≡◌, ◌==◌, ◌<◌, ◌≤◌, ◌+◌, ◌⊎◌, ℕ, zero, suc, Bool, true, false, List, [], ◌∷◌, ◌++◌, All, Contains, IsSome, Option, Some, None, Result, Ok, Err, find, length, map, min, take}
+use Rattle.std.specs.Prelude.{◌≡◌, ◌==◌, ◌<◌, ◌≤◌, ◌+◌, ◌⊎◌, ℕ, zero, suc, Bool, true, false, List, [], ◌∷◌, ◌++◌, All, Contains, IsSome, is_some, Option, Some, None, Result, Ok, Err, find, length, map, min, take}
 use Rattle.std.specs.declared.vec.Vec.{Vec}
 use Rattle.entity_core.specs.Airspace.{Airspace}
 use Rattle.policy_core.specs.declared.call.Call.{Call}
@@ -16,8 +16,8 @@ use Rattle.pool_entry.specs.Acts.{acts_of}
 use Rattle.pool_entry.specs.Spelling.{IsBatch}
 use Rattle.pool_entry.specs.declared.pool_call.PoolCall.{PoolCall}
 use Rattle.pool_instance.specs.Evaluate.{IsOffered}
-use Rattle.pool_instance.specs.Lists.{AreWritten}
-use Rattle.pool_instance.specs.Parts.{count_received, count_taken, heard_in, ids_in, ids_sent, ids_unsent, is_due, is_due_as, is_ended, is_fresh, log_of, purges_in, readings_in, retention_in, salt_in, sent_in, space_in, unsent_in}
+use Rattle.pool_instance.specs.Lists.{AreWritten, asked}
+use Rattle.pool_instance.specs.Parts.{count_received, count_taken, heard_in, ids_in, ids_sent, ids_unsent, is_due_as, is_ended, is_unasked, log_of, purges_in, readings_in, retention_in, salt_in, sent_in, space_in, unsent_in}
 use Rattle.pool_instance.specs.Request.{call_of}
 use Rattle.pool_instance.specs.State.{IsAfter}
 use Rattle.pool_instance.specs.declared.fault.InstanceFault.{InstanceFault}
@@ -120,12 +120,14 @@ module _ {L S : Type 0} (gl : logs.Ghosts L) (gs : spaces.Ghosts S) where
 
   -- ---- ask and learn
 
-  -- Holds if the instance asked for the end of the log if some reading had come since the last
-  -- question. No reading is left that no question is for.
+  -- Holds if the instance asked for the end of the log if some request had come since the last
+  -- question that one can be for. None of these is left.
   abbrev pub AskedSo : Instance L S → Instance L S → Result Bool InstanceFault → Type 0
-  AskedSo old new (Ok true) = ((question : ℕ) × Did old (AsksForEnd question ∷ []) new)
-      × All (λ r. is_fresh r ≡ false) (readings_in new)
-  AskedSo old new (Ok false) = DidNothing old new × All (λ r. is_fresh r ≡ false) (readings_in new)
+  AskedSo old new (Ok true) = ((question : ℕ) × Did old (AsksForEnd question ∷ []) new
+      × (readings_in new ≡ map (asked (is_some old.in_flight) question) (readings_in old)))
+      × All (λ r. is_unasked (is_some old.in_flight) r ≡ false) (readings_in new)
+  AskedSo old new (Ok false) = DidNothing old new
+      × All (λ r. is_unasked (is_some old.in_flight) r ≡ false) (readings_in new)
   AskedSo old new (Err fault) = FailedSo old new fault
 
   -- Holds if the instance learned an end, if the log told one.

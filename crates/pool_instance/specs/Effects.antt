@@ -14,7 +14,6 @@ use Rattle.pool_core.specs.declared.log.LogFault.TheVariants as faults
 use Rattle.pool_entry.specs.Acts.{acts_of}
 use Rattle.pool_instance.specs.Lists.{DidActs, told_of}
 use Rattle.pool_instance.specs.Parts.{count_taken, heard_in, is_ended, log_of, readings_in, retention_in, sent_in, unsent_in}
-use Rattle.pool_instance.specs.Request.{call_of}
 use Rattle.pool_instance.specs.declared.fault.InstanceFault.{InstanceFault}
 use Rattle.pool_instance.specs.declared.fault.InstanceFault.TheVariants.{Ended, NoMemory}
 use Rattle.pool_instance.specs.declared.instance.Instance.{Instance}

@@ -16,8 +16,8 @@ use Rattle.pool_instance.specs.declared.waiting.Held.{Held}
 use Rattle.pool_instance.specs.declared.waiting.Reading.{Reading}
 
 -- A reading after a question, and after its answer.
-abbrev pub asked : (question : ℕ) → Reading → Reading
-asked question r = record r { stage = asked_stage question r.stage }
+abbrev pub asked : (in_flight : Bool) → (question : ℕ) → Reading → Reading
+asked in_flight question r = record r { stage = asked_stage in_flight question r }
 
 abbrev pub told : (question count : ℕ) → Reading → Reading
 told question count r = record r { stage = stage_after question count r.stage }

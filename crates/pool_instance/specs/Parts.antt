@@ -1,8 +1,11 @@
 -- The parts of an instance.
-use Rattle.std.specs.Prelude.{◌≡◌, ◌==◌, ◌&&◌, ℕ, Bool, true, false, nat_lt, not, List, [], ◌∷◌, ◌++◌, Option, Some, None, map, slice_get, if◌then◌else◌}
+use Rattle.std.specs.Prelude.{◌≡◌, ◌==◌, ◌&&◌, ◌||◌, ℕ, Bool, true, false, nat_lt, not, List, [], ◌∷◌, ◌++◌, Option, Some, None, map, slice_get, if◌then◌else◌}
 use Rattle.std.specs.List.{flat_map}
 use Rattle.std.specs.declared.vec.Vec.{Vec}
+use Rattle.policy_core.specs.declared.call.Call.{Call}
 use Rattle.service_calls.specs.Held.{salt_of, space_of}
+use Rattle.pool_core.specs.Unlogged.{reads}
+use Rattle.pool_instance.specs.Request.{call_of}
 use Rattle.pool_instance.specs.declared.instance.Instance.{Instance}
 use Rattle.pool_instance.specs.declared.purge_totals.PurgeTotals.{PurgeTotals}
 use Rattle.pool_instance.specs.declared.waiting.Held.{Held}
@@ -88,12 +91,14 @@ ids_in x = ids_of (readings_in x) (unsent_in x) (sent_in x)
 
 -- ---- stages
 
-abbrev pub is_fresh_by : Stage → Bool
-is_fresh_by Fresh = true
-is_fresh_by stage = false
+-- Returns true if the next question is for the request. While a batch is in flight it is not for a
+-- change, whose denial then says that the batch came before it.
+abbrev pub is_unasked_by : (in_flight : Bool) → Call → Stage → Bool
+is_unasked_by in_flight call Fresh = not in_flight || reads call.op
+is_unasked_by in_flight call stage = false
 
-abbrev pub is_fresh : Reading → Bool
-is_fresh r = is_fresh_by r.stage
+abbrev pub is_unasked : (in_flight : Bool) → Reading → Bool
+is_unasked in_flight r = is_unasked_by in_flight (call_of r.held.request) r.stage
 
 -- Returns true if an instance that took so many entries can answer the reading.
 abbrev pub is_due_by : ℕ → Stage → Bool
@@ -113,9 +118,9 @@ IsDueAt taken rs index id = (r : Reading) × (slice_get rs index ≡ Some r) × 
     × (is_due taken r ≡ true)
 
 -- The stage after a question.
-abbrev pub asked_stage : (question : ℕ) → Stage → Stage
-asked_stage question Fresh = Asked question
-asked_stage question stage = stage
+abbrev pub asked_stage : (in_flight : Bool) → (question : ℕ) → Reading → Stage
+asked_stage in_flight question r =
+    if is_unasked in_flight r then Asked question else r.stage
 
 -- The stage after the answer to a question.
 abbrev pub stage_after : (question : ℕ) → (count : ℕ) → Stage → Stage

@@ -5,7 +5,7 @@ use crate::outcome::{Outcome, Unanswered};
 use crate::purge_totals::PurgeTotals;
 use crate::request::Request;
 use crate::requests::{
-    Draft, do_acts, first_batch, has_fresh, is_reading_due, note_end, note_question, pair,
+    Draft, do_acts, first_batch, has_unasked, is_reading_due, note_end, note_question, pair,
     place_of_change, place_of_due, place_of_reading, place_of_sent,
 };
 use crate::waiting::{Held, Reading, Stage};
@@ -249,20 +249,22 @@ impl<L: Log + Drop, S: PurgeEnded + Drop> Instance<L, S> {
         Ok(())
     }
 
-    /// Asks for the end of the log, if a request has come since the last question that waits for it.
-    /// Returns true if it asked.
+    /// Asks for the end of the log, if a request that waits for it has come since the last question.
+    /// A change counts only while no batch is in flight, so a change that was sent again is denied
+    /// only after the outcome of the first one. Returns true if it asked.
     pub fn ask(&mut self) -> Result<bool, InstanceFault>
         ensures { AskedSo L.Log S.Space self.old self.new result }
     {
         if self.ended {
             return Err(InstanceFault::Ended);
         }
-        if !has_fresh(self.readings.as_slice()) {
+        let in_flight = self.in_flight.is_some();
+        if !has_unasked(self.readings.as_slice(), in_flight) {
             return Ok(false);
         }
         match self.log.ask_end() {
             Ok(question) => {
-                note_question(self.readings.as_mut_slice(), question);
+                note_question(self.readings.as_mut_slice(), question, in_flight);
                 Ok(true)
             }
             Err(fault) => Err(self.fail_log(fault)),
@@ -324,8 +326,8 @@ impl<L: Log + Drop, S: PurgeEnded + Drop> Instance<L, S> {
     /// place of the entry. Returns true if it offered one.
     ///
     /// The purge ends the retention before `now` (Unix seconds), and before the last call of another
-    /// instance, whichever is earlier: one clock that is wrong purges no flight. Only calls count
-    /// that were written with another clock, after this instance started. Offers no purge without a
+    /// instance, whichever is earlier: a clock that is ahead purges nothing too early while the
+    /// other one is right. Only calls count that were written with another clock, after this instance started. Offers no purge without a
     /// retention, less than a minute after the end of the last purge, or while a batch or a purge is
     /// in flight.
     pub fn offer_purge(&mut self, alloc: Global, now: u64) -> Result<bool, InstanceFault>

@@ -9,7 +9,7 @@ ghost use Rattle.pool_instance.specs.declared.waiting.Held.{Held};
 ghost use Rattle.pool_instance.specs.declared.waiting.Reading.{Reading};
 ghost use Rattle.pool_instance.specs.Effects.{IsLastTime};
 ghost use Rattle.pool_instance.specs.Lists.{DidKeeping, IsFirstBatch, asked, told, told_of};
-ghost use Rattle.pool_instance.specs.Parts.{asked_stage, is_due, is_due_as, is_due_by, is_fresh, is_number};
+ghost use Rattle.pool_instance.specs.Parts.{asked_stage, is_due, is_due_as, is_due_by, is_number, is_unasked};
 ghost use Rattle.pool_instance.specs.Parts.{stage_after};
 
 use crate::purge_totals::PurgeTotals;
@@ -40,33 +40,45 @@ pub(crate) fn reads(op: &Operation) -> bool
     )
 }
 
-/// Returns true if no question is for some request that waits for the end of the log.
-pub(crate) fn has_fresh(readings: &[Reading]) -> bool
-    ensures { result ≡ false → All (λ r. is_fresh r ≡ false) readings.now }
+// Returns true if the next question is for the request. While a batch is in flight it is not for a
+// change: one that is sent again is denied only after the outcome of its first one.
+fn is_unasked(reading: &Reading, in_flight: bool) -> bool
+    ensures { result ≡ is_unasked in_flight reading.now }
+{
+    match reading.stage {
+        Stage::Fresh => !in_flight || reads(&reading.held.request.call().op),
+        _ => false,
+    }
+}
+
+/// Returns true if the next question is for some request.
+pub(crate) fn has_unasked(readings: &[Reading], in_flight: bool) -> bool
+    ensures { result ≡ false → All (λ r. is_unasked in_flight r ≡ false) readings.now }
 {
     for reading in readings {
-        if let Stage::Fresh = reading.stage {
+        if is_unasked(reading, in_flight) {
             return true;
         }
     }
     false
 }
 
-fn asked_stage(question: u64, stage: Stage) -> Stage
-    ensures { result ≡ asked_stage question stage }
+fn asked_stage(question: u64, in_flight: bool, reading: &Reading) -> Stage
+    ensures { result ≡ asked_stage in_flight question reading.now }
 {
-    match stage {
-        Stage::Fresh => Stage::Asked(question),
-        stage => stage,
+    if is_unasked(reading, in_flight) {
+        Stage::Asked(question)
+    } else {
+        reading.stage
     }
 }
 
-/// Notes that a question is for all requests that no question was for.
-pub(crate) fn note_question(readings: &mut [Reading], question: u64)
-    ensures { readings.new ≡ map (asked question) readings.old }
+/// Notes that a question is for all requests that the next one was to be for.
+pub(crate) fn note_question(readings: &mut [Reading], question: u64, in_flight: bool)
+    ensures { readings.new ≡ map (asked in_flight question) readings.old }
 {
     for reading in readings.iter_mut() {
-        reading.stage = asked_stage(question, reading.stage);
+        reading.stage = asked_stage(question, in_flight, reading);
     }
 }
 

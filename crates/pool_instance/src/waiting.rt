@@ -16,7 +16,7 @@ pub(crate) struct Held {
 /// What a request that waits for the end of the log waits for.
 #[derive(Clone, Copy, Debug, PartialEq, Eq)]
 pub(crate) enum Stage {
-    /// The next question for the end of the log.
+    /// The next question for the end of the log. A change also waits for the batch in flight.
     Fresh,
     /// The answer to the question with this number.
     Asked(u64),

@@ -1,7 +1,0 @@
-use Rattle.std.proofs.Common.{◌≡◌, false, take}
-use Rattle.std.specs.Prelude.{All}
-use Rattle.pool_instance.specs.Parts.{is_fresh}
-use Rattle.pool_instance.proofs.requests.has_fresh.Given as goal
-
-abbrev pub invariant-loop-reading : goal.invariant-loop-reading
-invariant-loop-reading l = All (λ r. is_fresh r ≡ false) (take l.reading-index l.readings)
