@@ -11,7 +11,7 @@ FOR_TESTS = "test_"
 # The layers: of each how the names of its crates begin, the colour of their boxes and that of their lines. The first
 # layer that fits counts.
 LAYERS = {
-    "program": (("dss", "server", "database_"), "#e4ecf7", "#3b6aa0"),
+    "program": (("dss", "server", "database_", "client_"), "#e4ecf7", "#3b6aa0"),
     "wire": (("wire_", "token_"), "#fdeedd", "#c1741c"),
     "service and policy": (("service_", "policy_"), "#e3f3e6", "#3a8a4d"),
     "entities and cells": (("entity_", "grid_"), "#efe6f6", "#7a4ba0"),
