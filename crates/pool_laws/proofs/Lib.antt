@@ -1,3 +1,4 @@
 pub mod Answered
+pub mod Purges
 pub mod Served
 pub mod Within

@@ -1,5 +1,6 @@
 //! Laws of what clients are sent. Each is the contract of a function that does nothing.
 ghost use Rattle.pool_laws.specs.Clients.{PoolServesEachClient};
+ghost use Rattle.pool_laws.specs.Purges.{PoolReadersMayLookBack};
 
 use pool_backend::pool::PoolInstance;
 use pool_core::log::Log;
@@ -34,3 +35,12 @@ pub fn pool_serves_each_client<
     each_client_is_served::<PoolInstance<L, I, S>, M, T>();
     texts_are_of_replies::<PoolInstance<L, I, S>, M, T>();
 }
+
+/// States that forward-looking calls of a pool get the replies that they get without its purges, even
+/// if other calls read what has ended.
+///
+/// Every call that is not forward-looking must change nothing. So one read of a flight that has ended
+/// leaves the law as it is for all others.
+pub fn readers_may_look_back()
+    ensures { PoolReadersMayLookBack }
+{}
