@@ -1,4 +1,5 @@
 pub mod Answered
+pub mod Program
 pub mod Purges
 pub mod Served
 pub mod Within

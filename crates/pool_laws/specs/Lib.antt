@@ -1,3 +1,4 @@
 pub mod Clients
+pub mod Program
 pub mod Purges
 pub mod Steps

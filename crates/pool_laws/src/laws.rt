@@ -1,5 +1,6 @@
 //! Laws of what clients are sent. Each is the contract of a function that does nothing.
 ghost use Rattle.pool_laws.specs.Clients.{PoolServesEachClient};
+ghost use Rattle.pool_laws.specs.Program.{ProgramServes};
 ghost use Rattle.pool_laws.specs.Purges.{PoolReadersMayLookBack};
 
 use pool_backend::pool::PoolInstance;
@@ -35,6 +36,21 @@ pub fn pool_serves_each_client<
     each_client_is_served::<PoolInstance<L, I, S>, M, T>();
     texts_are_of_replies::<PoolInstance<L, I, S>, M, T>();
 }
+
+/// States that an instance which served its clients as `dss_command::pool::serve_pool_port` says is
+/// one that `pool_serves_each_client` asks for.
+///
+/// The steps are those of all processes of the pool in one order, in which each has its own.
+pub fn program_serves<
+    L: Log + Drop,
+    I: LogIo<L> + Drop,
+    S: PurgeEnded + SnapshotSource + Drop,
+    M: Moments,
+    T: TokenSource,
+>()
+    ensures { ProgramServes I L.Log S.Space ⟦<PoolInstance<L, I, S> as Backend>⟧ M.Moments
+        T.TokenSource }
+{}
 
 /// States that forward-looking calls of a pool get the replies that they get without its purges, even
 /// if other calls read what has ended.
