@@ -10,3 +10,4 @@ pub mod States
 pub mod Steps
 pub mod Tellings
 pub mod Turns
+mod Waits

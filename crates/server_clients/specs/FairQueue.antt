@@ -1,6 +1,7 @@
 -- Fair queuing: which client may be picked.
-use Rattle.std.specs.Prelude.{◌≡◌, ◌≤◌, ◌++◌, ◌&&◌, ◌||◌, ◌/◌, nat_le, nat_lt, ℕ, Bool, true, not, List, length, Some}
+use Rattle.std.specs.Prelude.{◌≡◌, ◌≤◌, ◌<◌, ◌+◌, ◌++◌, ◌&&◌, ◌||◌, ◌/◌, nat_le, nat_lt, min, max, ℕ, Bool, true, not, List, length, Option, Some, None}
 use Rattle.std.specs.List.{Contains, slice_get}
+use Rattle.space_core.specs.Space.{max_count}
 use Rattle.server_clients.specs.declared.fair_queue.FairQueue.{FairQueue}
 use Rattle.server_clients.specs.declared.fair_queue.UssClass.{UssClass}
 
@@ -18,6 +19,29 @@ is_held_up memory total share class = nat_le share class.outstanding
 abbrev pub WaitsIn : FairQueue → ℕ → ℕ → Type 0
 WaitsIn queue index key = (class : UssClass)
     × (slice_get queue.classes.items index ≡ Some class) × Contains (waiting_in class) key
+
+-- The virtual time of the class with an index, and zero if there is none.
+abbrev pub time_in : Option UssClass → ℕ
+time_in None = 0
+time_in (Some class) = class.virtual_time
+
+abbrev pub time_of : FairQueue → (index : ℕ) → ℕ
+time_of queue index = time_in (slice_get queue.classes.items index)
+
+-- Holds if no class is lost, and no virtual time falls. A class that is added begins at zero.
+abbrev pub NeverFalls : FairQueue → FairQueue → Type 0
+NeverFalls old new = (length old.classes.items ≤ length new.classes.items)
+    × ((index : ℕ) → time_of old index ≤ time_of new index)
+
+-- The least number of nanoseconds that a request is charged.
+abbrev pub least_charge : ℕ
+least_charge = 1000
+
+-- Holds if the class with an index, if there is one, was charged so many nanoseconds, or the least
+-- charge if that is more. A virtual time stops at the maximum 64-bit number.
+abbrev pub IsCharged : FairQueue → (index nanos : ℕ) → FairQueue → Type 0
+IsCharged old index nanos new = index < length old.classes.items
+    → min (time_of old index + max nanos least_charge) max_count ≤ time_of new index
 
 -- Returns true if a client waits in a class.
 abbrev pub has_waiting : UssClass → Bool

@@ -12,3 +12,4 @@ pub mod Replies
 pub mod ServerEvents
 pub mod Texts
 pub mod Turns
+pub mod Waits

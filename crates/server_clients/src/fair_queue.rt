@@ -5,7 +5,7 @@
 //! the class with the smallest virtual time. Within a class, clients take turns.
 ghost use Rattle.std.specs.Prelude.{◌≡◌, IfSome, IsTrue};
 ghost use Rattle.std.specs.List.{Contains};
-ghost use Rattle.server_clients.specs.FairQueue.{IsNext, IsPicked, WaitsIn, has_waiting, is_held_up, may_be_next, waiting_in};
+ghost use Rattle.server_clients.specs.FairQueue.{IsCharged, IsNext, IsPicked, NeverFalls, WaitsIn, has_waiting, is_held_up, may_be_next, waiting_in};
 
 use entity_core::uss_id::UssId;
 use policy_core::scope::Caller;
@@ -18,6 +18,9 @@ use std::time::Duration;
 
 /// The index of the class of requests without a valid token.
 pub const WITHOUT_TOKEN: usize = 0;
+
+/// The least number of nanoseconds that a request is charged.
+pub const LEAST_CHARGE: u64 = 1_000;
 
 /// Returns the nanoseconds between two times, or zero if the clock did not return both.
 pub fn nanos_between(begun: Option<Duration>, ended: Option<Duration>) -> u64 {
@@ -132,7 +135,8 @@ impl UssClass {
 
     // Appends a client. Returns false if memory runs out.
     fn push(&mut self, key: usize, has_ended: bool) -> bool
-        ensures { IsTrue result → Contains (waiting_in self.new) key }
+        ensures waits { IsTrue result → Contains (waiting_in self.new) key }
+        ensures time { self.new.virtual_time ≡ self.old.virtual_time }
     {
         if has_ended {
             self.ended.push_back(key).is_ok()
@@ -143,7 +147,8 @@ impl UssClass {
 
     // Removes and returns the next client.
     fn pop(&mut self) -> Option<usize>
-        ensures { IfSome result (λ key. Contains (waiting_in self.old) key) }
+        ensures waited { IfSome result (λ key. Contains (waiting_in self.old) key) }
+        ensures time { self.new.virtual_time ≡ self.old.virtual_time }
     {
         match self.open.pop_front() {
             Some(key) => Some(key),
@@ -184,7 +189,9 @@ impl FairQueue {
 
     // Returns the index of the caller's class. Adds the class if it is new; if memory runs out, the
     // index is that of requests without a token. Looks at the class `hint` first.
-    fn class_of(&mut self, caller: Option<&Caller>, hint: usize) -> usize {
+    fn class_of(&mut self, caller: Option<&Caller>, hint: usize) -> usize
+        ensures { NeverFalls self.old self.new }
+    {
         if let Some(class) = self.classes.get(hint)
             && class.is_of(caller)
         {
@@ -205,7 +212,9 @@ impl FairQueue {
     }
 
     // Adds the class of a caller, and returns its index.
-    fn add_class(&mut self, caller: &Caller) -> Result<usize, AllocError> {
+    fn add_class(&mut self, caller: &Caller) -> Result<usize, AllocError>
+        ensures { NeverFalls self.old self.new }
+    {
         let class = UssClass::new(self.alloc, Some(caller.uss.clone()?))?;
         let index = self.classes.len();
         self.classes.push(class)?;
@@ -214,7 +223,8 @@ impl FairQueue {
 
     /// Appends a client to a class. Returns false if memory runs out.
     pub fn push(&mut self, index: usize, key: usize, has_ended: bool) -> bool
-        ensures { IsTrue result → WaitsIn self.new index key }
+        ensures waits { IsTrue result → WaitsIn self.new index key }
+        ensures never { NeverFalls self.old self.new }
     {
         let virtual_time = self.virtual_time;
         let Some(class) = self.classes.get_mut(index) else {
@@ -253,7 +263,8 @@ impl FairQueue {
     /// client waited in that class, and the class is not held up. No other such class has a smaller
     /// virtual time.
     pub fn pick(&mut self) -> Option<(usize, usize)>
-        ensures { IfSome result (λ picked. IsPicked self.old picked.0 picked.1) }
+        ensures picked { IfSome result (λ picked. IsPicked self.old picked.0 picked.1) }
+        ensures never { NeverFalls self.old self.new }
     {
         let index = self.next_class()?;
         let class = self.classes.get_mut(index)?;
@@ -270,17 +281,25 @@ impl FairQueue {
         }
     }
 
-    /// Adds to the virtual time of a class what a request of it took.
-    pub fn charge(&mut self, index: usize, nanos: u64) {
+    /// Adds to the virtual time of a class what a request of it took, and at least `LEAST_CHARGE`.
+    pub fn charge(&mut self, index: usize, nanos: u64)
+        ensures charged { IsCharged self.old index nanos self.new }
+        ensures never { NeverFalls self.old self.new }
+    {
         let virtual_time = self.virtual_time;
         if let Some(class) = self.classes.get_mut(index) {
-            class.virtual_time = class.virtual_time.max(virtual_time).saturating_add(nanos);
+            class.virtual_time = class
+                .virtual_time
+                .max(virtual_time)
+                .saturating_add(nanos.max(LEAST_CHARGE));
         }
     }
 
     /// Charges the class of a client its share of a commit that took `nanos` nanoseconds, if the
     /// calls of the batch took `total` together.
-    pub fn charge_share(&mut self, member: ClassMember, nanos: u64, total: u64) {
+    pub fn charge_share(&mut self, member: ClassMember, nanos: u64, total: u64)
+        ensures { NeverFalls self.old self.new }
+    {
         self.charge(
             member.class,
             nanos.saturating_mul(member.cost) / total.max(1),
@@ -288,7 +307,9 @@ impl FairQueue {
     }
 
     // Counts the unsent bytes of a client of a class: `now` instead of `before`.
-    fn count_unsent(&mut self, index: usize, before: usize, now: usize) {
+    fn count_unsent(&mut self, index: usize, before: usize, now: usize)
+        ensures { NeverFalls self.old self.new }
+    {
         self.unsent = self.unsent.saturating_add(now).saturating_sub(before);
         if let Some(class) = self.classes.get_mut(index) {
             class.unsent = class.unsent.saturating_add(now).saturating_sub(before);
@@ -296,7 +317,9 @@ impl FairQueue {
     }
 
     /// Sets the number of unsent bytes of a client.
-    pub fn set_unsent(&mut self, member: &mut ClassMember, unsent: usize) {
+    pub fn set_unsent(&mut self, member: &mut ClassMember, unsent: usize)
+        ensures { NeverFalls self.old self.new }
+    {
         if unsent != member.unsent {
             self.count_unsent(member.class, member.unsent, unsent);
             member.unsent = unsent;
@@ -304,7 +327,9 @@ impl FairQueue {
     }
 
     /// Sets whether the request of a client waits at the backend.
-    pub fn set_outstanding(&mut self, member: &mut ClassMember, waits: bool) {
+    pub fn set_outstanding(&mut self, member: &mut ClassMember, waits: bool)
+        ensures { NeverFalls self.old self.new }
+    {
         match (member.asked, waits) {
             (None, true) => {
                 if let Some(class) = self.classes.get_mut(member.class) {
@@ -323,7 +348,9 @@ impl FairQueue {
     }
 
     /// Moves a client, with its unsent bytes, to the class of a caller.
-    pub fn set_class(&mut self, member: &mut ClassMember, caller: Option<&Caller>) {
+    pub fn set_class(&mut self, member: &mut ClassMember, caller: Option<&Caller>)
+        ensures { NeverFalls self.old self.new }
+    {
         let class = self.class_of(caller, member.class);
         if class != member.class {
             self.count_unsent(member.class, member.unsent, 0);
@@ -346,7 +373,9 @@ impl FairQueue {
     }
 
     /// Counts the large buffer that a client takes.
-    pub fn take_large_buffer(&mut self, member: &mut ClassMember) {
+    pub fn take_large_buffer(&mut self, member: &mut ClassMember)
+        ensures { NeverFalls self.old self.new }
+    {
         member.buffer_class = member.class;
         if let Some(class) = self.classes.get_mut(member.class) {
             class.large_buffers = class.large_buffers.saturating_add(1);
@@ -354,7 +383,9 @@ impl FairQueue {
     }
 
     /// Counts the large buffer that a client returns.
-    pub fn return_large_buffer(&mut self, member: ClassMember) {
+    pub fn return_large_buffer(&mut self, member: ClassMember)
+        ensures { NeverFalls self.old self.new }
+    {
         if let Some(class) = self.classes.get_mut(member.buffer_class) {
             class.large_buffers = class.large_buffers.saturating_sub(1);
         }

@@ -4,6 +4,7 @@ ghost use Rattle.server_clients.specs.Backends.{EventsAreTheBackends};
 ghost use Rattle.server_clients.specs.CallOrder.{RequestsAreAskedInOrder};
 ghost use Rattle.server_clients.specs.Clients.{EachClientIsServed};
 ghost use Rattle.server_clients.specs.Replies.{TextsAreOfReplies};
+ghost use Rattle.server_clients.specs.Waits.{WaitsAtMost};
 
 use server_backend::backend::Backend;
 use server_watch::token_watch::TokenSource;
@@ -35,4 +36,12 @@ pub fn requests_are_asked_in_order<B: Backend, M: Moments, T: TokenSource>()
 /// So a law of a backend about its replies is one about what clients are sent.
 pub fn texts_are_of_replies<B: Backend, M: Moments, T: TokenSource>()
     ensures { TextsAreOfReplies B.Backend M.Moments T.TokenSource }
+{}
+
+/// States how often the clients of another class are picked while a class may be next.
+///
+/// It is at most one more than the difference of their virtual times in least charges. So how long a
+/// USS waits depends on what it was charged before, and not on how many requests others make.
+pub fn waits_at_most()
+    ensures { WaitsAtMost }
 {}

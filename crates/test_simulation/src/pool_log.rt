@@ -37,7 +37,8 @@ pub(crate) struct Coming {
 #[derive(Debug, Drop)]
 pub(crate) struct Offered {
     pub(crate) bytes: Vec<u8>,
-    /// The time of day at which it was offered.
+    /// When it was offered, and the time of day then.
+    pub(crate) at: u64,
     pub(crate) moment: u64,
     /// When it is stored, if it ever is.
     pub(crate) stores: Option<u64>,
@@ -262,8 +263,10 @@ impl<'a> LogState<'a> {
         let bytes = Vec::from_slice(self.alloc, bytes)?;
         let stores = self.draw_offer();
         let moment = self.shared.wall();
+        let at = self.shared.now();
         self.offers.push(Offered {
             bytes,
+            at,
             moment,
             stores,
         })?;

@@ -280,8 +280,27 @@ impl<'a> CallList<'a> {
         }
     }
 
+    // Returns true if the instance took the entries of all batches that it offered before it received
+    // the request.
+    fn has_outcomes(&self, log: &LogState<'_>, answered: &Answered) -> bool {
+        let before = log
+            .offers
+            .iter()
+            .filter(|offer| offer.at < answered.received)
+            .count();
+        let taken = log
+            .entries
+            .iter()
+            .take(answered.given)
+            .skip(log.first)
+            .filter(|entry| entry.writer == self.number)
+            .count();
+        before <= taken
+    }
+
     // Returns what the response to a request says. A change that was offered stands at its place in the
-    // log, any other request behind all entries that the instance took.
+    // log, any other request behind all entries that the instance took. A change that was not offered
+    // comes after the batches that were offered before it.
     fn response(
         &mut self,
         log: &LogState<'_>,
@@ -307,6 +326,9 @@ impl<'a> CallList<'a> {
         }
         if answered.given < asked.stored {
             return Err(Flaw::Old);
+        }
+        if !reads(&call.op) && !self.has_outcomes(log, answered) {
+            return Err(Flaw::Unsettled);
         }
         Ok(Response::Reply(self.reply_after(call, answered.moment)?))
     }

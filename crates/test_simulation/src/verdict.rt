@@ -53,6 +53,8 @@ pub(crate) enum Flaw {
     /// clients asked for.
     Slow,
     Old,
+    /// A change was denied before the outcome of a batch that was offered before it.
+    Unsettled,
     Refused,
     Offer,
 }
@@ -75,6 +77,8 @@ impl Flaw {
             Flaw::History => "the history differs from what the clients did",
             Flaw::Slow => "a response came after its time limit",
             Flaw::Old => "a reading was answered without an entry that was stored before it",
+            Flaw::Unsettled =>
+                "a change was denied before the outcome of a batch that was offered before it",
             Flaw::Refused => "a request got status 503 without a reason",
             Flaw::Offer => "an offer is not what the clients asked for",
         }
