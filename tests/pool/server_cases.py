@@ -108,7 +108,7 @@ def by_cost(pool):
             for it in later:
                 it.send(cheap("tok-b"))
         assert {it.receive()[0] for it in (*first, *later)} == {400}
-        until(lambda: len(lines(pool)) == before + 40, lambda: f"{len(lines(pool)) - before} lines")
+        until(lambda: len(lines(pool)) >= before + 40, lambda: f"{len(lines(pool)) - before} lines")
         order = [it[0] for it in lines(pool, before)]
         last = max(at for at, uss in enumerate(order) if uss == "uss-b")
         assert order[:last].count("uss-a") < 10, order
@@ -144,7 +144,7 @@ def rounds_end(pool):
                 it.send(EXPENSIVE)
             one.connection.sendall(wire.request(*cheap("tok-b")) * left)
         assert {it.receive()[0] for it in many} == {400}
-        until(lambda: len(lines(pool)) == before + 200 + left, lambda: f"{len(lines(pool)) - before} lines")
+        until(lambda: len(lines(pool)) >= before + 200 + left, lambda: f"{len(lines(pool)) - before} lines")
         rounds = [[]]
         for uss, _, took, _ in lines(pool, before):
             if uss == "uss-a":
