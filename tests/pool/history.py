@@ -1,7 +1,7 @@
 """Whether all responses at all doors are those of one service, whose calls are made in the order of the log.
 
-The plain policy makes the calls of the log. The response to each of them must be the one at its place. A read has no entry: some
-place must explain it. The places must respect real time: a call that was answered before another was sent stands before it."""
+The plain policy makes the calls of the log. The response to each of them must be the one at its place. A read has no entry, and
+neither has a change that is denied: some place must explain it. The places must respect real time: a call that was answered before another was sent stands before it."""
 import bisect
 import dataclasses
 import threading
@@ -142,7 +142,8 @@ class Model:
 
 @dataclasses.dataclass
 class Record:
-    """A call, its number if it is a change, its door, when it was sent and answered, and its response, or None if none came."""
+    """A call, its number if it is a change, its door, when it was sent and answered, and its response, or None if none came. And the
+    times of day at which its instance may have made it."""
 
     call: tuple
     number: int
@@ -150,6 +151,7 @@ class Record:
     sent: float
     answered: float
     response: tuple
+    moments: tuple = ()
 
 
 class Bounds:
@@ -200,19 +202,32 @@ def check_others(model, records, before, after):
     """Finds a place for each call without an entry, the first that it can have."""
     found = [(0.0, model.since[0])]
     for record in records:
-        if is_change(record.call):
-            check_stateless(record)
+        if is_change(record.call) and is_stateless(record):
             continue
         at = bisect.bisect_left(found, (record.sent, 0))
         least = max(before.at(record.sent, 0), found[at - 1][1])
         most = after.at(record.answered, model.count)
         for place, airspace in model.between(least, most):
-            outcome = airspace.ask(*record.call)
-            if (outcome.status, outcome.body.encode()) == record.response:
+            if explains(airspace, record):
                 note(found, record.answered, place)
                 break
         else:
             raise Failed(f"{record.door}: {record.call}: no place between {least} and {most} gives {record.response}")
+
+
+def explains(airspace, record):
+    """Returns whether a call without an entry gets its response in an airspace. The denial of a change may depend on its time."""
+    if not is_change(record.call):
+        outcome = airspace.ask(*record.call)
+        return (outcome.status, outcome.body.encode()) == record.response
+    for moment in airspace.now, *record.moments:
+        # a change that breaks no rule would change the airspace
+        other = copied(airspace)
+        other.now = moment
+        outcome = other.ask(*record.call)
+        if (outcome.status, outcome.body.encode()) == record.response:
+            return True
+    return False
 
 
 def note(found, answered, place):
@@ -226,10 +241,14 @@ def note(found, answered, place):
     found[at:end] = [(answered, place)]
 
 
-def check_stateless(record):
-    """Checks a change without an entry: it must break a rule without state, as it does in an empty airspace."""
+def is_stateless(record):
+    """Returns whether a change without an entry breaks a rule without state, as it does in an empty airspace. In any case it must be
+    denied."""
+    if record.response[0] < 400:
+        raise Failed(f"{record.door}: {record.call}: got {record.response}, and is not in the log")
     outcome = plain_policy.Airspace(0, drawn_calls.ALL_TOKENS).ask(*record.call)
     if outcome.why not in range(1, 7):
-        raise Failed(f"{record.door}: {record.call}: got {record.response}, and is not in the log")
+        return False
     if (outcome.status, outcome.body.encode()) != record.response:
         raise Failed(f"{record.door}: {record.call}: got {record.response}, wanted {outcome}")
+    return True

@@ -51,13 +51,17 @@ class Caller(threading.Thread):
     def ask(self, call):
         number = next(self.numbers)
         call = numbered(call, number) if is_change(call) else call
-        sent = time.monotonic()
+        sent, first = time.monotonic(), self.site.time()
         try:
             response = self.exchange.ask(call)
         except OSError:
             self.exchange.close()
             response = None
-        record = Record(call, number, self.site.name, sent, time.monotonic(), response)
+        answered, last = time.monotonic(), self.site.time()
+        took = int(answered - sent) + 1
+        # the clock may have been moved meanwhile
+        moments = {*range(first, first + took + 1), *range(last - took, last + 1)} if is_change(call) else ()
+        record = Record(call, number, self.site.name, sent, answered, response, tuple(moments))
         if response and response[0] >= 500 and not is_open(record):
             raise Failed(f"{self.site.name}: {call}: {response}")
         self.records.append(record)

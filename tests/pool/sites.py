@@ -152,6 +152,11 @@ class Site:
         """Moves the clock of the instance, whose process has the file mapped: it must not become shorter."""
         with open(self.clock, "r+b" if self.clock.exists() else "wb") as file:
             file.write(struct.pack("q", seconds))
+        self.moved = seconds
+
+    def time(self):
+        """Returns the time of day by the clock of the instance."""
+        return int(time.time()) + self.moved
 
     def connect(self, limit, port=PORT):
         return connect(self.network.pid, "127.0.0.1", port, limit)
