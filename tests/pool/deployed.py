@@ -725,14 +725,18 @@ def planted(_sites):
     record = lambda number, sent, answered, got: history.Record(changes[number - 1], number, "a", sent, answered, got)
     read = lambda sent, answered, got: history.Record(("GET", path, "Bearer tok-v", None), 100, "b", sent, answered, got)
     none = history.Record(history.numbered(("PUT", path, "Bearer tok-v", b"{}"), 9), 9, "c", 1.0, 2.0, None)
+    stale = history.numbered(("PUT", path, "Bearer tok-v", json.dumps({"old_version": "", "availability": "Normal"}).encode()), 10)
+    denied = lambda sent, answered: history.Record(stale, 10, "c", sent, answered, at(3))
     good = [record(it, it, it + 0.5, at(it)) for it in range(1, 5)]
     accepted = {
         "in turn": good,
         "reads between": good + [read(1.6, 1.7, seen[1]), read(2.6, 2.7, seen[2]), read(4.6, 4.7, seen[3])],
+        "a denial without an entry": good + [denied(3.6, 3.7)],
         "a read beside a change": good + [read(1.9, 2.6, seen[1]), read(2.1, 2.6, seen[2])],
         "no answer": [*good[:3], record(4, 4.0, 4.5, None), none, read(4.6, 4.7, seen[2][:1] + seen[3][1:])],
     }
     rejected = {
+        "a denial of what is allowed": good + [denied(0.1, 0.2)],
         "a lost change": good + [history.Record(none.call, 9, "c", 1.0, 2.0, at(1))],
         "an unreachable change in the log": [*good[:3], record(4, 4.0, 4.5, history.UNREACHABLE)],
         "another response": [*good[:3], record(4, 4.0, 4.5, at(3))],
