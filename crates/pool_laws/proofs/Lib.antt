@@ -1,5 +1,6 @@
 pub mod Answered
 pub mod Program
 pub mod Purges
+pub mod Reasons
 pub mod Served
 pub mod Within

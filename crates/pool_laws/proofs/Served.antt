@@ -11,19 +11,23 @@ use Rattle.space_core.specs.declared.space.Space as spaces
 use Rattle.wire_http.specs.SetAt.{set_at}
 use Rattle.wire_http.specs.Wire.{RequestCall}
 use Rattle.wire_http.specs.declared.moments.Moments as moments
+use Rattle.wire_http.specs.declared.unavailable.Unavailable.{Unavailable}
+use Rattle.wire_http.specs.declared.unavailable.Unavailable.TheVariants as unavailable
 use Rattle.server_watch.specs.declared.token_watch.TokenSource as sources
 use Rattle.server_backend.specs.BackendEvent.{BackendEvent, Receives as Takes}
 use Rattle.server_backend.specs.Told.{reply_after}
 use Rattle.server_backend.specs.declared.backend.Backend as backends
 use Rattle.server_backend.specs.declared.outcome.Outcome.{Outcome}
+use Rattle.server_backend.specs.declared.outcome.Outcome.TheVariants as outcomes
 use Rattle.server_backend.specs.declared.outcome.Received.{Received}
+use Rattle.server_backend.specs.declared.outcome.Received.TheVariants as came
 use Rattle.server_clients.specs.Backends.{all_backend_events}
 use Rattle.server_clients.specs.ClientEvents.{Asks}
 use Rattle.server_clients.specs.ClientState.{ClientState, new_client, slot_for}
 use Rattle.server_clients.specs.Clients.{EachClientIsServed, StaysOpen, text_for}
 use Rattle.server_clients.specs.Replies.{IsTextFor, TextsAreOfReplies}
 use Rattle.server_clients.specs.ServerEvents.{Accepts, Acts, FollowAll, ServerEvent, ServerState, Setup, backend_events_of}
-use Rattle.server_clients.specs.Texts.{RequestTexts}
+use Rattle.server_clients.specs.Texts.{RequestTexts, outcome_text}
 use Rattle.pool_core.specs.Events.{Answers, Basis, Drops, InstanceEvent, PoolEvent, Receives, events_at}
 use Rattle.pool_core.specs.FromFiles.{IsOneListFrom, IsPoolFrom, file_of}
 use Rattle.pool_core.specs.OneList.{ListedAct, RequestName, Stands, at}
@@ -33,12 +37,13 @@ use Rattle.pool_core.proofs.FromFiles.{from_files}
 use Rattle.pool_core.proofs.Lists.{contains_split}
 use Rattle.pool_entry.specs.Acts.{acts_of}
 use Rattle.pool_instance.specs.Parts.{salt_in}
-use Rattle.pool_backend.specs.Pool.{AreGivenIn, instance_of, retention_of}
+use Rattle.pool_backend.specs.Pool.{AreGivenIn, failure_for, instance_of, retention_of}
 use Rattle.pool_backend.specs.Served.{AreKnown, AreParts, events_in}
 use Rattle.pool_backend.specs.declared.pool.PoolInstance.{PoolInstance}
-use Rattle.pool_laws.specs.Clients.{IsReplyTo, IsResponse, IsSent, PoolServesEachClient}
+use Rattle.pool_laws.specs.Clients.{IsReplyTo, IsResponse, IsSent, IsTrueOf, PoolServesEachClient}
 use Rattle.pool_laws.specs.Steps.{ArePartsOf, ServesIn, Step, parts_at, parts_in, pool_events, server_events_at, server_events_in}
 use Rattle.pool_laws.proofs.Answered.{IsAnsweredIn, IsOfRequest, request_in}
+use Rattle.pool_laws.proofs.Reasons.{failed_in, first_outcome, no_reply, reply_is, reply_with, told_of}
 use Rattle.pool_laws.proofs.Within.{contains_first, event_of, in_steps, pool_append}
 
 -- ---- parts of lists
@@ -108,14 +113,23 @@ module _ {L I S M T : Type 0} (gl : logs.Ghosts L) (gs : spaces.Ghosts S) (b : b
     in_all first more e split h =
         subst (λ (v : List Step). Contains (pool_events v) e) (sym split) (subst (λ (v : List PoolEvent). Contains v e) (sym (pool_append first more)) (contains_first (pool_events first) (pool_events more) e h))
 
+    unsent_is : (i : ℕ) → serves i ≡ true → (first more : List Step) → steps ≡ first ++ more → (id : ℕ) → Contains (events_in (parts_at i first)) (Drops id) → (n : ℕ) → Stands list (record { instance = i; id = id }) n → ⊥
+    unsent_is i is first more split id h =
+        let there = contains_split (pool_events steps) (event_of i (Drops id)) (in_all first more (event_of i (Drops id)) split (in_steps i (Drops id) first h)) in
+        one.unsent (record { instance = i; id = id }) is (record { before = there.front; after = there.back; split = there.split })
+
     is_reply : (i : ℕ) → serves i ≡ true → (first more : List Step) → steps ≡ first ++ more → (id : ℕ) (reply : Reply) → IsAnsweredIn (events_in (parts_at i first)) id reply
         → IsReplyTo salt start list (pool_events first) (record { instance = i; id = id }) reply
     is_reply i is first more split id reply h = elim h [
       | inl it ↦ let there = in_steps i (Answers id it.0 reply) first it.1 in
           inl (it.0, there, one.answered (record { instance = i; id = id }) it.0 reply is (in_all first more (event_of i (Answers id it.0 reply)) split there))
-      | inr it ↦ let there = contains_split (pool_events steps) (event_of i (Drops id)) (in_all first more (event_of i (Drops id)) split (in_steps i (Drops id) first it.1)) in
-          inr (it.0, one.unsent (record { instance = i; id = id }) is (record { before = there.front; after = there.back; split = there.split }))
+      | inr it ↦ inr (it.0, unsent_is i is first more split id it.1)
     ]
+
+    true_if_failed : (i : ℕ) → serves i ≡ true → (first more : List Step) → steps ≡ first ++ more → (id : ℕ) (reason : Unavailable) → Contains (events_in (parts_at i first)) (failure_for reason id) → IsTrueOf list (record { instance = i; id = id }) reason
+    true_if_failed i is first more split id unavailable.Unknown h = tt
+    true_if_failed i is first more split id unavailable.Unreachable h = unsent_is i is first more split id h
+    true_if_failed i is first more split id unavailable.Unassigned h = unsent_is i is first more split id h
 
     in_real_time : (first more : List Step) → steps ≡ first ++ more → (x y : RequestName) (basis : Basis) (reply : Reply) (call : Call) → serves x.instance ≡ true → serves y.instance ≡ true
         → Contains (pool_events first) (at x (Answers x.id basis reply)) → Contains (pool_events more) (at y (Receives y.id call)) → (n k : ℕ) → Stands list x n → Stands list y k → n < k
@@ -153,10 +167,47 @@ module _ {L I S M T : Type 0} (gl : logs.Ghosts L) (gs : spaces.Ghosts S) (b : b
           request_in retention [] (all_backend_events earlier) asked.moment made received (all_backend_events later) (parts_at i first)
           (subst (λ (v : List BackendEvent). AreParts retention v (parts_at i first)) events first_parts) (subst (λ (v : List BackendEvent). AreKnown [] v (parts_at i first)) events first_known) reply told
 
-      response_by : (earlier later : List ServerEvent) (key name : ℕ) (asked : RequestCall) (made : Call) (received : Received) (texts : RequestTexts) (text : List ℕ) → server_events_at i first ≡ earlier ++ Acts key name (Asks asked made received texts false) ∷ later
-          → (told : Option Reply) → reply_after received (all_backend_events later) ≡ told → IsTextFor door.setup.explaining (slot_for asked texts) told text
-          → IsResponse salt start list door.setup.explaining (pool_events first) i asked made received texts text
-      response_by earlier later key name asked made received texts text where_it_is (Some reply) told h = elim h [
+      -- A reason that the instance gave is true.
+      reason_true : (earlier later : List ServerEvent) (key name : ℕ) (asked : RequestCall) (made : Call) (ticket : ℕ) (texts : RequestTexts) → server_events_at i first ≡ earlier ++ Acts key name (Asks asked made (came.Waits ticket) texts false) ∷ later
+          → (reason : Unavailable) → first_outcome ticket (all_backend_events later) ≡ Some (outcomes.Unavailable reason) → IsTrueOf list (record { instance = i; id = ticket }) reason
+      reason_true earlier later key name asked made ticket texts where_it_is reason told =
+          let events : all_backend_events (server_events_at i first) ≡ all_backend_events earlier ++ Takes asked.moment made (came.Waits ticket) ∷ all_backend_events later =
+          ap all_backend_events where_it_is ∙ flat_map-append backend_events_of earlier (Acts key name (Asks asked made (came.Waits ticket) texts false) ∷ later) in
+          true_if_failed i is first more split ticket reason (failed_in retention [] (all_backend_events earlier) asked.moment made ticket (all_backend_events later) (parts_at i first)
+          (subst (λ (v : List BackendEvent). AreParts retention v (parts_at i first)) events first_parts) (subst (λ (v : List BackendEvent). AreKnown [] v (parts_at i first)) events first_known) reason told)
+
+      waits_reason : (earlier later : List ServerEvent) (key name : ℕ) (asked : RequestCall) (made : Call) (ticket : ℕ) (texts : RequestTexts) (text : List ℕ) → server_events_at i first ≡ earlier ++ Acts key name (Asks asked made (came.Waits ticket) texts false) ∷ later
+          → reply_after (came.Waits ticket) (all_backend_events later) ≡ None → (outcome : Outcome) → first_outcome ticket (all_backend_events later) ≡ Some outcome → text ≡ outcome_text (slot_for asked texts) None outcome
+          → IsResponse salt start list door.setup.explaining (pool_events first) i asked made (came.Waits ticket) texts text
+      waits_reason earlier later key name asked made ticket texts text where_it_is none outcomes.Stands told h = inr (inr (unavailable.Unknown, h, tt))
+      waits_reason earlier later key name asked made ticket texts text where_it_is none (outcomes.Replied reply) told h =
+          no_reply reply (sym none ∙ reply_is ticket (all_backend_events later) ∙ ap reply_with told)
+      waits_reason earlier later key name asked made ticket texts text where_it_is none (outcomes.Unavailable reason) told h =
+          inr (inr (reason, h, reason_true earlier later key name asked made ticket texts where_it_is reason told))
+
+      response_none : (earlier later : List ServerEvent) (key name : ℕ) (asked : RequestCall) (made : Call) (received : Received) (texts : RequestTexts) (mid end : ServerState (PoolInstance L I S) M T)
+          → server_events_at i first ≡ earlier ++ Acts key name (Asks asked made received texts false) ∷ later → FollowAll b m t door.setup later mid end
+          → reply_after received (all_backend_events later) ≡ None → IsTextFor door.setup.explaining (slot_for asked texts) None (text_for received (slot_for asked texts) later)
+          → IsResponse salt start list door.setup.explaining (pool_events first) i asked made received texts (text_for received (slot_for asked texts) later)
+      response_none earlier later key name asked made (came.Waits ticket) texts mid end where_it_is follow told h = elim (told_of b m t door.setup ticket (slot_for asked texts) later mid end follow) [
+        | inl none ↦ inl none
+        | inr it ↦ waits_reason earlier later key name asked made ticket texts (text_for (came.Waits ticket) (slot_for asked texts) later) where_it_is told it.0 it.1 it.2
+      ]
+      response_none earlier later key name asked made (came.Answered reply) texts mid end where_it_is follow told h = no_reply reply (sym told)
+      response_none earlier later key name asked made (came.Drafted ticket reply) texts mid end where_it_is follow told h = elim h [
+        | inl none ↦ inl none
+        | inr why ↦ inr (inr (why.0, why.1, tt))
+      ]
+      response_none earlier later key name asked made (came.Refused reason) texts mid end where_it_is follow told h = elim h [
+        | inl none ↦ inl none
+        | inr why ↦ inr (inr (why.0, why.1, tt))
+      ]
+
+      response_by : (earlier later : List ServerEvent) (key name : ℕ) (asked : RequestCall) (made : Call) (received : Received) (texts : RequestTexts) (mid end : ServerState (PoolInstance L I S) M T)
+          → server_events_at i first ≡ earlier ++ Acts key name (Asks asked made received texts false) ∷ later → FollowAll b m t door.setup later mid end
+          → (told : Option Reply) → reply_after received (all_backend_events later) ≡ told → IsTextFor door.setup.explaining (slot_for asked texts) told (text_for received (slot_for asked texts) later)
+          → IsResponse salt start list door.setup.explaining (pool_events first) i asked made received texts (text_for received (slot_for asked texts) later)
+      response_by earlier later key name asked made received texts mid end where_it_is follow (Some reply) told h = elim h [
         | inl none ↦ inl none
         | inr is_text ↦ let of = request_of earlier later key name asked made received texts where_it_is reply told in
             inr (inl (record {
@@ -168,10 +219,7 @@ module _ {L I S M T : Type 0} (gl : logs.Ghosts L) (gs : spaces.Ghosts S) (b : b
               is_reply = is_reply i is first more split of.id reply of.answered;
             }))
       ]
-      response_by earlier later key name asked made received texts text where_it_is None told h = elim h [
-        | inl none ↦ inl none
-        | inr why ↦ inr (inr why)
-      ]
+      response_by earlier later key name asked made received texts mid end where_it_is follow None told h = response_none earlier later key name asked made received texts mid end where_it_is follow told h
 
       is_sent : (before during : List ServerEvent) (key name : ℕ) → server_events_at i first ≡ before ++ Accepts key name ∷ during → StaysOpen key during → IsSent salt start list door.setup.explaining (pool_events first) i key name during
       is_sent before during key name at stays =
@@ -187,8 +235,10 @@ module _ {L I S M T : Type 0} (gl : logs.Ghosts L) (gs : spaces.Ghosts S) (b : b
             name_is = served.2;
             sent = served.3;
             each = λ earlier later asked made received texts there.
-                response_by (before ++ Accepts key name ∷ earlier) later key name asked made received texts (text_for received (slot_for asked texts) later)
+                let behind = parted door.setup earlier (Acts key name (Asks asked made received texts false) ∷ later) begun whole.0 (subst (λ (v : List ServerEvent). FollowAll b m t door.setup v begun whole.0) there accepts.2) in
+                response_by (before ++ Accepts key name ∷ earlier) later key name asked made received texts behind.2.0 whole.0
                 (at ∙ ap (λ (v : List ServerEvent). before ++ Accepts key name ∷ v) there ∙ sym (append_assoc before (Accepts key name ∷ earlier) (Acts key name (Asks asked made received texts false) ∷ later)))
+                behind.2.2
                 (reply_after received (all_backend_events later)) refl
                 (of_replies door.setup earlier later key name asked made received texts begun whole.0 (subst (λ (v : List ServerEvent). FollowAll b m t door.setup v begun whole.0) there accepts.2));
           }

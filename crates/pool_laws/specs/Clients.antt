@@ -11,6 +11,7 @@ use Rattle.wire_http.specs.Wire.{RequestCall}
 use Rattle.wire_http.specs.declared.explaining.Explaining.{Explaining}
 use Rattle.wire_http.specs.declared.moments.Moments as moments
 use Rattle.wire_http.specs.declared.unavailable.Unavailable.{Unavailable}
+use Rattle.wire_http.specs.declared.unavailable.Unavailable.TheVariants as unavailable
 use Rattle.server_watch.specs.declared.token_watch.TokenSource as sources
 use Rattle.server_backend.specs.declared.backend.Backend as backends
 use Rattle.server_backend.specs.declared.outcome.Received.{Received}
@@ -38,6 +39,21 @@ HasNumber (came.Drafted ticket reply) id = ⊥
 HasNumber (came.Waits ticket) id = ticket ≡ id
 HasNumber (came.Refused reason) id = ⊥
 
+-- Holds if a reason for status 503 is true of a request that waited at an instance: it is not in the
+-- list if it is said to be unreachable, or not to be the instance's. Nothing is known of one with the
+-- reason `Unknown`. A request that was not received has no number.
+abbrev pub IsTrueOf : List ListedAct → RequestName → Unavailable → Type 0
+IsTrueOf list x unavailable.Unknown = Unit {0}
+IsTrueOf list x unavailable.Unreachable = (n : ℕ) → Stands list x n → ⊥
+IsTrueOf list x unavailable.Unassigned = (n : ℕ) → Stands list x n → ⊥
+
+abbrev pub IsReason : List ListedAct → (i : ℕ) → Received → Unavailable → Type 0
+IsReason list i (came.Waits ticket) reason =
+    IsTrueOf list (record { instance = i; id = ticket }) reason
+IsReason list i (came.Answered reply) reason = Unit {0}
+IsReason list i (came.Drafted ticket reply) reason = Unit {0}
+IsReason list i (came.Refused told) reason = Unit {0}
+
 module _ (salt : List ℕ) (start : Airspace) (list : List ListedAct) where
   -- Holds if a request has this reply in these events: it is that of the policy at the place of the
   -- request in the list, or the request failed for lack of memory and is not in the list.
@@ -59,13 +75,14 @@ module _ (salt : List ℕ) (start : Airspace) (list : List ListedAct) where
     pub is_text : IsTextOf explaining (slot_for asked texts) reply text
     pub is_reply : IsReplyTo events (record { instance = i; id = id }) reply
 
-  -- Holds if the text is that of the response to a request: its reply, or a reason for status 503.
+  -- Holds if the text is that of the response to a request: its reply, or a true reason for 503.
   -- It is empty if memory ran out, and as long as the request waits.
   abbrev pub IsResponse : Explaining → List PoolEvent → ℕ → RequestCall → Call → Received
       → RequestTexts → List ℕ → Type 0
   IsResponse explaining events i asked made received texts text = (text ≡ [])
       ⊎ (IsAnswered explaining events i asked made received texts text
-      ⊎ ((reason : Unavailable) × (text ≡ unavailable_text asked.closing reason)))
+      ⊎ ((reason : Unavailable) × (text ≡ unavailable_text asked.closing reason)
+      × IsReason list i received reason))
 
   -- Holds if a client of an instance was sent, or may be sent, the texts of its requests, in order,
   -- each once, and each is that of a response. It was accepted under a key just before the events
